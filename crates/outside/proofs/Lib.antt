@@ -1,0 +1,3 @@
+pub mod KnownBytesLemmas
+pub mod ReadingLemmas
+pub mod ReadsLemmas

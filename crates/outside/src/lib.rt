@@ -1,0 +1,29 @@
+//! The outside of a program as two traits: [`Files`], which are read by name, and [`Sink`], which is written to.
+//!
+//! Each has a meaning, the bytes that a file holds or that a sink has, where that is told, and a count of its
+//! faults. A call fails only where the count rises. Files and sinks in memory tell all; those of the system tell
+//! nothing, and are the edge at which proofs end.
+#![tactic(auto)]
+
+mod drop_sink;
+mod mem_files;
+mod mem_sink;
+mod reading;
+mod steps;
+mod sure_files;
+mod sure_sink;
+mod system;
+#[cfg(test)]
+mod tests;
+mod traits;
+mod writing;
+
+pub use drop_sink::DropSink;
+pub use mem_files::MemFiles;
+pub use mem_sink::MemSink;
+pub use reading::{ReadFault, read_whole};
+pub use sure_files::SureFiles;
+pub use sure_sink::SureSink;
+pub use system::{FileSink, OsFiles, StdSink};
+pub use traits::{Failed, Files, Sink};
+pub use writing::write_all;

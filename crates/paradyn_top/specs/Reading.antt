@@ -1,0 +1,21 @@
+-- What the reading of the two files gives.
+use Rattle.std.specs.Prelude.{◌≡◌, Bool, true, false, List, [], ◌∷◌, ℕ, Option}
+use Rattle.pn_types.specs.declared.image.Image.{Image}
+use Rattle.outside.specs.Outside.{Holding, IsWhole}
+use Rattle.paradyn_top.specs.Elf.{image_of}
+
+-- the image, or none, of bytes that the file holds
+pub record GivesImage (holding : Holding) (image : Option Image) : Type 0 where
+  pub bytes : List ℕ
+  pub whole : IsWhole holding bytes
+  pub loads : image ≡ image_of bytes
+
+abbrev pub is_empty : List ℕ → Bool
+is_empty [] = true
+is_empty (x ∷ xs) = false
+
+-- whether the file has no bytes
+pub record GivesEmpty (holding : Holding) (empty : Bool) : Type 0 where
+  pub bytes : List ℕ
+  pub whole : IsWhole holding bytes
+  pub tells : empty ≡ is_empty bytes

@@ -1,0 +1,73 @@
+ghost use Rattle.std.specs.Prelude.{◌≡◌, IsErrOf, IfOk, IfSome};
+ghost use Rattle.std.specs.List.{All};
+ghost use Rattle.outside.specs.Causes.{Rose};
+ghost use Rattle.outside.specs.Outside.{ReadsOnly, IsCalm};
+ghost use Rattle.rv_mem.specs.Start.{IsSized};
+ghost use Rattle.paradyn_top.specs.Reading.{GivesImage, GivesEmpty};
+
+use crate::loading::{PROGRAM_LIMIT, load};
+use outside::{Files, ReadFault, read_whole};
+use pn_types::{Image, NoMemory};
+use std::alloc::Global;
+
+/// The greatest length of a configuration in bytes.
+const CONFIGURATION_LIMIT: u64 = 1_048_576;
+
+/// Why a file was not read.
+#[derive(Clone, Copy, Debug, PartialEq, Eq, Drop)]
+pub enum Unread {
+    /// Memory was wanting.
+    NoMemory,
+    /// A reading failed.
+    Failed,
+}
+
+impl From<NoMemory> for Unread {
+    ghost use Rattle.paradyn_top.specs.declared.reading.Unread.TheVariants.{NoMemory as no_memory};
+    ghost use Rattle.std.specs.Prelude.{◌≡◌};
+
+    ghost from_gives = { λ _ e. e ≡ no_memory };
+
+    fn from(_: NoMemory) -> Self {
+        Unread::NoMemory
+    }
+}
+
+/// Reads a program file, and gives its image, or none where the file isn't accepted.
+pub fn read_program<F: Files>(
+    alloc: Global,
+    files: &mut F,
+    name: &str,
+) -> Result<Option<Image>, Unread>
+    ensures image { IfOk result (λ image. GivesImage (F.holds files.old name.now) image) }
+    ensures sized { IfOk result (λ image. IfSome image (λ i. All IsSized i.segments)) }
+    ensures reads { ReadsOnly F.holds F.faults name.now files.old files.new }
+    ensures cause { IsErrOf result Unread.Failed → Rose (F.faults files.old name.now) (F.faults files.new name.now) }
+    ensures calm { (result ≡ Err Unread.Failed → ⊥) → IsCalm F.faults files.old files.new }
+{
+    match read_whole(alloc, files, name, PROGRAM_LIMIT) {
+        Ok(bytes) => Ok(load(alloc, &bytes)?),
+        Err(ReadFault::TooLong) => Ok(None),
+        Err(ReadFault::NoMemory) => Err(Unread::NoMemory),
+        Err(ReadFault::Outside) => Err(Unread::Failed),
+    }
+}
+
+/// Reads a configuration, and says whether it has no bytes.
+pub fn read_configuration<F: Files>(
+    alloc: Global,
+    files: &mut F,
+    name: &str,
+) -> Result<bool, Unread>
+    ensures empty { IfOk result (λ empty. GivesEmpty (F.holds files.old name.now) empty) }
+    ensures reads { ReadsOnly F.holds F.faults name.now files.old files.new }
+    ensures cause { IsErrOf result Unread.Failed → Rose (F.faults files.old name.now) (F.faults files.new name.now) }
+    ensures calm { (result ≡ Err Unread.Failed → ⊥) → IsCalm F.faults files.old files.new }
+{
+    match read_whole(alloc, files, name, CONFIGURATION_LIMIT) {
+        Ok(bytes) => Ok(bytes.is_empty()),
+        Err(ReadFault::TooLong) => Ok(false),
+        Err(ReadFault::NoMemory) => Err(Unread::NoMemory),
+        Err(ReadFault::Outside) => Err(Unread::Failed),
+    }
+}

@@ -1,0 +1,26 @@
+ghost use Rattle.std.specs.Prelude.{◌≡◌, IfOk};
+ghost use Rattle.paradyn_top.specs.Due.{refusal};
+ghost use Rattle.paradyn_top.specs.Replies.{answer_of};
+
+use crate::faults::{Fault, faults_text};
+use pn_types::NoMemory;
+use std::alloc::Global;
+
+/// An answer: the status of the program, and the bytes for the two sinks.
+#[derive(Drop)]
+pub struct Reply {
+    pub status: u8,
+    pub out: Vec<u8>,
+    pub log: Vec<u8>,
+}
+
+/// The answer of a fault: its line, and nothing for the log.
+pub fn refuse(alloc: Global, fault: &Fault) -> Result<Reply, NoMemory>
+    ensures { IfOk result (λ reply. answer_of reply ≡ refusal fault.now) }
+{
+    Ok(Reply {
+        status: fault.status(),
+        out: faults_text(alloc, fault)?,
+        log: Vec::new(alloc),
+    })
+}

@@ -1,0 +1,16 @@
+use Rattle.std.proofs.Common.{refl, ◌∙◌, ap, sym, length, ℕ, Option}
+use Rattle.std.proofs.lemmas.List.{length-replicate}
+use Rattle.rv_mem.specs.Start.{heap_len, stack_len}
+use Rattle.plain_run.proofs.machine.PlainMachine.new.Goals as goal
+
+pub first_harts-requires-clause-heap : goal.first_harts-requires-clause-heap
+unfolding heap_len
+first_harts-requires-clause-heap c = refl
+
+pub first_harts-requires-clause-stack : goal.first_harts-requires-clause-stack
+unfolding stack_len
+first_harts-requires-clause-stack c = refl
+
+pub invariant_of-result : goal.invariant_of-result
+invariant_of-result c =
+    ap length c.in_ok-new-2.ensures ∙ length-replicate {A = Option ℕ} c.args.harts _ ∙ sym c.in_ok-first_harts.ensures.len

@@ -1,0 +1,17 @@
+//! Plain data that the layers hand to each other, with the ranges of its numbers.
+#![tactic(auto)]
+
+mod hart;
+mod image;
+mod seq;
+mod stop;
+mod text;
+
+pub use hart::{HartNo, MAX_HARTS, OutOfRange};
+pub use image::{Image, Segment, SymKind, Symbol};
+pub use seq::Seq;
+pub use stop::StopText;
+pub use text::Text;
+
+/// Want of memory: the one answer that every call which allocates may give.
+pub type NoMemory = std::alloc::AllocError;

@@ -1,0 +1,85 @@
+ghost use Rattle.std.specs.Prelude.{◌≡◌, ◌++◌, ◌≤◌, ◌<◌, ◌^◌, length, OnOk, IfOk, sum_by};
+ghost use Rattle.report.specs.Text.{counts_line, hart_line, hart_lines, output_lines, report_text};
+
+use crate::parts::{HartPart, ReportParts};
+use pn_types::NoMemory;
+use std::alloc::Global;
+
+/// The ticks of all harts together.
+fn total_ticks(parts: &[HartPart]) -> u64
+    requires { sum_by (λ part. part.ticks) parts.now < 2 ^ 64 }
+    ensures { result ≡ sum_by (λ part. part.ticks) parts.now }
+{
+    let mut total = 0;
+    for part in parts {
+        total += part.ticks;
+    }
+    total
+}
+
+/// The line of the numbers of the whole run.
+fn add_counts(
+    alloc: Global,
+    out: &mut Vec<u8>,
+    parts: &ReportParts,
+    skipped: u32,
+) -> Result<(), NoMemory>
+    requires { sum_by (λ part. part.ticks) parts.now.harts < 2 ^ 64 }
+    ensures { OnOk result (out.new.items ≡ out.old.items ++ counts_line parts.now skipped) }
+{
+    let harts = parts.harts.as_slice().len();
+    let ticks = total_ticks(parts.harts.as_slice());
+    let samples = parts.samples;
+    let line = format!(in alloc;
+        "harts {harts} ticks {ticks} samples {samples} skipped {skipped}\n"
+    )?;
+    out.extend_from_slice(line.as_bytes())
+}
+
+/// The line of a hart.
+fn add_hart(alloc: Global, out: &mut Vec<u8>, number: u32, part: &HartPart) -> Result<(), NoMemory>
+    ensures { OnOk result (out.new.items ≡ out.old.items ++ hart_line number part.now) }
+{
+    let ticks = part.ticks;
+    let stop = part.stop;
+    let pc = part.pc;
+    let line = format!(in alloc; "hart {number} ticks {ticks} {stop} at 0x{pc:x}\n")?;
+    out.extend_from_slice(line.as_bytes())
+}
+
+/// The lines of all harts.
+fn add_harts(alloc: Global, out: &mut Vec<u8>, parts: &[HartPart]) -> Result<(), NoMemory>
+    requires { length parts.now < 2 ^ 32 }
+    ensures { OnOk result (out.new.items ≡ out.old.items ++ hart_lines 0 parts.now) }
+{
+    for (number, part) in parts.iter().enumerate() {
+        add_hart(alloc, out, number as u32, part)?;
+    }
+    Ok(())
+}
+
+/// The program's output behind its length, and a line's end.
+fn add_output(alloc: Global, out: &mut Vec<u8>, output: &[u8]) -> Result<(), NoMemory>
+    ensures { OnOk result (out.new.items ≡ out.old.items ++ output_lines output.now) }
+{
+    let count = output.len();
+    let line = format!(in alloc; "output {count}\n")?;
+    out.extend_from_slice(line.as_bytes())?;
+    out.extend_from_slice(output)?;
+    out.extend_from_slice(b"\n")
+}
+
+/// The text of a report. The number `skipped` is that of the function symbols that are no procedures. The harts' ticks
+/// together are below 2^64.
+pub fn report(alloc: Global, parts: &ReportParts, skipped: u32) -> Result<Vec<u8>, NoMemory>
+    requires harts { length parts.now.harts < 2 ^ 32 }
+    requires ticks { sum_by (λ part. part.ticks) parts.now.harts < 2 ^ 64 }
+    ensures { IfOk result (λ text. text.items ≡ report_text parts.now skipped) }
+{
+    let mut out = Vec::new(alloc);
+    out.extend_from_slice(b"paradyn report 1\n")?;
+    add_counts(alloc, &mut out, parts, skipped)?;
+    add_harts(alloc, &mut out, parts.harts.as_slice())?;
+    add_output(alloc, &mut out, parts.output.bytes())?;
+    Ok(out)
+}

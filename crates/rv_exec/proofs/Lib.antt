@@ -1,0 +1,4 @@
+pub mod Breaks
+pub mod Writes
+pub mod High
+pub mod Runs

@@ -1,0 +1,62 @@
+-- Runs of the unpatched program: lists of hart numbers, each of which takes a turn.
+use Rattle.std.specs.Prelude.{ℕ, ◌≡◌, Bool, false, IsTrue, Option, Some, None, List, [], ◌∷◌, slice_get}
+use Rattle.pn_types.specs.declared.image.Image.{Image}
+use Rattle.rv_word.specs.Registers.{reg}
+use Rattle.rv_word.specs.Plain.{Words, PlainHart, Plain, plain, can}
+use Rattle.rv_exec.specs.Start.{program_of, start}
+
+-- the state after the turns of these harts, one after another
+abbrev pub run_from : Words → List ℕ → Plain → Plain
+run_from t [] s = s
+run_from t (h ∷ hs) s = run_from t hs (plain t h s)
+
+-- each hart could take its turn when it came
+abbrev pub LegalFrom : Words → ℕ → List ℕ → Plain → Type 0
+LegalFrom t budget [] s = Unit {0}
+LegalFrom t budget (h ∷ hs) s = IsTrue (can budget s h) × LegalFrom t budget hs (plain t h s)
+
+-- The state of an image on n harts after these turns.
+abbrev pub run : Image → ℕ → List ℕ → Plain
+run image n turns = run_from (program_of image) turns (start image n)
+
+-- The turns are those of harts that could take them.
+abbrev pub IsLegal : Image → ℕ → ℕ → List ℕ → Type 0
+IsLegal image n budget turns = LegalFrom (program_of image) budget turns (start image n)
+
+-- no hart can go on
+abbrev pub HasEnded : ℕ → Plain → Type 0
+HasEnded budget s = (h : ℕ) → can budget s h ≡ false
+
+-- The turns are a whole run: legal, and at their end no hart can go on.
+pub record IsWholeRun (image : Image) (n budget : ℕ) (turns : List ℕ) : Type 0 where
+  pub legal : IsLegal image n budget turns
+  pub ended : HasEnded budget (run image n turns)
+
+-- on one hart there is only one whole run
+abbrev pub OneWholeRun : Type 0
+OneWholeRun = (image : Image) (budget : ℕ) (turns others : List ℕ) → IsWholeRun image 1 budget turns → IsWholeRun image 1 budget others → turns ≡ others
+
+-- ---- the trace of a run
+
+-- a position: the hart that takes the turn, its pc, and a0 to a7 before the turn
+pub record Position : Type 0 where
+  pub hart : ℕ
+  pub pc : ℕ
+  pub arguments : List ℕ
+
+abbrev pub arguments_of : List ℕ → List ℕ
+arguments_of regs = reg regs 10 ∷ reg regs 11 ∷ reg regs 12 ∷ reg regs 13 ∷ reg regs 14 ∷ reg regs 15 ∷ reg regs 16 ∷ reg regs 17 ∷ []
+
+-- a position before those that follow
+abbrev pub position_of : ℕ → Option PlainHart → List Position → List Position
+position_of h None rest = rest
+position_of h (Some x) rest = record { hart = h; pc = x.pc; arguments = arguments_of x.regs } ∷ rest
+
+-- the positions of these turns from a state on
+abbrev pub trace_from : Words → List ℕ → Plain → List Position
+trace_from t [] s = []
+trace_from t (h ∷ hs) s = position_of h (slice_get s.harts h) (trace_from t hs (plain t h s))
+
+-- The trace of an image's run.
+abbrev pub trace : Image → ℕ → List ℕ → List Position
+trace image n turns = trace_from (program_of image) turns (start image n)

@@ -1,0 +1,72 @@
+//! System calls.
+
+ghost use Rattle.std.specs.Prelude.{◌≡◌, ◌≤◌, List, ℕ, Option, min};
+ghost use Rattle.rv_word.specs.Exec.{done, prog_of, system_call, minus, written_is};
+ghost use Rattle.rv_word.specs.Memory.{bytes_at};
+
+use crate::executing::next_pc;
+use crate::output::{OUTPUT_LIMIT, Output};
+use crate::regs::Regs;
+use rv_mem::Mem;
+use rv_word::{Cause, MemStop, Next};
+
+/// The answer -n.
+fn minus(n: u64) -> u64
+    requires { (1 ≤ n) × (n ≤ 100) }
+    ensures { result ≡ minus n }
+{
+    u64::MAX - (n - 1)
+}
+
+/// Appends n bytes to the output, and says what the call answers, or the address in text where it stops.
+fn write_bytes(at: u64, n: u32, mem: &Mem, out: &mut Output) -> Result<u64, u64>
+    requires { n ≤ 4096 }
+    ensures { written_is (bytes_at n mem.now at) out.old ≡ (result, out.new) }
+{
+    match mem.readable(at, n) {
+        Err(MemStop::Unmapped(_)) => Ok(minus(14)),
+        Err(MemStop::InText(at)) => Err(at),
+        Ok(()) => {
+            if out.bytes().len() + n as usize > OUTPUT_LIMIT {
+                Ok(minus(28))
+            } else {
+                out.append(mem, at, n);
+                Ok(n as u64)
+            }
+        }
+    }
+}
+
+/// Appends at most 4,096 of the bytes.
+fn write(at: u64, len: u64, mem: &Mem, out: &mut Output) -> Result<u64, u64>
+    ensures { written_is (bytes_at (min len 4096) mem.now at) out.old ≡ (result, out.new) }
+{
+    if len < 4096 {
+        write_bytes(at, len as u32, mem, out)
+    } else {
+        write_bytes(at, 4096, mem, out)
+    }
+}
+
+/// A call of the system, by its number in a7.
+pub fn call(pc: u64, regs: &mut Regs, mem: &Mem, out: &mut Output) -> Next
+    ensures { (resv : List (Option ℕ)) → done (system_call pc regs.old (prog_of mem.now resv out.old)) regs.old (prog_of mem.now resv out.old) ≡ record { next = result; regs = regs.new; prog = prog_of mem.now resv out.new } }
+{
+    let number = regs.get(17);
+    let first = regs.get(10);
+    if number == 93 || number == 94 {
+        return Next::Stop(Cause::Exit((first % 256) as u8));
+    }
+    let answer = if number != 64 {
+        minus(38)
+    } else if first != 1 && first != 2 {
+        minus(9)
+    } else {
+        match write(regs.get(11), regs.get(12), mem, out) {
+            Ok(answer) => answer,
+            Err(at) => return Next::Stop(Cause::TextAccess(at)),
+        }
+    };
+    regs.set(10, answer);
+    Next::Go(next_pc(pc))
+}

@@ -1,0 +1,7 @@
+pub mod Powers
+pub mod Maps
+pub mod Numbers
+pub mod Ranges
+pub mod Writes
+pub mod Overlays
+pub mod Starts

@@ -1,0 +1,58 @@
+-- How the regions of a memory that starts come to be, one by one.
+use Rattle.std.proofs.Common.{◌≡◌, ℕ, zero, suc, ◌+◌, ◌-◌, ◌<◌, ◌≤◌, List, [], ◌∷◌, ◌++◌, length, drop, get_or, refl, ap, sym, ◌∙◌, arith}
+use Rattle.rv_word.specs.Memory.{flat, numbered}
+use Rattle.rv_mem.specs.declared.region.Region.{Region}
+use Rattle.pn_types.specs.declared.image.Segment.{Segment}
+use Rattle.rv_mem.specs.Regions.{entries_of, parts_of}
+use Rattle.rv_mem.specs.Start.{region_part, segment_part, segment_parts, heap_part, stack_part, stack_parts}
+
+pub entries_of-flat : (rs : List Region) → entries_of rs ≡ flat (parts_of rs)
+entries_of-flat [] = refl
+entries_of-flat (r ∷ rs) = ap (λ es. numbered r.at r.bytes.items ++ es) (entries_of-flat rs)
+
+-- a region more, before what is to come
+parts_of-push : (rs : List Region) (r : Region) (rest : List (ℕ × List ℕ)) → parts_of (rs ++ r ∷ []) ++ rest ≡ parts_of rs ++ region_part r ∷ rest
+parts_of-push [] r rest = refl
+parts_of-push (x ∷ rs) r rest = ap (λ z. region_part x ∷ z) (parts_of-push rs r rest)
+
+segment_parts-drop : (ss : List Segment) (i : ℕ) (s : Segment) → s ≡ get_or ss i s → i < length ss → segment_part s ∷ segment_parts (drop (suc i) ss) ≡ segment_parts (drop i ss)
+segment_parts-drop [] i s e h = absurd (omega arith)
+segment_parts-drop (x ∷ ss) zero s e h = ap (λ z. segment_part z ∷ segment_parts ss) e
+segment_parts-drop (x ∷ ss) (suc i) s e h = segment_parts-drop ss i s e (omega arith)
+
+pub segment_step : (rs new : List Region) (r : Region) (ss : List Segment) (i : ℕ) (s : Segment) → new ≡ rs ++ r ∷ [] → region_part r ≡ segment_part s → s ≡ get_or ss i s → i < length ss → parts_of new ++ segment_parts (drop (i + 1) ss) ≡ parts_of rs ++ segment_parts (drop i ss)
+segment_step rs new r ss i s e is at h =
+    let n : i + 1 ≡ suc i = omega arith in
+    ap (λ z. parts_of z ++ segment_parts (drop (i + 1) ss)) e
+    ∙ parts_of-push rs r (segment_parts (drop (i + 1) ss))
+    ∙ ap (λ k. parts_of rs ++ region_part r ∷ segment_parts (drop k ss)) n
+    ∙ ap (λ z. parts_of rs ++ z ∷ segment_parts (drop (suc i) ss)) is
+    ∙ ap (λ z. parts_of rs ++ z) (segment_parts-drop ss i s at h)
+
+pub stack_step : (rs new : List Region) (r : Region) (n h : ℕ) → h < n → new ≡ rs ++ r ∷ [] → region_part r ≡ stack_part h → parts_of new ++ stack_parts (n - (h + 1)) (h + 1) ≡ parts_of rs ++ stack_parts (n - h) h
+stack_step rs new r n h l e is =
+    let k : suc (n - (h + 1)) ≡ n - h = omega arith in
+    ap (λ z. parts_of z ++ stack_parts (n - (h + 1)) (h + 1)) e
+    ∙ parts_of-push rs r (stack_parts (n - (h + 1)) (h + 1))
+    ∙ ap (λ z. parts_of rs ++ z ∷ stack_parts (n - (h + 1)) (h + 1)) is
+    ∙ ap (λ j. parts_of rs ++ stack_parts j h) k
+
+segment_parts-past : (ss : List Segment) (i : ℕ) → length ss ≤ i → segment_parts (drop i ss) ≡ []
+segment_parts-past [] zero h = refl
+segment_parts-past [] (suc i) h = refl
+segment_parts-past (x ∷ ss) zero h = absurd (omega arith)
+segment_parts-past (x ∷ ss) (suc i) h = segment_parts-past ss i (omega arith)
+
+append_nil : (xs : List (ℕ × List ℕ)) → xs ++ [] ≡ xs
+append_nil [] = refl
+append_nil (x ∷ xs) = ap (λ z. x ∷ z) (append_nil xs)
+
+pub heap_step : (rs new : List Region) (r : Region) (ss : List Segment) (i n : ℕ) → new ≡ rs ++ r ∷ [] → region_part r ≡ heap_part → length ss ≤ i → parts_of rs ++ segment_parts (drop i ss) ≡ segment_parts ss → parts_of new ++ stack_parts (n - 0) 0 ≡ segment_parts ss ++ heap_part ∷ stack_parts n 0
+heap_step rs new r ss i n e is l inv =
+    let k : n - 0 ≡ n = omega arith in
+    let p : parts_of rs ≡ segment_parts ss = sym (append_nil (parts_of rs)) ∙ ap (λ z. parts_of rs ++ z) (sym (segment_parts-past ss i l)) ∙ inv in
+    ap (λ z. parts_of z ++ stack_parts (n - 0) 0) e
+    ∙ parts_of-push rs r (stack_parts (n - 0) 0)
+    ∙ ap (λ z. parts_of rs ++ z ∷ stack_parts (n - 0) 0) is
+    ∙ ap (λ j. parts_of rs ++ heap_part ∷ stack_parts j 0) k
+    ∙ ap (λ z. z ++ heap_part ∷ stack_parts n 0) p

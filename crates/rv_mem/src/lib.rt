@@ -1,0 +1,10 @@
+//! The memory of a program: the segments of its image, a heap and a stack for each hart. No access may touch the text.
+#![tactic(auto)]
+
+mod mem;
+mod region;
+mod start;
+#[cfg(test)]
+mod tests;
+
+pub use mem::Mem;

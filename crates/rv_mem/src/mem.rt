@@ -1,0 +1,154 @@
+ghost use Rattle.std.specs.Prelude.{◌≡◌, ◌<◌, ◌≤◌, ◌^◌, ℕ, IfOk, IsOk, IfErr, OnErr, OnOk, length, true, false};
+ghost use Rattle.rv_word.specs.Memory.{cell, in_text, load, store, put, set_byte, bytes_at, memory_of};
+ghost use Rattle.rv_mem.specs.Regions.{parts_of};
+
+use crate::region::{Region, find_byte, find_number, put_byte, put_number};
+use rv_word::MemStop;
+use std::marker::Model;
+
+/// The memory of a program, which contracts see as a map from the mapped addresses to their bytes, with the range of
+/// the text. No access allocates, and a refused one changes nothing.
+#[derive(Drop, Debug)]
+pub struct Mem {
+    regions: Vec<Region>,
+    text_at: u64,
+    text_len: u64,
+}
+
+impl Model for Mem {
+    ghost use Rattle.std.specs.FinMap.{from_entries};
+    ghost use Rattle.rv_word.specs.Memory.{Memory, memory_code};
+    ghost use Rattle.rv_mem.specs.Regions.{entries_of};
+
+    ghost Value = { Memory };
+
+    ghost coded = { memory_code };
+
+    ghost view = { λ m. record { text_at = m.text_at; text_len = m.text_len; cells = from_entries (entries_of m.regions.items) } };
+}
+
+/// Whether the address is one of `len` from the start.
+fn is_within(at: u64, start: u64, len: u64) -> bool
+    ensures { result ≡ in_text start len at }
+{
+    start <= at && at - start < len
+}
+
+/// True only if no address from `at` to `end` is one of `len` from the start.
+fn misses(at: u64, end: u64, start: u64, len: u64) -> bool
+    ensures { result ≡ true → (q : ℕ) → at ≤ q → q < end → in_text start len q ≡ false }
+{
+    end <= start || at.saturating_sub(start) >= len
+}
+
+impl Mem {
+    /// The memory of these regions, of which the first that has an address counts.
+    pub(crate) fn from_regions(regions: Vec<Region>, text_at: u64, text_len: u64) -> Mem
+        ensures { result ≡ memory_of text_at text_len (parts_of regions.items) }
+    {
+        Mem {
+            regions,
+            text_at,
+            text_len,
+        }
+    }
+
+    /// The byte at the address, or why it may not be touched.
+    pub fn byte(&self, at: u64) -> Result<u8, MemStop>
+        ensures { result ≡ cell self.now at }
+    {
+        if is_within(at, self.text_at, self.text_len) {
+            return Err(MemStop::InText(at));
+        }
+        match find_byte(&self.regions, at) {
+            Some(byte) => Ok(byte),
+            None => Err(MemStop::Unmapped(at)),
+        }
+    }
+
+    /// The number in the `n` bytes from the address, the lowest first. Behind the last address comes address 0. The
+    /// error names the first byte that may not be touched.
+    pub fn load(&self, at: u64, n: u32) -> Result<u64, MemStop>
+        requires { n ≤ 8 }
+        ensures value { result ≡ load n self.now at }
+        ensures bound { IfOk result (λ v. v < 256 ^ n) }
+    {
+        if let Some(end) = at.checked_add(n as u64) {
+            if misses(at, end, self.text_at, self.text_len) {
+                if let Some(v) = find_number(&self.regions, at, n) {
+                    return Ok(v);
+                }
+            }
+        }
+        self.load_bytes(at, n)
+    }
+
+    /// What `load` gives, byte for byte.
+    #[tactic(auto, unfolding(rv_word::specs::Memory::load))]
+    fn load_bytes(&self, at: u64, n: u32) -> Result<u64, MemStop>
+        requires { n ≤ 8 }
+        ensures value { result ≡ load n self.now at }
+        ensures bound { IfOk result (λ v. v < 256 ^ n) }
+    {
+        if n == 0 {
+            return Ok(0);
+        }
+        let low = self.byte(at)?;
+        let high = self.load_bytes(at.wrapping_add(1), n - 1)?;
+        Ok(low as u64 + high * 256)
+    }
+
+    /// Whether each of the `n` bytes from the address may be touched. The error names the first that may not.
+    pub fn readable(&self, at: u64, n: u32) -> Result<(), MemStop>
+        ensures refused { IfErr result (λ e. bytes_at n self.now at ≡ Err e) }
+        ensures readable { OnOk result (IsOk (bytes_at n self.now at)) }
+        ensures len { IfOk (bytes_at n self.now at) (λ bs. length bs ≡ n) }
+    {
+        let mut next = at;
+        for i in 0..n {
+            self.byte(next)?;
+            next = next.wrapping_add(1);
+        }
+        Ok(())
+    }
+
+    /// Puts a byte at an address that may be touched.
+    fn set_byte(&mut self, at: u64, byte: u8)
+        requires { IsOk (cell self.old at) }
+        ensures { self.new ≡ set_byte self.old at byte }
+    {
+        put_byte(&mut self.regions, at, byte);
+    }
+
+    /// Puts the lowest `n` bytes of the number at addresses that may be touched, the lowest first.
+    #[tactic(auto, unfolding(rv_word::specs::Memory::put, rv_word::specs::Memory::load))]
+    fn put(&mut self, at: u64, n: u32, v: u64)
+        requires { IsOk (load n self.old at) }
+        ensures { self.new ≡ put n self.old at v }
+    {
+        if n > 0 {
+            self.set_byte(at, (v & 0xff) as u8);
+            self.put(at.wrapping_add(1), n - 1, v >> 8);
+        }
+    }
+
+    /// Stores the lowest `n` bytes of the number from the address on, the lowest first. Behind the last address comes
+    /// address 0. The error names the first byte that may not be touched, and then nothing is stored.
+    pub fn store(&mut self, at: u64, n: u32, v: u64) -> Result<(), MemStop>
+        requires { n ≤ 8 }
+        ensures stored { OnOk result (store n self.old at v ≡ Ok self.new) }
+        ensures refused { IfErr result (λ e. store n self.old at v ≡ Err e) }
+        ensures unchanged { OnErr result (self.new ≡ self.old) }
+    {
+        if let Some(end) = at.checked_add(n as u64) {
+            if misses(at, end, self.text_at, self.text_len) {
+                if put_number(&mut self.regions, at, n, v) {
+                    return Ok(());
+                }
+            }
+        }
+        self.load_bytes(at, n)?;
+        self.put(at, n, v);
+        Ok(())
+    }
+}

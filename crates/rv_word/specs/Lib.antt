@@ -1,0 +1,9 @@
+pub mod Fields
+pub mod Table
+pub mod Words
+pub mod Names
+pub mod Registers
+pub mod Memory
+pub mod Values
+pub mod Exec
+pub mod Plain

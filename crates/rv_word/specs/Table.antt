@@ -1,0 +1,174 @@
+-- The table of instructions: which word is which.
+use Rattle.std.specs.Prelude.{ℕ, ◌/◌, ◌%◌, ◌^◌, ◌==◌, if◌then◌else◌, Option, Some, None, List, [], ◌∷◌}
+use Rattle.std.specs.Option.{option_map}
+use Rattle.rv_word.specs.Fields.{opcode_of, rd_of, funct3_of, rs1_of, rs2_of, funct7_of, high12_of, i_imm_of, s_imm_of, b_imm_of, u_imm_of, j_imm_of}
+use Rattle.rv_word.specs.declared.instr.BranchOp.{BranchOp}
+use Rattle.rv_word.specs.declared.instr.BranchOp.TheVariants.{Beq, Bne, Blt, Bge, Bltu, Bgeu}
+use Rattle.rv_word.specs.declared.instr.LoadOp.{LoadOp}
+use Rattle.rv_word.specs.declared.instr.LoadOp.TheVariants.{Lb, Lh, Lw, Ld, Lbu, Lhu, Lwu}
+use Rattle.rv_word.specs.declared.instr.StoreOp.{StoreOp}
+use Rattle.rv_word.specs.declared.instr.StoreOp.TheVariants.{Sb, Sh, Sw, Sd}
+use Rattle.rv_word.specs.declared.instr.ImmOp.{ImmOp}
+use Rattle.rv_word.specs.declared.instr.ImmOp.TheVariants.{Addi, Slti, Sltiu, Xori, Ori, Andi}
+use Rattle.rv_word.specs.declared.instr.ShiftOp.{ShiftOp}
+use Rattle.rv_word.specs.declared.instr.ShiftOp.TheVariants as shift
+use Rattle.rv_word.specs.declared.instr.RegOp.{RegOp}
+use Rattle.rv_word.specs.declared.instr.RegOp.TheVariants as reg
+use Rattle.rv_word.specs.declared.instr.RegOp32.{RegOp32}
+use Rattle.rv_word.specs.declared.instr.RegOp32.TheVariants as reg32
+use Rattle.rv_word.specs.declared.instr.AmoOp.{AmoOp}
+use Rattle.rv_word.specs.declared.instr.AmoOp.TheVariants as amo
+use Rattle.rv_word.specs.declared.instr.AtomicWidth.{AtomicWidth}
+use Rattle.rv_word.specs.declared.instr.AtomicWidth.TheVariants.{Word, Doubleword}
+use Rattle.rv_word.specs.declared.instr.Instr.{Instr}
+use Rattle.rv_word.specs.declared.instr.Instr.TheVariants.{Lui, Auipc, Jal, Jalr, Branch, Load, Store, OpImm, ShiftImm, Addiw, ShiftImm32, Op, Op32, Fence, Ecall, Ebreak, Amo}
+
+-- The row whose number is code.
+abbrev pub row : {A : Type 0} → ℕ → List (ℕ × A) → Option A
+row code [] = None
+row code (r ∷ rs) = if code == r.0 then Some r.1 else row code rs
+
+abbrev pub branch_ops : List (ℕ × BranchOp)
+branch_ops = (0, Beq) ∷ (1, Bne) ∷ (4, Blt) ∷ (5, Bge) ∷ (6, Bltu) ∷ (7, Bgeu) ∷ []
+
+abbrev pub load_ops : List (ℕ × LoadOp)
+load_ops = (0, Lb) ∷ (1, Lh) ∷ (2, Lw) ∷ (3, Ld) ∷ (4, Lbu) ∷ (5, Lhu) ∷ (6, Lwu) ∷ []
+
+abbrev pub store_ops : List (ℕ × StoreOp)
+store_ops = (0, Sb) ∷ (1, Sh) ∷ (2, Sw) ∷ (3, Sd) ∷ []
+
+abbrev pub imm_ops : List (ℕ × ImmOp)
+imm_ops = (0, Addi) ∷ (2, Slti) ∷ (3, Sltiu) ∷ (4, Xori) ∷ (6, Ori) ∷ (7, Andi) ∷ []
+
+abbrev pub base_ops : List (ℕ × RegOp)
+base_ops = (0, reg.Add) ∷ (1, reg.Sll) ∷ (2, reg.Slt) ∷ (3, reg.Sltu) ∷ (4, reg.Xor) ∷ (5, reg.Srl) ∷ (6, reg.Or) ∷ (7, reg.And) ∷ []
+
+abbrev pub other_ops : List (ℕ × RegOp)
+other_ops = (0, reg.Sub) ∷ (5, reg.Sra) ∷ []
+
+abbrev pub mul_ops : List (ℕ × RegOp)
+mul_ops = (0, reg.Mul) ∷ (1, reg.Mulh) ∷ (2, reg.Mulhsu) ∷ (3, reg.Mulhu) ∷ (4, reg.Div) ∷ (5, reg.Divu) ∷ (6, reg.Rem) ∷ (7, reg.Remu) ∷ []
+
+-- by funct7 and funct3
+abbrev pub reg_op_of : ℕ → ℕ → Option RegOp
+reg_op_of funct7 code =
+    if funct7 == 0 then row code base_ops
+    else if funct7 == 0x20 then row code other_ops
+    else if funct7 == 1 then row code mul_ops
+    else None
+
+abbrev pub base_ops_32 : List (ℕ × RegOp32)
+base_ops_32 = (0, reg32.Addw) ∷ (1, reg32.Sllw) ∷ (5, reg32.Srlw) ∷ []
+
+abbrev pub other_ops_32 : List (ℕ × RegOp32)
+other_ops_32 = (0, reg32.Subw) ∷ (5, reg32.Sraw) ∷ []
+
+abbrev pub mul_ops_32 : List (ℕ × RegOp32)
+mul_ops_32 = (0, reg32.Mulw) ∷ (4, reg32.Divw) ∷ (5, reg32.Divuw) ∷ (6, reg32.Remw) ∷ (7, reg32.Remuw) ∷ []
+
+abbrev pub reg_op_32_of : ℕ → ℕ → Option RegOp32
+reg_op_32_of funct7 code =
+    if funct7 == 0 then row code base_ops_32
+    else if funct7 == 0x20 then row code other_ops_32
+    else if funct7 == 1 then row code mul_ops_32
+    else None
+
+abbrev pub amo_ops : List (ℕ × AmoOp)
+amo_ops =
+    (0, amo.Add) ∷ (1, amo.Swap) ∷ (2, amo.Lr) ∷ (3, amo.Sc) ∷ (4, amo.Xor) ∷ (8, amo.Or)
+    ∷ (12, amo.And) ∷ (16, amo.Min) ∷ (20, amo.Max) ∷ (24, amo.Minu) ∷ (28, amo.Maxu) ∷ []
+
+abbrev pub atomic_widths : List (ℕ × AtomicWidth)
+atomic_widths = (2, Word) ∷ (3, Doubleword) ∷ []
+
+abbrev pub lui_of : ℕ → Option Instr
+lui_of w = Some (Lui (rd_of w) (u_imm_of w))
+
+abbrev pub auipc_of : ℕ → Option Instr
+auipc_of w = Some (Auipc (rd_of w) (u_imm_of w))
+
+abbrev pub jal_of : ℕ → Option Instr
+jal_of w = Some (Jal (rd_of w) (j_imm_of w))
+
+abbrev pub jalr_of : ℕ → Option Instr
+jalr_of w = if funct3_of w == 0 then Some (Jalr (rd_of w) (rs1_of w) (i_imm_of w)) else None
+
+abbrev pub branch_of : ℕ → Option Instr
+branch_of w = option_map (λ op. Branch op (rs1_of w) (rs2_of w) (b_imm_of w)) (row (funct3_of w) branch_ops)
+
+abbrev pub load_of : ℕ → Option Instr
+load_of w = option_map (λ op. Load op (rd_of w) (rs1_of w) (i_imm_of w)) (row (funct3_of w) load_ops)
+
+abbrev pub store_of : ℕ → Option Instr
+store_of w = option_map (λ op. Store op (rs1_of w) (rs2_of w) (s_imm_of w)) (row (funct3_of w) store_ops)
+
+abbrev pub right_shifts : ℕ → List (ℕ × ShiftOp)
+right_shifts arithmetic = (0, shift.Srl) ∷ (arithmetic, shift.Sra) ∷ []
+
+abbrev pub left_shifts : List (ℕ × ShiftOp)
+left_shifts = (0, shift.Sll) ∷ []
+
+abbrev pub right_shift_of : ℕ → ℕ → Option ShiftOp
+right_shift_of arithmetic top = row top (right_shifts arithmetic)
+
+-- the amount of a shift of 64 bits has six bits, and that of one of 32 bits five
+abbrev pub shift_of : ℕ → Option ShiftOp → Option Instr
+shift_of w op = option_map (λ o. ShiftImm o (rd_of w) (rs1_of w) (w / 2 ^ 20 % 64)) op
+
+abbrev pub shift_32_of : ℕ → Option ShiftOp → Option Instr
+shift_32_of w op = option_map (λ o. ShiftImm32 o (rd_of w) (rs1_of w) (rs2_of w)) op
+
+abbrev pub op_imm_of : ℕ → Option Instr
+op_imm_of w =
+    if funct3_of w == 1 then shift_of w (row (w / 2 ^ 26) left_shifts)
+    else if funct3_of w == 5 then shift_of w (right_shift_of 16 (w / 2 ^ 26))
+    else option_map (λ op. OpImm op (rd_of w) (rs1_of w) (i_imm_of w)) (row (funct3_of w) imm_ops)
+
+abbrev pub op_imm_32_of : ℕ → Option Instr
+op_imm_32_of w =
+    if funct3_of w == 0 then Some (Addiw (rd_of w) (rs1_of w) (i_imm_of w))
+    else if funct3_of w == 1 then shift_32_of w (row (funct7_of w) left_shifts)
+    else if funct3_of w == 5 then shift_32_of w (right_shift_of 32 (funct7_of w))
+    else None
+
+abbrev pub op_of : ℕ → Option Instr
+op_of w = option_map (λ op. Op op (rd_of w) (rs1_of w) (rs2_of w)) (reg_op_of (funct7_of w) (funct3_of w))
+
+abbrev pub op_32_of : ℕ → Option Instr
+op_32_of w = option_map (λ op. Op32 op (rd_of w) (rs1_of w) (rs2_of w)) (reg_op_32_of (funct7_of w) (funct3_of w))
+
+abbrev pub fence_of : ℕ → Option Instr
+fence_of w = if funct3_of w == 0 then Some (Fence (rd_of w) (rs1_of w) (high12_of w)) else None
+
+abbrev pub system_words : List (ℕ × Instr)
+system_words = (0x00000073, Ecall) ∷ (0x00100073, Ebreak) ∷ []
+
+abbrev pub system_of : ℕ → Option Instr
+system_of w = row w system_words
+
+-- LR has no second register
+abbrev pub amo_with : AmoOp → AtomicWidth → ℕ → Option Instr
+amo_with amo.Lr width w = if rs2_of w == 0 then Some (Amo amo.Lr width (rd_of w) (rs1_of w) (rs2_of w) (w / 2 ^ 25 % 4)) else None
+amo_with op width w = Some (Amo op width (rd_of w) (rs1_of w) (rs2_of w) (w / 2 ^ 25 % 4))
+
+abbrev pub amo_at : Option AtomicWidth → Option AmoOp → ℕ → Option Instr
+amo_at (Some width) (Some op) w = amo_with op width w
+amo_at None op w = None
+amo_at (Some width) None w = None
+
+abbrev pub amo_of : ℕ → Option Instr
+amo_of w = amo_at (row (funct3_of w) atomic_widths) (row (w / 2 ^ 27) amo_ops) w
+
+-- what stands under each opcode
+abbrev pub opcodes : List (ℕ × (ℕ → Option Instr))
+opcodes =
+    (0x37, lui_of) ∷ (0x17, auipc_of) ∷ (0x6f, jal_of) ∷ (0x67, jalr_of) ∷ (0x63, branch_of) ∷ (0x03, load_of) ∷ (0x23, store_of)
+    ∷ (0x13, op_imm_of) ∷ (0x1b, op_imm_32_of) ∷ (0x33, op_of) ∷ (0x3b, op_32_of) ∷ (0x0f, fence_of) ∷ (0x73, system_of)
+    ∷ (0x2f, amo_of) ∷ []
+
+abbrev pub read_by : {A : Type 0} → Option (ℕ → Option A) → ℕ → Option A
+read_by None w = None
+read_by (Some f) w = f w
+
+unfoldable pub decode_of : ℕ → Option Instr
+decode_of w = read_by (row (opcode_of w) opcodes) w

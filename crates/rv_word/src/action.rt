@@ -1,0 +1,48 @@
+use crate::instr::{AmoOp, AtomicWidth, LoadOp};
+use crate::outcome::Cause;
+
+/// What an instruction asks of the machine, once its operands' values are known.
+#[derive(Clone, Copy, PartialEq, Eq, Debug, Drop)]
+pub enum Action {
+    /// Put a value into rd.
+    Compute {
+        rd: u32,
+        value: u64,
+    },
+    /// Go to the target, and put the address behind the word into rd.
+    Jump {
+        rd: u32,
+        target: u64,
+    },
+    /// Go to the target where the branch is taken.
+    BranchTo {
+        taken: bool,
+        target: u64,
+    },
+    /// Load from the address into rd.
+    ReadMemory {
+        op: LoadOp,
+        rd: u32,
+        at: u64,
+    },
+    /// Store the lowest `len` bytes of the value at the address.
+    WriteMemory {
+        len: u32,
+        at: u64,
+        value: u64,
+    },
+    /// Access the address atomically.
+    AtomicAccess {
+        op: AmoOp,
+        width: AtomicWidth,
+        rd: u32,
+        at: u64,
+        value: u64,
+    },
+    /// Call the system.
+    SystemCall,
+    /// Do nothing.
+    Proceed,
+    /// Stop.
+    Halt(Cause),
+}
