@@ -1,2 +1,3 @@
 pub mod Harts
 pub mod Programs
+pub mod ScheduleLemmas

@@ -1,3 +1,5 @@
 pub mod Machines
 pub mod Views
 pub mod Codes
+pub mod Schedules
+pub mod Scheduled
