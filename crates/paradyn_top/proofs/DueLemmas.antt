@@ -1,14 +1,18 @@
 -- What is due where a file is too long, and where a reading failed after another.
-use Rattle.std.proofs.Common.{◌≡◌, ◌⊎◌, inl, inr, subst, rules, ℕ, ◌+◌, ◌≤◌, ◌<◌, List, [], ◌∷◌, length, cond, Bool, true, false, refl, sym, ap, ◌∙◌, arith, Option, None, Some}
-use Rattle.std.specs.Prelude.{replicate, nat_le, nat_lt, ◌&&◌, IsSome}
+use Rattle.std.proofs.Common.{◌≡◌, ◌⊎◌, inl, inr, subst, rules, ℕ, ◌+◌, ◌≤◌, ◌<◌, List, [], ◌∷◌, length, cond, Bool, true, false, refl, ap, arith, Option, None, Some, Result, Ok, Err}
+use Rattle.std.specs.Prelude.{replicate, nat_lt, IsOk}
+use Rattle.std.proofs.lemmas.Bool.{lt-ltb}
 use Rattle.std.proofs.lemmas.List.{length-replicate}
-use Rattle.std.proofs.lemmas.Grind.{common_steps}
 use Rattle.pn_types.specs.declared.image.Image.{Image}
 use Rattle.outside.specs.Causes.{Rose}
 use Rattle.outside.specs.Outside.{Holding, IsWhole, IsLonger, ReadsOnly}
-use Rattle.paradyn_top.specs.Elf.{image_of, image_under, header_of, when}
-use Rattle.paradyn_top.specs.Due.{Answer, RunWords, IsDueFor, IsDueOn, IsDueWith, IsUnreadableFor, NamesFault, refusal}
-use Rattle.paradyn_top.specs.declared.faults.Fault.TheVariants.{Usage, FileFault, NotYet}
+use Rattle.command_words.specs.Requests.{Request, RunRequest, run, assemble, list_points, later}
+use Rattle.command_words.specs.declared.settings.Settings.{Settings}
+use Rattle.paradyn_top.specs.Programs.{image_of}
+use Rattle.paradyn_top.specs.Due.{Answer, IsDueFor, IsDueOn, IsDueWith, IsRunDue, IsRunUnreadable, IsUnreadableFor, NamesFault, points_answer, refusal}
+use Rattle.paradyn_top.specs.declared.faults.Fault.TheVariants.{BadProgram, NotYet}
+use Rattle.paradyn_top.specs.declared.faults.ProgramFault.TheVariants.{TooLong}
+use Rattle.paradyn_top.specs.declared.faults.ProgramFault.{ProgramFault}
 use Rattle.paradyn_top.specs.Reading.{GivesImage, GivesEmpty, is_empty}
 
 -- a file that is longer than so many bytes is some bytes
@@ -17,17 +21,14 @@ some_longer None most h = (replicate (most + 1) 0, tt, omega (arith, length-repl
 some_longer (Some None) most h = absurd h
 some_longer (Some (Some file)) most h = (file, refl, h)
 
--- a test that begins with a bound fails above it
-above : {A : Type 0} (most n : ℕ) (b : Bool) (x : Option A) → most < n → None ≡ when (nat_le n most && b) x
-above most n b x h = grind (arith, common_steps)
+too_long_image : (b : Bool) (other : Result Image ProgramFault) → b ≡ true → Err TooLong ≡ cond b (Err TooLong) other
+too_long_image true other e = refl
+too_long_image false other e = absurd (cc)
 
-pub no_image : (bytes : List ℕ) → 33554432 < length bytes → None ≡ image_of bytes
-no_image bytes h = above 33554432 (length bytes) (nat_le 64 (length bytes)) (image_under bytes (header_of bytes)) h
-
-pub too_long_program : (holding : Holding) → IsLonger holding 33554432 → GivesImage holding None
+pub too_long_program : (holding : Holding) → IsLonger holding 33554432 → GivesImage holding (Err TooLong)
 too_long_program holding h =
     let file = some_longer holding 33554432 h in
-    record { bytes = file.0; whole = file.1; loads = no_image file.0 file.2 }
+    record { bytes = file.0; whole = file.1; loads = too_long_image (nat_lt 33554432 (length file.0)) _ (lt-ltb 33554432 (length file.0) file.2) }
 
 not_empty : (bytes : List ℕ) (most : ℕ) → most < length bytes → false ≡ is_empty bytes
 not_empty [] most h = absurd (omega arith)
@@ -42,50 +43,78 @@ too_long_configuration holding most h =
 pub Rose-before : (a b c : ℕ) → a ≤ b → Rose b c → Rose a c
 Rose-before a b c le rose = omega (arith, rose)
 
+is_ok : (image : Image) → IsOk {T = Image} {E = ProgramFault} (Ok image)
+is_ok image = search rules
+
 -- an image, and then the answer for it
-pub run_answer : {F : Type 0} (holds : F → List ℕ → Holding) (faults : F → List ℕ → ℕ) (program conf : List ℕ) (a b c : F) (image : Image) (answer : Answer) →
-    GivesImage (holds a program) (Some image) → ReadsOnly holds faults program a b →
-    (IsDueOn (Some image) (holds b conf) answer ⊎ NamesFault conf (faults b) (faults c) answer) →
-    (IsDueFor (Some (record { program = program; conf = conf })) (holds a) answer ⊎ IsUnreadableFor (Some (record { program = program; conf = conf })) (holds a) (faults a) (faults c) answer)
-run_answer holds faults program conf a b c image answer given reads (inl due) =
-    inl (given.bytes, given.whole, subst (λ o. IsDueOn o (holds a conf) answer) given.loads (subst (λ h. IsDueOn (Some image) h answer) (reads.same conf) due))
-run_answer holds faults program conf a b c image answer given reads (inr fault) =
-    let some : IsSome (Some image) = search rules in
-    inr (inr (given.bytes, given.whole, subst (λ o. IsSome o) given.loads some, (Rose-before (faults a conf) (faults b conf) (faults c conf) (reads.rising conf) fault.0, fault.1)))
+pub run_answer : {F : Type 0} (holds : F → List ℕ → Holding) (faults : F → List ℕ → ℕ) (r : RunRequest) (a b c : F) (image : Image) (answer : Answer) →
+    GivesImage (holds a r.program) (Ok image) → ReadsOnly holds faults r.program a b →
+    (IsDueOn r.settings (Ok image) (holds b r.conf) answer ⊎ NamesFault r.conf (faults b) (faults c) answer) →
+    (IsRunDue r None (holds a) answer ⊎ IsRunUnreadable r None (holds a) (faults a) (faults c) answer)
+run_answer holds faults r a b c image answer given reads (inl due) =
+    inl (given.bytes, given.whole, subst (λ o. IsDueOn r.settings o (holds a r.conf) answer) given.loads (subst (λ h. IsDueOn r.settings (Ok image) h answer) (reads.same r.conf) due))
+run_answer holds faults r a b c image answer given reads (inr fault) =
+    inr (inr (given.bytes, given.whole, subst (λ (o : Result Image ProgramFault). IsOk o) given.loads (is_ok image), (Rose-before (faults a r.conf) (faults b r.conf) (faults c r.conf) (reads.rising r.conf) fault.0, fault.1)))
 
 -- the statuses of what is due
 abbrev pub IsDueStatus : ℕ → Type 0
-IsDueStatus s = (s ≡ 0) ⊎ ((s ≡ 2) ⊎ (s ≡ 10))
+IsDueStatus s = (s ≡ 0) ⊎ ((s ≡ 2) ⊎ ((s ≡ 4) ⊎ (s ≡ 10)))
 
-status_with : (image : Image) (text : List ℕ) (answer : Answer) → IsDueWith image text answer → IsDueStatus answer.status
-status_with image [] answer due = inl (ap (λ a. a.status) due.reported)
-status_with image (b ∷ bs) answer due = inr (inr (ap (λ a. a.status) due))
+not_yet : (answer : Answer) → answer ≡ refusal NotYet → IsDueStatus answer.status
+not_yet answer e = inr (inr (inr (ap (λ a. a.status) e)))
 
-status_on : (o : Option Image) (holding : Holding) (answer : Answer) → IsDueOn o holding answer → IsDueStatus answer.status
-status_on None holding answer due = inr (inr (ap (λ a. a.status) due))
-status_on (Some image) holding answer due = status_with image due.0 answer due.2
+refused : (fault : ProgramFault) (answer : Answer) → answer ≡ refusal (BadProgram fault) → IsDueStatus answer.status
+refused fault answer e = inr (inr (inl (ap (λ a. a.status) e)))
 
-due_status : (o : Option RunWords) (holds : List ℕ → Holding) (answer : Answer) → IsDueFor o holds answer → IsDueStatus answer.status
+status_with : (s : Settings) (image : Image) (text : List ℕ) (answer : Answer) → IsDueWith s image text answer → IsDueStatus answer.status
+status_with s image [] answer due = inl (ap (λ a. a.status) due.answered)
+status_with s image (b ∷ bs) answer due = not_yet answer due
+
+status_on : (s : Settings) (o : Result Image ProgramFault) (holding : Holding) (answer : Answer) → IsDueOn s o holding answer → IsDueStatus answer.status
+status_on s (Err why) holding answer due = refused why answer due
+status_on s (Ok image) holding answer due = status_with s image due.0 answer due.2
+
+status_run : (r : RunRequest) (log : Option (List ℕ)) (holds : List ℕ → Holding) (answer : Answer) → IsRunDue r log holds answer → IsDueStatus answer.status
+status_run r (Some log) holds answer due = not_yet answer due
+status_run r None holds answer due = status_on r.settings (image_of due.0) (holds r.conf) answer due.2
+
+status_points : (o : Result Image ProgramFault) (answer : Answer) → answer ≡ points_answer o → IsDueStatus answer.status
+status_points (Err why) answer due = refused why answer due
+status_points (Ok image) answer due = inl (ap (λ a. a.status) due)
+
+due_status : (o : Option Request) (holds : List ℕ → Holding) (answer : Answer) → IsDueFor o holds answer → IsDueStatus answer.status
 due_status None holds answer due = inr (inl (ap (λ a. a.status) due))
-due_status (Some w) holds answer due = status_on (image_of due.0) (holds w.conf) answer due.2
+due_status (Some (run r)) holds answer due = status_run r r.log holds answer due
+due_status (Some (list_points name)) holds answer due = status_points (image_of due.0) answer due.2
+due_status (Some (assemble name)) holds answer due = not_yet answer due
+due_status (Some later) holds answer due = not_yet answer due
 
-unreadable_status : (o : Option RunWords) (holds : List ℕ → Holding) (before now : List ℕ → ℕ) (answer : Answer) → IsUnreadableFor o holds before now answer → answer.status ≡ 3
+unreadable_run : (r : RunRequest) (log : Option (List ℕ)) (holds : List ℕ → Holding) (before now : List ℕ → ℕ) (answer : Answer) → IsRunUnreadable r log holds before now answer → answer.status ≡ 3
+unreadable_run r (Some log) holds before now answer u = absurd u
+unreadable_run r None holds before now answer (inl fault) = ap (λ a. a.status) fault.1
+unreadable_run r None holds before now answer (inr conf) = ap (λ a. a.status) conf.3.1
+
+unreadable_status : (o : Option Request) (holds : List ℕ → Holding) (before now : List ℕ → ℕ) (answer : Answer) → IsUnreadableFor o holds before now answer → answer.status ≡ 3
 unreadable_status None holds before now answer u = absurd u
-unreadable_status (Some w) holds before now answer (inl fault) = ap (λ a. a.status) fault.1
-unreadable_status (Some w) holds before now answer (inr later) = ap (λ a. a.status) later.3.1
+unreadable_status (Some (run r)) holds before now answer u = unreadable_run r r.log holds before now answer u
+unreadable_status (Some (list_points name)) holds before now answer u = ap (λ a. a.status) u.1
+unreadable_status (Some (assemble name)) holds before now answer u = absurd u
+unreadable_status (Some later) holds before now answer u = absurd u
 
 no_due_status : (s : ℕ) → s ≡ 3 → IsDueStatus s → ⊥
 no_due_status s e (inl z) = omega arith
 no_due_status s e (inr (inl z)) = omega arith
-no_due_status s e (inr (inr z)) = omega arith
+no_due_status s e (inr (inr (inl z))) = omega arith
+no_due_status s e (inr (inr (inr z))) = omega arith
 
 none_of : (t s : ℕ) → 6 < s → s < 10 → t ≡ s → (t ≡ 3) ⊎ IsDueStatus t → ⊥
 none_of t s low high e (inl z) = omega arith
 none_of t s low high e (inr (inl z)) = omega arith
 none_of t s low high e (inr (inr (inl z))) = omega arith
-none_of t s low high e (inr (inr (inr z))) = omega arith
+none_of t s low high e (inr (inr (inr (inl z)))) = omega arith
+none_of t s low high e (inr (inr (inr (inr z)))) = omega arith
 
-module _ (o : Option RunWords) (holds : List ℕ → Holding) (before now : List ℕ → ℕ) (answer : Answer) where
+module _ (o : Option Request) (holds : List ℕ → Holding) (before now : List ℕ → ℕ) (answer : Answer) where
   abbrev IsEither : Type 0
   IsEither = IsDueFor o holds answer ⊎ IsUnreadableFor o holds before now answer
 

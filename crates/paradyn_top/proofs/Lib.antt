@@ -1,2 +1,2 @@
-pub mod RunningLemmas
 pub mod DueLemmas
+pub mod SizedTexts

@@ -1,22 +1,20 @@
 -- What the top call owes for words and files.
-use Rattle.std.specs.Prelude.{◌≡◌, ◌⊎◌, ◌+◌, ◌/◌, ℕ, ◌==◌, ◌&&◌, Bool, true, false, not, if◌then◌else◌, IsSome, List, [], ◌∷◌, codes, map, sum_by, Option, None, Some}
-use Rattle.std.specs.Str.{bytes_eq}
+use Rattle.std.specs.Prelude.{◌≡◌, ◌⊎◌, ℕ, IsOk, List, [], ◌∷◌, Option, None, Some, Result, Ok, Err}
 use Rattle.pn_types.specs.declared.image.Image.{Image}
-use Rattle.pn_types.specs.declared.stop.StopText.{StopText}
-use Rattle.pn_types.specs.declared.stop.StopText.TheVariants as ended
-use Rattle.rv_word.specs.declared.outcome.Cause.{Cause}
-use Rattle.rv_word.specs.declared.outcome.Cause.TheVariants as cause
-use Rattle.rv_word.specs.Plain.{PlainHart, Plain}
-use Rattle.rv_exec.specs.Run.{run, IsWholeRun}
-use Rattle.report.specs.declared.parts.HartPart.{HartPart}
-use Rattle.report.specs.declared.parts.ReportParts.{ReportParts}
-use Rattle.report.specs.Text.{report_text}
+use Rattle.report.specs.Points.{points_text}
+use Rattle.code_points.specs.Points.{points_of}
+use Rattle.code_points.specs.Procedures.{procedures_of, skipped_of}
+use Rattle.command_words.specs.Requests.{Request, RunRequest, run, assemble, list_points, later, request_of}
+use Rattle.command_words.specs.declared.settings.Settings.{Settings}
+use Rattle.plain_report.specs.Reports.{IsReport}
+use Rattle.plain_report.specs.declared.settings.RunSettings.{RunSettings}
 use Rattle.outside.specs.Causes.{Rose}
 use Rattle.outside.specs.Outside.{Holding, IsWhole}
 use Rattle.paradyn_top.specs.declared.faults.Fault.{Fault}
-use Rattle.paradyn_top.specs.declared.faults.Fault.TheVariants.{Usage, FileFault, NotYet}
+use Rattle.paradyn_top.specs.declared.faults.Fault.TheVariants.{Usage, FileFault, BadProgram, NotYet}
+use Rattle.paradyn_top.specs.declared.faults.ProgramFault.{ProgramFault}
 use Rattle.paradyn_top.specs.Faults.{fault_line, fault_status}
-use Rattle.paradyn_top.specs.Elf.{image_of}
+use Rattle.paradyn_top.specs.Programs.{image_of}
 
 -- An answer: the status, the bytes for the output, and the bytes for the log.
 pub record Answer : Type 0 where
@@ -28,76 +26,57 @@ pub record Answer : Type 0 where
 abbrev pub refusal : Fault → Answer
 refusal fault = record { status = fault_status fault; out = fault_line fault; log = [] }
 
--- ---- the words
+-- a text that is the output at status 0
+abbrev pub success : List ℕ → Answer
+success text = record { status = 0; out = text; log = [] }
 
--- the names of the files of `run PROGRAM CONF`
-pub record RunWords : Type 0 where
-  pub program : List ℕ
-  pub conf : List ℕ
+-- ---- run
 
--- a word that begins with `-` is no name
-abbrev pub is_option : List ℕ → Bool
-is_option [] = false
-is_option (c ∷ cs) = c == 45
+abbrev pub run_settings : Settings → RunSettings
+run_settings s = record { harts = s.harts; seed = s.seed; quantum = s.quantum; budget = s.budget; width = s.width }
 
--- The words are accepted exactly where they are `run` and two names.
-abbrev pub run_words : List (List ℕ) → Option RunWords
-run_words (command ∷ program ∷ conf ∷ []) =
-    if bytes_eq command (codes "run") && not (is_option program) && not (is_option conf) then Some (record { program = program; conf = conf }) else None
-run_words [] = None
-run_words (command ∷ []) = None
-run_words (command ∷ program ∷ []) = None
-run_words (command ∷ program ∷ conf ∷ more ∷ rest) = None
+pub record IsReported (settings : Settings) (image : Image) (answer : Answer) : Type 0 where
+  pub text : List ℕ
+  pub report : IsReport image (run_settings settings) text
+  pub answered : answer ≡ success text
 
--- ---- the report of a run
+-- a configuration is accepted so far exactly where it has no bytes
+abbrev pub IsDueWith : Settings → Image → List ℕ → Answer → Type 0
+IsDueWith settings image [] answer = IsReported settings image answer
+IsDueWith settings image (b ∷ bs) answer = answer ≡ refusal NotYet
 
--- how a hart ended that isn't stopped, or is
-abbrev pub ended_by : Option Cause → StopText
-ended_by None = ended.Budget
-ended_by (Some (cause.Exit status)) = ended.Exit status
-ended_by (Some cause.Illegal) = ended.Illegal
-ended_by (Some cause.Break) = ended.Break
-ended_by (Some cause.Misaligned) = ended.Misaligned
-ended_by (Some (cause.Access at)) = ended.Access at
-ended_by (Some (cause.TextAccess at)) = ended.TextAccess at
-ended_by (Some cause.FetchOutside) = ended.FetchOutside
+-- for the image of a program, and the configuration of a name
+abbrev pub IsDueOn : Settings → Result Image ProgramFault → Holding → Answer → Type 0
+IsDueOn settings (Err fault) holding answer = answer ≡ refusal (BadProgram fault)
+IsDueOn settings (Ok image) holding answer = (text : List ℕ) × IsWhole holding text × IsDueWith settings image text answer
 
-abbrev pub hart_part : PlainHart → HartPart
-hart_part x = record { ticks = x.ticks; stop = ended_by x.stop; pc = x.pc }
+-- no log is written yet
+abbrev pub IsRunDue : RunRequest → Option (List ℕ) → (List ℕ → Holding) → Answer → Type 0
+IsRunDue r (Some log) holds answer = answer ≡ refusal NotYet
+IsRunDue r None holds answer = (bytes : List ℕ) × IsWhole (holds r.program) bytes × IsDueOn r.settings (image_of bytes) (holds r.conf) answer
 
--- the run's time: the ticks of all harts
-abbrev pub time_of : Plain → ℕ
-time_of s = sum_by (λ x. x.ticks) s.harts
+-- ---- points
 
--- what is reported of an ended run: there is a sample for each 1,000 ticks begun
-abbrev pub parts_of : Plain → ReportParts
-parts_of s = record { harts = map hart_part s.harts; samples = (time_of s + 999) / 1000; output = s.prog.out }
+abbrev pub points_answer : Result Image ProgramFault → Answer
+points_answer (Err fault) = refusal (BadProgram fault)
+points_answer (Ok image) = success (points_text (procedures_of image) (points_of image (procedures_of image)) (skipped_of image))
 
--- the report of the whole run of an image on one hart with 1,000,000 ticks
-pub record IsReport (image : Image) (answer : Answer) : Type 0 where
-  pub turns : List ℕ
-  pub whole : IsWholeRun image 1 1000000 turns
-  pub reported : answer ≡ record { status = 0; out = report_text (parts_of (run image 1 turns)) 0; log = [] }
+-- the points of the program of a name
+abbrev pub IsPointsDue : List ℕ → (List ℕ → Holding) → Answer → Type 0
+IsPointsDue name holds answer = (bytes : List ℕ) × IsWhole (holds name) bytes × (answer ≡ points_answer (image_of bytes))
 
 -- ---- what is due
 
--- a configuration is accepted so far exactly where it has no bytes
-abbrev pub IsDueWith : Image → List ℕ → Answer → Type 0
-IsDueWith image [] answer = IsReport image answer
-IsDueWith image (b ∷ bs) answer = answer ≡ refusal NotYet
-
--- for the image of a program, or none, and the configuration of a name
-abbrev pub IsDueOn : Option Image → Holding → Answer → Type 0
-IsDueOn None holding answer = answer ≡ refusal NotYet
-IsDueOn (Some image) holding answer = (text : List ℕ) × IsWhole holding text × IsDueWith image text answer
-
-abbrev pub IsDueFor : Option RunWords → (List ℕ → Holding) → Answer → Type 0
+abbrev pub IsDueFor : Option Request → (List ℕ → Holding) → Answer → Type 0
 IsDueFor None holds answer = answer ≡ refusal Usage
-IsDueFor (Some w) holds answer = (bytes : List ℕ) × IsWhole (holds w.program) bytes × IsDueOn (image_of bytes) (holds w.conf) answer
+IsDueFor (Some (run r)) holds answer = IsRunDue r r.log holds answer
+IsDueFor (Some (list_points name)) holds answer = IsPointsDue name holds answer
+IsDueFor (Some (assemble name)) holds answer = answer ≡ refusal NotYet
+IsDueFor (Some later) holds answer = answer ≡ refusal NotYet
 
--- The answer that is due for words and what the files hold: the first refusal, or the report.
+-- The answer that is due for words and what the files hold: the first refusal, or the text that was asked for.
 abbrev pub IsDue : List (List ℕ) → (List ℕ → Holding) → Answer → Type 0
-IsDue words holds answer = IsDueFor (run_words words) holds answer
+IsDue words holds answer = IsDueFor (request_of words) holds answer
 
 -- ---- files that cannot be read
 
@@ -106,13 +85,20 @@ abbrev pub NamesFault : List ℕ → (List ℕ → ℕ) → (List ℕ → ℕ) �
 NamesFault name before now answer = Rose (before name) (now name) × (answer ≡ refusal (FileFault name))
 
 -- the program could not be read; or it was read and accepted, and then the configuration could not be read
-abbrev pub IsUnreadableFor : Option RunWords → (List ℕ → Holding) → (List ℕ → ℕ) → (List ℕ → ℕ) → Answer → Type 0
+abbrev pub IsRunUnreadable : RunRequest → Option (List ℕ) → (List ℕ → Holding) → (List ℕ → ℕ) → (List ℕ → ℕ) → Answer → Type 0
+IsRunUnreadable r (Some log) holds before now answer = ⊥
+IsRunUnreadable r None holds before now answer =
+    NamesFault r.program before now answer
+    ⊎ ((bytes : List ℕ) × IsWhole (holds r.program) bytes × IsOk (image_of bytes) × NamesFault r.conf before now answer)
+
+abbrev pub IsUnreadableFor : Option Request → (List ℕ → Holding) → (List ℕ → ℕ) → (List ℕ → ℕ) → Answer → Type 0
 IsUnreadableFor None holds before now answer = ⊥
-IsUnreadableFor (Some w) holds before now answer =
-    NamesFault w.program before now answer
-    ⊎ ((bytes : List ℕ) × IsWhole (holds w.program) bytes × IsSome (image_of bytes) × NamesFault w.conf before now answer)
+IsUnreadableFor (Some (run r)) holds before now answer = IsRunUnreadable r r.log holds before now answer
+IsUnreadableFor (Some (list_points name)) holds before now answer = NamesFault name before now answer
+IsUnreadableFor (Some (assemble name)) holds before now answer = ⊥
+IsUnreadableFor (Some later) holds before now answer = ⊥
 
 -- The answer says that a file could not be read, which was to be read with no refusal before, and whose count of
 -- faults rose.
 abbrev pub IsUnreadable : List (List ℕ) → (List ℕ → Holding) → (List ℕ → ℕ) → (List ℕ → ℕ) → Answer → Type 0
-IsUnreadable words holds before now answer = IsUnreadableFor (run_words words) holds before now answer
+IsUnreadable words holds before now answer = IsUnreadableFor (request_of words) holds before now answer

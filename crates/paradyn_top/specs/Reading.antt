@@ -1,11 +1,12 @@
 -- What the reading of the two files gives.
-use Rattle.std.specs.Prelude.{◌≡◌, Bool, true, false, List, [], ◌∷◌, ℕ, Option}
+use Rattle.std.specs.Prelude.{◌≡◌, Bool, true, false, List, [], ◌∷◌, ℕ, Result}
 use Rattle.pn_types.specs.declared.image.Image.{Image}
 use Rattle.outside.specs.Outside.{Holding, IsWhole}
-use Rattle.paradyn_top.specs.Elf.{image_of}
+use Rattle.paradyn_top.specs.Programs.{image_of}
+use Rattle.paradyn_top.specs.declared.faults.ProgramFault.{ProgramFault}
 
--- the image, or none, of bytes that the file holds
-pub record GivesImage (holding : Holding) (image : Option Image) : Type 0 where
+-- the image, or why there is none, of bytes that the file holds
+pub record GivesImage (holding : Holding) (image : Result Image ProgramFault) : Type 0 where
   pub bytes : List ℕ
   pub whole : IsWhole holding bytes
   pub loads : image ≡ image_of bytes

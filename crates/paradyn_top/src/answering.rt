@@ -1,15 +1,18 @@
-ghost use Rattle.std.specs.Prelude.{◌≡◌, ◌⊎◌, List, ℕ, IfOk, map, string_bytes, Some};
+ghost use Rattle.std.specs.Prelude.{◌≡◌, ◌⊎◌, List, ℕ, IfOk, map, string_bytes, Some, None, Ok};
 ghost use Rattle.std.specs.List.{All};
 ghost use Rattle.rv_mem.specs.Start.{IsSized};
 ghost use Rattle.outside.specs.Outside.{IsCalm};
-ghost use Rattle.paradyn_top.specs.Due.{IsDue, IsDueFor, IsDueOn, IsUnreadable, IsUnreadableFor, NamesFault, refusal};
+ghost use Rattle.command_words.specs.Asked.{asked, asked_run};
+ghost use Rattle.command_words.specs.Requests.{AreInRange, HasRanges};
+ghost use Rattle.paradyn_top.specs.Due.{IsDue, IsDueFor, IsDueOn, IsRunDue, IsRunUnreadable, IsUnreadable, IsUnreadableFor, IsPointsDue, NamesFault, refusal};
 ghost use Rattle.paradyn_top.specs.Replies.{answer_of};
 
 use crate::faults::Fault;
+use crate::listing::list_points;
 use crate::reading::{Unread, read_configuration, read_program};
-use crate::reply::{Reply, refuse};
+use crate::reply::{Reply, refuse, succeed};
 use crate::running::run_image;
-use crate::words::run_names;
+use command_words::{Request, RunRequest, Settings, WordFault, read_request};
 use outside::Files;
 use pn_types::{Image, NoMemory, Text};
 use std::alloc::Global;
@@ -26,38 +29,75 @@ fn cannot_read(alloc: Global, name: &str) -> Result<Reply, NoMemory>
 fn answer_image<F: Files>(
     alloc: Global,
     image: &Image,
+    settings: &Settings,
     conf: &str,
     files: &mut F,
 ) -> Result<Reply, NoMemory>
-    requires { All IsSized image.now.segments }
-    ensures answer { IfOk result (λ reply. IsDueOn (Some image.now) (F.holds files.old conf.now) (answer_of reply)
+    requires segments { All IsSized image.now.segments }
+    requires settings { AreInRange settings.now }
+    ensures answer { IfOk result (λ reply. IsDueOn settings.now (Ok image.now) (F.holds files.old conf.now) (answer_of reply)
         ⊎ NamesFault conf.now (F.faults files.old) (F.faults files.new) (answer_of reply)) }
     ensures calm { IfOk result (λ reply. (reply.status ≡ 3 → ⊥) → IsCalm F.faults files.old files.new) }
 {
     match read_configuration(alloc, files, conf) {
-        Ok(true) => Ok(run_image(alloc, image)?),
+        Ok(true) => Ok(succeed(alloc, run_image(alloc, image, settings)?)),
         Ok(false) => Ok(refuse(alloc, &Fault::NotYet)?),
         Err(Unread::Failed) => Ok(cannot_read(alloc, conf)?),
         Err(Unread::NoMemory) => Err(NoMemory {}),
     }
 }
 
-/// The answer for the names of a program and a configuration.
+/// The answer for a run without a log.
 fn answer_run<F: Files>(
     alloc: Global,
-    program: &str,
-    conf: &str,
+    run: &RunRequest<'_>,
     files: &mut F,
 ) -> Result<Reply, NoMemory>
-    ensures answer { IfOk result (λ reply. IsDueFor (Some (record { program = program.now; conf = conf.now })) (F.holds files.old) (answer_of reply)
-        ⊎ IsUnreadableFor (Some (record { program = program.now; conf = conf.now })) (F.holds files.old) (F.faults files.old) (F.faults files.new) (answer_of reply)) }
+    requires { AreInRange run.now.settings }
+    ensures answer { IfOk result (λ reply. IsRunDue (asked_run run.now) None (F.holds files.old) (answer_of reply)
+        ⊎ IsRunUnreadable (asked_run run.now) None (F.holds files.old) (F.faults files.old) (F.faults files.new) (answer_of reply)) }
     ensures calm { IfOk result (λ reply. (reply.status ≡ 3 → ⊥) → IsCalm F.faults files.old files.new) }
 {
-    match read_program(alloc, files, program) {
-        Ok(Some(image)) => Ok(answer_image(alloc, &image, conf, files)?),
-        Ok(None) => Ok(refuse(alloc, &Fault::NotYet)?),
-        Err(Unread::Failed) => Ok(cannot_read(alloc, program)?),
+    match read_program(alloc, files, run.program) {
+        Ok(Ok(image)) => Ok(answer_image(alloc, &image, &run.settings, run.conf, files)?),
+        Ok(Err(fault)) => Ok(refuse(alloc, &Fault::BadProgram(fault))?),
+        Err(Unread::Failed) => Ok(cannot_read(alloc, run.program)?),
         Err(Unread::NoMemory) => Err(NoMemory {}),
+    }
+}
+
+/// The answer that lists the points of the program of a name.
+fn answer_points<F: Files>(alloc: Global, name: &str, files: &mut F) -> Result<Reply, NoMemory>
+    ensures answer { IfOk result (λ reply. IsPointsDue name.now (F.holds files.old) (answer_of reply)
+        ⊎ NamesFault name.now (F.faults files.old) (F.faults files.new) (answer_of reply)) }
+    ensures calm { IfOk result (λ reply. (reply.status ≡ 3 → ⊥) → IsCalm F.faults files.old files.new) }
+{
+    match read_program(alloc, files, name) {
+        Ok(Ok(image)) => Ok(succeed(alloc, list_points(alloc, &image)?)),
+        Ok(Err(fault)) => Ok(refuse(alloc, &Fault::BadProgram(fault))?),
+        Err(Unread::Failed) => Ok(cannot_read(alloc, name)?),
+        Err(Unread::NoMemory) => Err(NoMemory {}),
+    }
+}
+
+/// The answer for a request.
+fn answer_request<F: Files>(
+    alloc: Global,
+    request: &Request<'_>,
+    files: &mut F,
+) -> Result<Reply, NoMemory>
+    requires { HasRanges (asked request.now) }
+    ensures answer { IfOk result (λ reply. IsDueFor (Some (asked request.now)) (F.holds files.old) (answer_of reply)
+        ⊎ IsUnreadableFor (Some (asked request.now)) (F.holds files.old) (F.faults files.old) (F.faults files.new) (answer_of reply)) }
+    ensures calm { IfOk result (λ reply. (reply.status ≡ 3 → ⊥) → IsCalm F.faults files.old files.new) }
+{
+    match request {
+        Request::Run(run) => match run.log {
+            None => Ok(answer_run(alloc, run, files)?),
+            Some(_) => Ok(refuse(alloc, &Fault::NotYet)?),
+        },
+        Request::Points(name) => Ok(answer_points(alloc, name, files)?),
+        Request::Asm(_) | Request::Later => Ok(refuse(alloc, &Fault::NotYet)?),
     }
 }
 
@@ -67,8 +107,9 @@ pub fn answer<F: Files>(alloc: Global, words: &[String], files: &mut F) -> Resul
         ⊎ IsUnreadable (map string_bytes words.now) (F.holds files.old) (F.faults files.old) (F.faults files.new) (answer_of reply)) }
     ensures calm { IfOk result (λ reply. (reply.status ≡ 3 → ⊥) → IsCalm F.faults files.old files.new) }
 {
-    let Some(names) = run_names(words) else {
-        return Ok(refuse(alloc, &Fault::Usage)?);
-    };
-    Ok(answer_run(alloc, names.program, names.conf, files)?)
+    match read_request(alloc, words) {
+        Ok(request) => Ok(answer_request(alloc, &request, files)?),
+        Err(WordFault::Usage) => Ok(refuse(alloc, &Fault::Usage)?),
+        Err(WordFault::NoMemory) => Err(NoMemory {}),
+    }
 }

@@ -3,16 +3,15 @@
 
 mod answering;
 mod delivery;
-mod elf;
 mod faults;
+mod listing;
 mod loading;
 mod reading;
 mod reply;
 mod running;
 mod top;
-mod words;
 
-pub use faults::{Fault, faults_text};
+pub use faults::{Fault, ProgramFault, faults_text};
 pub use top::serve;
 
 #[cfg(test)]

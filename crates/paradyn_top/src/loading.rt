@@ -1,93 +1,60 @@
-ghost use Rattle.std.specs.Prelude.{◌≡◌, IfOk, IfSome};
+ghost use Rattle.std.specs.Prelude.{◌≡◌, ◌≢◌, ◌≤◌, IfOk, MatchResult, Ok, Err, length};
 ghost use Rattle.std.specs.List.{All};
 ghost use Rattle.rv_mem.specs.Start.{IsSized};
-ghost use Rattle.paradyn_top.specs.Elf.{image_of, image_under, image_at, image_with};
+ghost use Rattle.elf_form.specs.Meaning.{meaning_of};
+ghost use Rattle.rv_asm.specs.Assembly.{assembled};
+ghost use Rattle.paradyn_top.specs.Programs.{begins_elf, elf_image, text_image, image_of};
 
-use crate::elf::{
-    Header, ProgramHeader, SectionHeader, file_header, program_header_at, section_header_at,
-};
-use pn_types::{Image, NoMemory, Segment, Seq};
-use rv_word::first_scratch;
+use crate::faults::ProgramFault;
+use elf_form::ElfFault;
+use pn_types::{Image, NoMemory};
+use rv_asm::{AsmFault, assemble};
 use std::alloc::Global;
 
 /// The greatest length of a program file in bytes.
 pub const PROGRAM_LIMIT: u64 = 33_554_432;
 
-/// The image of the one segment, with its text and entry.
-fn image_of_parts(
-    alloc: Global,
-    part: &[u8],
-    segment: &ProgramHeader,
-    text: &SectionHeader,
-    entry: u64,
-) -> Result<Image, NoMemory>
-    ensures { IfOk result (λ image. image ≡ image_with part.now segment.now text.now entry) }
+/// Whether the bytes begin as those of an ELF file.
+fn begins_elf(bytes: &[u8]) -> bool
+    ensures { result ≡ begins_elf bytes.now }
 {
-    let mut segments = Vec::new(alloc);
-    segments.push(Segment {
-        at: segment.address,
-        bytes: Seq::from_vec(part.to_vec(alloc)?),
-        size: segment.memory_size,
-    })?;
-    Ok(Image {
-        segments: Seq::from_vec(segments),
-        text_at: text.address,
-        text_len: text.size,
-        entry,
-        symbols: Seq::from_vec(Vec::new(alloc)),
-    })
+    4 <= bytes.len() && &bytes[..4] == b"\x7fELF".as_slice()
 }
 
-/// The image of these tables, where it is accepted.
-fn load_parts(
-    alloc: Global,
-    bytes: &[u8],
-    entry: u64,
-    segment: &ProgramHeader,
-    null: &SectionHeader,
-    text: &SectionHeader,
-) -> Result<Option<Image>, NoMemory>
-    ensures image { IfOk result (λ image. image ≡ image_at bytes.now entry segment.now null.now text.now) }
-    ensures sized { IfOk result (λ image. IfSome image (λ i. All IsSized i.segments)) }
+/// The image of an ELF file, or its fault.
+fn load_elf(alloc: Global, bytes: &[u8]) -> Result<Result<Image, ProgramFault>, NoMemory>
+    ensures image { IfOk result (λ image. image ≡ elf_image (meaning_of bytes.now)) }
+    ensures sized { IfOk result (λ image. IfOk image (λ i. All IsSized i.segments)) }
 {
-    if !segment.is_loadable(bytes.len() as u64) {
-        return Ok(None);
+    match elf_load::load(alloc, bytes) {
+        Ok(image) => Ok(Ok(image)),
+        Err(ElfFault::NoMemory) => Err(NoMemory {}),
+        Err(fault) => Ok(Err(ProgramFault::Elf(fault))),
     }
-    if !null.is_null() || !text.is_text(segment) || !text.has_entry(entry) {
-        return Ok(None);
-    }
-    let start = segment.offset as usize;
-    let part = &bytes[start..start + segment.file_size as usize];
-    let from = (text.address - segment.address) as usize;
-    let words = &part[from..from + text.size as usize];
-    if first_scratch(words, text.address).is_some() {
-        return Ok(None);
-    }
-    Ok(Some(image_of_parts(alloc, part, segment, text, entry)?))
 }
 
-/// The image under a file header, where it is accepted.
-fn load_tables(alloc: Global, bytes: &[u8], header: &Header) -> Result<Option<Image>, NoMemory>
-    ensures image { IfOk result (λ image. image ≡ image_under bytes.now header.now) }
-    ensures sized { IfOk result (λ image. IfSome image (λ i. All IsSized i.segments)) }
+/// The image of an assembly text, or its fault.
+fn load_text(alloc: Global, bytes: &[u8]) -> Result<Result<Image, ProgramFault>, NoMemory>
+    requires { length bytes.now ≤ 33554432 }
+    ensures image { IfOk result (λ image. image ≡ text_image (assembled bytes.now)) }
+    ensures sized { IfOk result (λ image. IfOk image (λ i. All IsSized i.segments)) }
 {
-    if !header.is_riscv64() || !header.has_tables() || !header.tables_fit(bytes.len() as u64) {
-        return Ok(None);
+    match assemble(alloc, bytes) {
+        Ok(image) => Ok(Ok(image)),
+        Err(AsmFault::NoMemory) => Err(NoMemory {}),
+        Err(fault) => Ok(Err(ProgramFault::Asm(fault))),
     }
-    let segment = program_header_at(bytes, header.program_headers as usize);
-    let sections = header.section_headers as usize;
-    let null = section_header_at(bytes, sections);
-    let text = section_header_at(bytes, sections + 64);
-    load_parts(alloc, bytes, header.entry, &segment, &null, &text)
 }
 
-/// The image of a program file, or none where the file isn't accepted.
-pub fn load(alloc: Global, bytes: &[u8]) -> Result<Option<Image>, NoMemory>
+/// The image of a program's bytes, or why there is none.
+pub fn load(alloc: Global, bytes: &[u8]) -> Result<Result<Image, ProgramFault>, NoMemory>
+    requires { length bytes.now ≤ 33554432 }
     ensures image { IfOk result (λ image. image ≡ image_of bytes.now) }
-    ensures sized { IfOk result (λ image. IfSome image (λ i. All IsSized i.segments)) }
+    ensures sized { IfOk result (λ image. IfOk image (λ i. All IsSized i.segments)) }
 {
-    if bytes.len() as u64 > PROGRAM_LIMIT || bytes.len() < 64 {
-        return Ok(None);
+    if begins_elf(bytes) {
+        load_elf(alloc, bytes)
+    } else {
+        load_text(alloc, bytes)
     }
-    load_tables(alloc, bytes, &file_header(bytes))
 }

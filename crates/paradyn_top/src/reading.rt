@@ -1,10 +1,11 @@
-ghost use Rattle.std.specs.Prelude.{◌≡◌, IsErrOf, IfOk, IfSome};
+ghost use Rattle.std.specs.Prelude.{◌≡◌, IsErrOf, IfOk};
 ghost use Rattle.std.specs.List.{All};
 ghost use Rattle.outside.specs.Causes.{Rose};
 ghost use Rattle.outside.specs.Outside.{ReadsOnly, IsCalm};
 ghost use Rattle.rv_mem.specs.Start.{IsSized};
 ghost use Rattle.paradyn_top.specs.Reading.{GivesImage, GivesEmpty};
 
+use crate::faults::ProgramFault;
 use crate::loading::{PROGRAM_LIMIT, load};
 use outside::{Files, ReadFault, read_whole};
 use pn_types::{Image, NoMemory};
@@ -33,21 +34,21 @@ impl From<NoMemory> for Unread {
     }
 }
 
-/// Reads a program file, and gives its image, or none where the file isn't accepted.
+/// Reads a program file, and gives its image, or why it has none.
 pub fn read_program<F: Files>(
     alloc: Global,
     files: &mut F,
     name: &str,
-) -> Result<Option<Image>, Unread>
+) -> Result<Result<Image, ProgramFault>, Unread>
     ensures image { IfOk result (λ image. GivesImage (F.holds files.old name.now) image) }
-    ensures sized { IfOk result (λ image. IfSome image (λ i. All IsSized i.segments)) }
+    ensures sized { IfOk result (λ image. IfOk image (λ i. All IsSized i.segments)) }
     ensures reads { ReadsOnly F.holds F.faults name.now files.old files.new }
     ensures cause { IsErrOf result Unread.Failed → Rose (F.faults files.old name.now) (F.faults files.new name.now) }
     ensures calm { (result ≡ Err Unread.Failed → ⊥) → IsCalm F.faults files.old files.new }
 {
     match read_whole(alloc, files, name, PROGRAM_LIMIT) {
         Ok(bytes) => Ok(load(alloc, &bytes)?),
-        Err(ReadFault::TooLong) => Ok(None),
+        Err(ReadFault::TooLong) => Ok(Err(ProgramFault::TooLong)),
         Err(ReadFault::NoMemory) => Err(Unread::NoMemory),
         Err(ReadFault::Outside) => Err(Unread::Failed),
     }

@@ -1,5 +1,5 @@
 ghost use Rattle.std.specs.Prelude.{◌≡◌, IfOk};
-ghost use Rattle.paradyn_top.specs.Due.{refusal};
+ghost use Rattle.paradyn_top.specs.Due.{refusal, success};
 ghost use Rattle.paradyn_top.specs.Replies.{answer_of};
 
 use crate::faults::{Fault, faults_text};
@@ -23,4 +23,15 @@ pub fn refuse(alloc: Global, fault: &Fault) -> Result<Reply, NoMemory>
         out: faults_text(alloc, fault)?,
         log: Vec::new(alloc),
     })
+}
+
+/// The answer that gives a text.
+pub fn succeed(alloc: Global, text: Vec<u8>) -> Reply
+    ensures { answer_of result ≡ success text.items }
+{
+    Reply {
+        status: 0,
+        out: text,
+        log: Vec::new(alloc),
+    }
 }

@@ -1,5 +1,8 @@
 //! Runs of the top call over files and sinks in memory.
 
+mod elf;
+mod texts;
+
 use super::*;
 use outside::{DropSink, MemFiles, MemSink, SureFiles, SureSink};
 use pn_types::Text;
@@ -43,15 +46,75 @@ fn words(alloc: Global, text: &[&str]) -> Result<Vec<String>, AllocError> {
     Ok(words)
 }
 
-/// The status and the output of `run p.elf empty.conf` on a program file and a configuration.
-fn run(alloc: Global, file: Vec<u8>, conf: &[u8]) -> Result<(u8, SureSink), AllocError> {
+/// The status and the output of words on a program file and a configuration.
+fn serve_words(
+    alloc: Global,
+    text: &[&str],
+    file: Vec<u8>,
+    conf: &[u8],
+) -> Result<(u8, SureSink), AllocError> {
     let mut files = SureFiles::new(alloc);
     files.give(alloc, "p.elf", file)?;
     files.give(alloc, "empty.conf", conf.to_vec(alloc)?)?;
     let mut out = SureSink::new(alloc, 4096)?;
-    let words = words(alloc, &["run", "p.elf", "empty.conf"])?;
+    let words = words(alloc, text)?;
     let status = serve(alloc, &words, &mut files, &mut out, &mut DropSink);
     Ok((status, out))
+}
+
+/// The status and the output of `run p.elf empty.conf` on a program file and a configuration.
+fn run(alloc: Global, file: Vec<u8>, conf: &[u8]) -> Result<(u8, SureSink), AllocError> {
+    serve_words(alloc, &["run", "p.elf", "empty.conf"], file, conf)
+}
+
+/// Harts and options against their reports.
+#[test]
+fn harts_take_their_quanta(rt: HostRuntime) -> Result<(), Fail> {
+    let alloc = rt.alloc();
+    let (status, out) = serve_words(
+        alloc,
+        &[
+            "run",
+            "p.elf",
+            "empty.conf",
+            "--harts",
+            "2",
+            "--quantum",
+            "1",
+        ],
+        program(alloc, EXIT)?,
+        b"",
+    )?;
+    assert_eq!(rt; status, 0);
+    assert_eq!(rt;
+        out.bytes(),
+        b"paradyn report 1\nharts 2 ticks 6 samples 1 skipped 0\nhart 0 ticks 3 exit 0 at 0x10008\nhart 1 ticks 3 exit 0 at 0x10008\noutput 0\n\n".as_slice()
+    );
+    // j 0
+    let (status, out) = serve_words(
+        alloc,
+        &[
+            "run",
+            "--budget=65",
+            "p.elf",
+            "--width=1",
+            "empty.conf",
+            "--quantum=1",
+        ],
+        program(alloc, b"\x6f\0\0\0")?,
+        b"",
+    )?;
+    assert_eq!(rt; status, 0);
+    assert_eq!(rt;
+        out.bytes(),
+        b"paradyn report 1\nharts 1 ticks 65 samples 65 skipped 0\nhart 0 ticks 65 budget at 0x10000\noutput 0\n\n".as_slice()
+    );
+    let (status, out) = serve_words(alloc, &["points", "p.elf"], program(alloc, EXIT)?, b"")?;
+    assert_eq!(rt;
+        (status, out.bytes()),
+        (0, b"points 0 skipped 0\n".as_slice())
+    );
+    Ok(())
 }
 
 #[test]
@@ -90,15 +153,13 @@ fn refusals_have_their_line(rt: HostRuntime) -> Result<(), Fail> {
         (status, out.bytes()),
         (10, b"paradyn: not yet\n".as_slice())
     );
-    let (status, out) = run(alloc, Vec::new(alloc), b"")?;
-    assert_eq!(rt;
-        (status, out.bytes()),
-        (10, b"paradyn: not yet\n".as_slice())
-    );
     for text in [
         ["run", "p.elf"].as_slice(),
         &[],
         &["run", "-p", "c"],
+        &["run", "p", "c", "--harts", "17"],
+        &["run", "p", "c", "--harts", "2", "--harts", "2"],
+        &["asm"],
         &["walk", "p", "c"],
     ] {
         let mut out = SureSink::new(alloc, 100)?;

@@ -1,0 +1,7 @@
+pub mod WordKinds
+pub mod Rows
+pub mod Walks
+pub mod Fitting
+pub mod Simple
+pub mod Reading
+pub mod Ranges

@@ -1,0 +1,70 @@
+-- The commands are simple ones, and the words of a command line are texts.
+use Rattle.std.proofs.Common.{◌≡◌, true, refl, ap, sym, subst, ◌∙◌, inl, inr, None, List, [], ◌∷◌, drop, map, string_bytes}
+use Rattle.std.specs.Prelude.{String}
+use Rattle.std.proofs.lemmas.Str.{IsUtf8-string_bytes}
+use Rattle.clap.specs.Words.{App, Row, Kinds, HasKind, IsAmong, HasMatchesOf, fault_of, is_simple, is_simple_and_free, matches_of, first_of, found_of, kind_of}
+use Rattle.clap.specs.declared.error.Error.{Error}
+use Rattle.clap.specs.declared.error.kind.ErrorKind.TheVariants as kind
+use Rattle.clap.specs.declared.parser.matches.ArgMatches.{ArgMatches}
+use Rattle.clap.proofs.WalkLemmas.{first_value-rows}
+use Rattle.command_words.specs.Asked.{Holds}
+use Rattle.command_words.specs.Apps.{app_for}
+use Rattle.command_words.specs.Grammar.{taken_of}
+use Rattle.command_words.specs.Requests.{form_of}
+use Rattle.command_words.specs.declared.commands.CommandName.{CommandName}
+use Rattle.command_words.specs.declared.commands.CommandName.TheVariants.{Run, Live, Replay, Asm, Points, Plan, Stress}
+use Rattle.command_words.proofs.Walks.{AreUtf8, Agrees}
+use Rattle.command_words.proofs.Fitting.{agrees_for, first_of-row, taken_from, none_from}
+
+pub is_simple_for : (name : CommandName) → is_simple (app_for name) ≡ true
+is_simple_for Run = refl
+is_simple_for Live = refl
+is_simple_for Replay = refl
+is_simple_for Asm = refl
+is_simple_for Points = refl
+is_simple_for Plan = refl
+is_simple_for Stress = refl
+
+pub is_free_for : (name : CommandName) → is_simple_and_free (app_for name) ≡ true
+is_free_for Run = refl
+is_free_for Live = refl
+is_free_for Replay = refl
+is_free_for Asm = refl
+is_free_for Points = refl
+is_free_for Plan = refl
+is_free_for Stress = refl
+
+texts_utf8 : {Z : Type 0} (words : List (String Z)) → AreUtf8 (map string_bytes words)
+texts_utf8 [] = tt
+texts_utf8 (word ∷ words) = (IsUtf8-string_bytes word, texts_utf8 words)
+
+rest_utf8 : {Z : Type 0} (words : List (String Z)) → AreUtf8 (drop 1 (map string_bytes words))
+rest_utf8 [] = tt
+rest_utf8 (word ∷ words) = texts_utf8 words
+
+module _ {Z : Type 0} (name : CommandName) (words : List (String Z)) (app : App) (same : app ≡ app_for name) where
+  -- what clap says of the words behind a command's own
+  agrees_words : Agrees (taken_of (form_of name) (drop 1 (map string_bytes words))) (fault_of (app_for name) (map string_bytes words)) (matches_of (app_for name) (map string_bytes words))
+  agrees_words = agrees_for name (map string_bytes words) (rest_utf8 words)
+
+  free : is_simple_and_free app ≡ true
+  free = ap is_simple_and_free same ∙ is_free_for name
+
+  pub holds_from : (m : ArgMatches) → (is_simple_and_free app ≡ true → fault_of app (map string_bytes words) ≡ []) → HasMatchesOf app (map string_bytes words) m →
+      Holds (form_of name) (drop 1 (map string_bytes words)) m
+  holds_from m kinds matches =
+      let t = taken_from _ _ _ agrees_words (ap (λ (a : App). fault_of a (map string_bytes words)) (sym same) ∙ kinds free) in
+      let rows = (matches (ap is_simple same ∙ is_simple_for name)).0 ∙ ap (λ (a : App). matches_of a (map string_bytes words)) same ∙ t.2 in
+      record {
+        taken = t.0;
+        reads = t.1;
+        given = λ n. first_value-rows (found_of m) n ∙ ap (λ (rs : List Row). first_of n rs) rows ∙ first_of-row n t.0;
+      }
+
+  pub none_taken : (e : Error) → (is_simple_and_free app ≡ true → HasKind (fault_of app (map string_bytes words)) e) → (kind_of e ≡ kind.OutOfMemory → ⊥) →
+      taken_of (form_of name) (drop 1 (map string_bytes words)) ≡ None
+  none_taken e kinds other = none_from _ _ _ agrees_words (λ k. go (kinds free) k)
+    where
+      go : HasKind (fault_of app (map string_bytes words)) e → fault_of (app_for name) (map string_bytes words) ≡ [] → ⊥
+      go (inl memory) k = other memory
+      go (inr among) k = subst (λ (ks : Kinds). IsAmong (kind_of e) ks) (ap (λ (a : App). fault_of a (map string_bytes words)) same ∙ k) among

@@ -1,0 +1,29 @@
+-- What a request's value asks for, and what clap's matches give.
+use Rattle.std.specs.Prelude.{◌≡◌, List, Some, option_map}
+use Rattle.clap.specs.Words.{first_value, found_of}
+use Rattle.clap.specs.declared.parser.matches.ArgMatches.{ArgMatches}
+use Rattle.command_words.specs.Grammar.{Text, Form, Taken, taken_of}
+use Rattle.command_words.specs.Requests as request
+use Rattle.command_words.specs.Requests.{Given, given_in}
+use Rattle.command_words.specs.declared.requests.Request.{Request}
+use Rattle.command_words.specs.declared.requests.Request.TheVariants.{Run, Asm, Points, Later}
+use Rattle.command_words.specs.declared.requests.RunRequest.{RunRequest}
+
+abbrev pub asked_run : RunRequest → request.RunRequest
+asked_run r = record { program = r.program.now; conf = r.conf.now; settings = r.settings; log = option_map (λ s. s.now) r.log }
+
+abbrev pub asked : Request → request.Request
+asked (Run r) = request.run (asked_run r)
+asked (Asm text) = request.assemble text.now
+asked (Points program) = request.list_points program.now
+asked Later = request.later
+
+-- the values that clap's matches hold
+abbrev pub given_by : ArgMatches → Given
+given_by matches name = first_value (found_of matches) name
+
+-- the matches hold what the words of a form give
+pub record Holds (form : Form) (words : List Text) (matches : ArgMatches) : Type 0 where
+  pub taken : Taken
+  pub reads : taken_of form words ≡ Some taken
+  pub given : (name : Text) → given_by matches name ≡ given_in taken name

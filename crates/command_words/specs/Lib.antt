@@ -1,0 +1,4 @@
+pub mod Grammar
+pub mod Requests
+pub mod Apps
+pub mod Asked

@@ -1,0 +1,5 @@
+pub mod FaultLemmas
+pub mod SortedLoads
+pub mod FoundText
+pub mod FoundSymbols
+pub mod AcceptedImages

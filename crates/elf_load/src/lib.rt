@@ -1,0 +1,13 @@
+//! Reads an ELF file for RISC-V into the image of a program.
+#![tactic(auto)]
+
+mod names;
+mod reading;
+mod segments;
+mod symbols;
+mod tables;
+#[cfg(test)]
+mod tests;
+mod text;
+
+pub use reading::load;

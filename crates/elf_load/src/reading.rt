@@ -1,0 +1,52 @@
+ghost use Rattle.std.specs.Prelude.{◌≡◌, IfOk, Ok, Err, None};
+ghost use Rattle.std.specs.List.{All};
+ghost use Rattle.elf_form.specs.Meaning.{meaning_of};
+ghost use Rattle.elf_form.specs.Accepted.{IsAccepted};
+ghost use Rattle.elf_form.specs.Headers.{header_fault};
+ghost use Rattle.elf_load.specs.Placed.{IsSized};
+ghost use Rattle.elf_load.specs.Means.{Means, MeansWith};
+
+use crate::segments::{check_segments, loads_of, segments_of};
+use crate::symbols::checked_symbols;
+use crate::tables::{checked_header, program_headers, section_headers};
+use crate::text::checked_text;
+use elf_form::{ElfFault, Load, SectionHeader};
+use pn_types::{Image, Seq};
+use std::alloc::Global;
+
+/// The image of a file with these tables, or its first fault.
+fn image_of(
+    alloc: Global,
+    bytes: &[u8],
+    entry: u64,
+    loads: &[Load],
+    sections: &[SectionHeader],
+) -> Result<Image, ElfFault>
+    requires { header_fault bytes.now ≡ None }
+    ensures { MeansWith bytes.now (record { entry = entry; loads = loads.now; sections = sections.now }) result }
+{
+    check_segments(loads, bytes.len() as u64)?;
+    let text = checked_text(bytes, loads, sections, entry)?;
+    let symbols = checked_symbols(alloc, bytes, sections)?;
+    let segments = segments_of(alloc, bytes, loads)?;
+    Ok(Image {
+        segments: Seq::from_vec(segments),
+        text_at: text.at,
+        text_len: text.end as u64 - text.at,
+        entry,
+        symbols: Seq::from_vec(symbols),
+    })
+}
+
+/// The image of an ELF file, or its first fault. Want of memory is the answer also where the names of its symbols have
+/// more than 67,108,864 bytes together.
+pub fn load(alloc: Global, bytes: &[u8]) -> Result<Image, ElfFault>
+    ensures meaning { Means result (meaning_of bytes.now) }
+    ensures accepted { IfOk result IsAccepted }
+    ensures sized { IfOk result (λ image. All IsSized image.segments) }
+{
+    let header = checked_header(bytes)?;
+    let loads = loads_of(alloc, &program_headers(alloc, bytes, &header)?)?;
+    let sections = section_headers(alloc, bytes, &header)?;
+    image_of(alloc, bytes, header.entry, &loads, &sections)
+}

@@ -1,0 +1,9 @@
+pub mod Lengths
+pub mod Entries
+pub mod FieldsAgain
+pub mod TablesAgain
+pub mod PartsAgain
+pub mod SegmentsAgain
+pub mod TextAgain
+pub mod SymbolsAgain
+pub mod ReadAgain

@@ -1,0 +1,29 @@
+-- The image of a program file.
+use Rattle.std.specs.Prelude.{ℕ, ◌&&◌, nat_le, nat_lt, if◌then◌else◌, Bool, List, [], ◌∷◌, length, take, Result, Ok, Err}
+use Rattle.std.specs.Str.{bytes_eq}
+use Rattle.pn_types.specs.declared.image.Image.{Image}
+use Rattle.elf_form.specs.Meaning.{meaning_of}
+use Rattle.elf_form.specs.declared.fault.ElfFault.{ElfFault}
+use Rattle.rv_asm.specs.Assembly.{assembled}
+use Rattle.rv_asm.specs.declared.fault.AsmFault.{AsmFault}
+use Rattle.paradyn_top.specs.declared.faults.ProgramFault.{ProgramFault}
+use Rattle.paradyn_top.specs.declared.faults.ProgramFault.TheVariants.{Elf, Asm, TooLong}
+
+-- the bytes begin with 0x7f and `ELF`
+abbrev pub begins_elf : List ℕ → Bool
+begins_elf bytes = nat_le 4 (length bytes) && bytes_eq (take 4 bytes) (127 ∷ 69 ∷ 76 ∷ 70 ∷ [])
+
+abbrev pub elf_image : Result Image ElfFault → Result Image ProgramFault
+elf_image (Ok image) = Ok image
+elf_image (Err fault) = Err (Elf fault)
+
+abbrev pub text_image : Result Image AsmFault → Result Image ProgramFault
+text_image (Ok image) = Ok image
+text_image (Err fault) = Err (Asm fault)
+
+-- The image of a program's bytes, which are an ELF file or assembly text, or its first fault.
+abbrev pub image_of : List ℕ → Result Image ProgramFault
+image_of bytes =
+    if nat_lt 33554432 (length bytes) then Err TooLong
+    else if begins_elf bytes then elf_image (meaning_of bytes)
+    else text_image (assembled bytes)

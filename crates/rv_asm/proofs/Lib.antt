@@ -1,0 +1,5 @@
+pub mod Sizes
+pub mod LineLabels
+pub mod Entries
+pub mod Strings
+pub mod Codes

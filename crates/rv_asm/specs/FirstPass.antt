@@ -1,0 +1,166 @@
+-- The first pass: the lines in order, each with its place, and the first that is faulty.
+use Rattle.std.specs.Prelude.{ℕ, ◌+◌, nat_le, not, if◌then◌else◌, Bool, Option, Some, None, is_some, Result, Ok, Err, List, [], ◌∷◌, ◌++◌, length, codes}
+use Rattle.rv_asm.specs.declared.fault.AsmFault.{AsmFault}
+use Rattle.rv_asm.specs.declared.fault.AsmFault.TheVariants.{BadLine, BadNumber, UsesScratch, TwiceNamed}
+use Rattle.rv_asm.specs.declared.draft.MarkKind.{MarkKind}
+use Rattle.rv_asm.specs.declared.draft.MarkKind.TheVariants as kind
+use Rattle.rv_asm.specs.declared.statement.Section.{Section}
+use Rattle.rv_asm.specs.declared.statement.Section.TheVariants as section
+use Rattle.rv_asm.specs.declared.statement.Statement.{Statement}
+use Rattle.rv_asm.specs.declared.statement.Statement.TheVariants as the
+use Rattle.rv_asm.specs.Registers.{named}
+use Rattle.rv_asm.specs.Parsing.{Line, line_of}
+use Rattle.rv_asm.specs.Checks.{in_text, stands, numbers_fit, has_x31}
+use Rattle.rv_asm.specs.Layout.{len_of}
+
+infixl 10 ◌>>=◌
+abbrev pub ◌>>=◌ : {A B : Type 0} → Result A AsmFault → (A → Result B AsmFault) → Result B AsmFault
+(Ok a) >>= f = f a
+(Err fault) >>= f = Err fault
+
+-- ---- what the pass knows
+
+-- a statement, its line and its address, with the name or the string that it has
+pub record Placed : Type 0 where
+  pub line : ℕ
+  pub at : ℕ
+  pub statement : Statement
+  pub text : List ℕ
+
+-- a procedure or an object that begins at an address
+pub record Mark : Type 0 where
+  pub name : List ℕ
+  pub kind : MarkKind
+  pub at : ℕ
+  pub «module» : List ℕ
+
+-- what the lines so far make: where each section ends, the line of the open procedure, the names and their addresses,
+-- the procedures and objects, where the procedures end, and the statements of each section
+pub record Draft : Type 0 where
+  pub section : Section
+  pub text_end : ℕ
+  pub data_end : ℕ
+  pub opened : Option ℕ
+  pub «module» : List ℕ
+  pub labels : List (List ℕ × ℕ)
+  pub marks : List Mark
+  pub ends : List ℕ
+  pub text_part : List Placed
+  pub data_part : List Placed
+
+abbrev pub text_start : ℕ
+text_start = 0x10000
+
+abbrev pub data_start : ℕ
+data_start = 0x1000000
+
+abbrev pub program : List ℕ
+program = codes "program"
+
+-- before the first line
+abbrev pub blank_draft : Draft
+blank_draft =
+    record {
+      section = section.Text;
+      text_end = text_start;
+      data_end = data_start;
+      opened = None;
+      «module» = program;
+      labels = [];
+      marks = [];
+      ends = [];
+      text_part = [];
+      data_part = [];
+    }
+
+-- the next address of the section
+abbrev pub here : Draft → ℕ
+here d = if in_text d.section then d.text_end else d.data_end
+
+-- ---- faults of one line, in their order
+
+abbrev pub faultless : ℕ → Section → Bool → Line → Result Line AsmFault
+faultless n s inside line =
+    if not (stands s inside line.statement) then Err (BadLine n)
+    else if not (numbers_fit line.statement) then Err (BadNumber n)
+    else if has_x31 s line.statement then Err (UsesScratch n)
+    else Ok line
+
+abbrev pub judged_form : ℕ → Section → Bool → Option Line → Result Line AsmFault
+judged_form n s inside None = Err (BadLine n)
+judged_form n s inside (Some line) = faultless n s inside line
+
+-- the line with this number, if it has a form, stands there, its numbers fit and it doesn't name x31
+unfoldable pub judged : ℕ → Section → Bool → List ℕ → Result Line AsmFault
+judged n s inside bytes = judged_form n s inside (line_of bytes)
+
+-- a name that is new
+abbrev pub define : ℕ → ℕ → List ℕ → List (List ℕ × ℕ) → Result (List (List ℕ × ℕ)) AsmFault
+define n at name labels = if is_some (named name labels) then Err (TwiceNamed n) else Ok (labels ++ ((name, at) ∷ []))
+
+abbrev pub define_all : ℕ → ℕ → List (List ℕ) → List (List ℕ × ℕ) → Result (List (List ℕ × ℕ)) AsmFault
+define_all n at [] labels = Ok labels
+define_all n at (name ∷ names) labels = do
+  more ← define n at name labels
+  define_all n at names more
+
+-- a procedure and an object define their names too
+abbrev pub define_own : ℕ → ℕ → Statement → List ℕ → List (List ℕ × ℕ) → Result (List (List ℕ × ℕ)) AsmFault
+define_own n at the.Procedure name labels = define n at name labels
+define_own n at (the.Object size) name labels = define n at name labels
+define_own n at other name labels = Ok labels
+
+-- ---- what a line adds
+
+-- a module's name of more than 200 bytes is no good one
+abbrev pub good_module : List ℕ → List ℕ
+good_module name = if nat_le (length name) 200 then name else program
+
+-- the statement stands at the end of its section
+abbrev pub placed_after : ℕ → Draft → Statement → List ℕ → Draft
+placed_after n d statement text =
+    if in_text d.section then
+    record d { text_part = d.text_part ++ (record { line = n; at = d.text_end; statement = statement; text = text } ∷ []); text_end = d.text_end + len_of d.text_end statement text }
+    else
+    record d { data_part = d.data_part ++ (record { line = n; at = d.data_end; statement = statement; text = text } ∷ []); data_end = d.data_end + len_of d.data_end statement text }
+
+-- something begins at an address
+abbrev pub marked : Draft → List ℕ → MarkKind → ℕ → Draft
+marked d name what at = record d { marks = d.marks ++ (record { name = name; kind = what; at = at; «module» = d.module } ∷ []) }
+
+-- the open procedure ends
+abbrev pub ended : Draft → Draft
+ended d = record d { opened = None; ends = d.ends ++ (d.text_end ∷ []) }
+
+unfoldable pub after : ℕ → Draft → Statement → List ℕ → Draft
+after n d the.Empty text = d
+after n d the.Text text = record d { section = section.Text }
+after n d the.Data text = record d { section = section.Data }
+after n d the.Procedure name = record (marked d name kind.Procedure d.text_end) { opened = Some n }
+after n d the.End text = ended d
+after n d (the.Object size) name = marked d name (kind.Object size.size) d.data_end
+after n d the.Module name = record d { «module» = good_module name }
+after n d (the.Value w number) text = placed_after n d (the.Value w number) text
+after n d (the.Zeros number) text = placed_after n d (the.Zeros number) text
+after n d (the.Align number) text = placed_after n d (the.Align number) text
+after n d the.Ascii text = placed_after n d the.Ascii text
+after n d (the.Instruction i) text = placed_after n d (the.Instruction i) text
+after n d (the.Numbered i number) text = placed_after n d (the.Numbered i number) text
+after n d (the.Jump i) text = placed_after n d (the.Jump i) text
+after n d (the.LoadNumber rd number) text = placed_after n d (the.LoadNumber rd number) text
+after n d (the.LoadAddress rd) text = placed_after n d (the.LoadAddress rd) text
+
+-- the line with this number
+unfoldable pub stepped : ℕ → Draft → List ℕ → Result Draft AsmFault
+stepped n d bytes = do
+  line ← judged n d.section (is_some d.opened) bytes
+  labels ← define_all n (here d) line.labels d.labels
+  all ← define_own n (here d) line.statement line.text labels
+  Ok (after n (record d { labels = all }) line.statement line.text)
+
+-- the lines from the one with this number on
+abbrev pub passed : ℕ → Draft → List (List ℕ) → Result Draft AsmFault
+passed n d [] = Ok d
+passed n d (line ∷ lines) = do
+  more ← stepped n d line
+  passed (n + 1) more lines

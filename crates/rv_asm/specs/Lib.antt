@@ -1,0 +1,16 @@
+pub mod Bytes
+pub mod Registers
+pub mod Numbers
+pub mod Tokens
+pub mod Operations
+pub mod Operands
+pub mod Statements
+pub mod Parsing
+pub mod Seen
+pub mod Checks
+pub mod Labels
+pub mod Layout
+pub mod FirstPass
+pub mod DraftSeen
+pub mod SecondPass
+pub mod Assembly

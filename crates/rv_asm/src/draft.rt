@@ -1,0 +1,210 @@
+//! What the first pass makes of the lines.
+
+ghost use Rattle.std.specs.Prelude.{◌≡◌, ◌≤◌, ◌<◌, ◌+◌, ◌^◌, true, IfOk, OnOk};
+ghost use Rattle.rv_asm.specs.Checks.{numbers_fit};
+ghost use Rattle.rv_asm.specs.FirstPass.{here, good_module, placed_after, marked, ended, after, blank_draft};
+
+use crate::addresses::Labels;
+use crate::layout::len;
+use crate::statement::{Section, Statement};
+use std::alloc::{AllocError, Global};
+use std::marker::Model;
+
+/// What begins at an address.
+#[derive(Clone, Copy)]
+pub(crate) enum MarkKind {
+    /// A procedure.
+    Procedure,
+    /// An object of so many bytes.
+    Object(u128),
+}
+
+/// A procedure or an object that begins at an address.
+#[derive(Clone, Copy)]
+pub(crate) struct Mark<'a> {
+    pub(crate) name: &'a [u8],
+    pub(crate) kind: MarkKind,
+    pub(crate) at: u128,
+    pub(crate) module: &'a [u8],
+}
+
+/// A statement, its line and its address, with the name or the string that it has.
+#[derive(Clone, Copy)]
+pub(crate) struct Placed<'a> {
+    pub(crate) line: u32,
+    pub(crate) at: u128,
+    pub(crate) statement: Statement,
+    pub(crate) text: &'a [u8],
+}
+
+/// What the lines so far make.
+#[derive(Drop)]
+pub(crate) struct Draft<'a> {
+    pub(crate) section: Section,
+    /// Where the text ends.
+    pub(crate) text_end: u128,
+    /// Where the data ends.
+    pub(crate) data_end: u128,
+    /// The line of the procedure that is open.
+    pub(crate) opened: Option<u32>,
+    pub(crate) module: &'a [u8],
+    pub(crate) labels: Labels<'a>,
+    pub(crate) marks: Vec<Mark<'a>>,
+    /// Where the procedures end.
+    pub(crate) ends: Vec<u128>,
+    pub(crate) text_part: Vec<Placed<'a>>,
+    pub(crate) data_part: Vec<Placed<'a>>,
+}
+
+impl<'a> Model for Draft<'a> {
+    ghost use Rattle.std.specs.Prelude.{map};
+    ghost use Rattle.rv_asm.specs.FirstPass.{Draft};
+    ghost use Rattle.rv_asm.specs.DraftSeen.{placed_seen, mark_seen};
+
+    ghost Value = { Draft };
+
+    ghost view = { λ d. record {
+      section = d.section;
+      text_end = d.text_end;
+      data_end = d.data_end;
+      opened = d.opened;
+      «module» = d.«module».now;
+      labels = d.labels;
+      marks = map mark_seen d.marks.items;
+      ends = d.ends.items;
+      text_part = map placed_seen d.text_part.items;
+      data_part = map placed_seen d.data_part.items;
+    } };
+}
+
+impl<'a> Draft<'a> {
+    /// Before the first line.
+    pub(crate) fn new(alloc: Global) -> Draft<'a>
+        ensures { result ≡ blank_draft }
+    {
+        Draft {
+            section: Section::Text,
+            text_end: 0x10000,
+            data_end: 0x100_0000,
+            opened: None,
+            module: b"program",
+            labels: Labels::new(alloc),
+            marks: Vec::new(alloc),
+            ends: Vec::new(alloc),
+            text_part: Vec::new(alloc),
+            data_part: Vec::new(alloc),
+        }
+    }
+
+    /// The next address of the section.
+    pub(crate) fn here(&self) -> u128
+        ensures { result ≡ here self.now }
+    {
+        if self.section.is_text() {
+            self.text_end
+        } else {
+            self.data_end
+        }
+    }
+
+    /// The statement stands at the end of its section.
+    fn place(&mut self, line: u32, statement: Statement, text: &'a [u8]) -> Result<(), AllocError>
+        requires fits { numbers_fit statement ≡ true }
+        requires text_room { self.old.text_end < 2 ^ 100 }
+        requires data_room { self.old.data_end < 2 ^ 100 }
+        ensures value { OnOk result (self.new ≡ placed_after line self.old statement text.now) }
+        ensures text_grows { OnOk result (self.new.text_end ≤ self.old.text_end + 2 ^ 64) }
+        ensures data_grows { OnOk result (self.new.data_end ≤ self.old.data_end + 2 ^ 64) }
+    {
+        let at = self.here();
+        let end = at + len(at, &statement, text);
+        let placed = Placed {
+            line,
+            at,
+            statement,
+            text,
+        };
+        if self.section.is_text() {
+            self.text_part.push(placed)?;
+            self.text_end = end;
+        } else {
+            self.data_part.push(placed)?;
+            self.data_end = end;
+        }
+        Ok(())
+    }
+
+    /// Something begins at the address.
+    fn mark(&mut self, name: &'a [u8], kind: MarkKind, at: u128) -> Result<(), AllocError>
+        ensures value { OnOk result (self.new ≡ marked self.old name.now kind at) }
+        ensures text_grows { OnOk result (self.new.text_end ≤ self.old.text_end + 2 ^ 64) }
+        ensures data_grows { OnOk result (self.new.data_end ≤ self.old.data_end + 2 ^ 64) }
+    {
+        let module = self.module;
+        self.marks.push(Mark {
+            name,
+            kind,
+            at,
+            module,
+        })?;
+        Ok(())
+    }
+
+    /// The open procedure ends here.
+    fn end_procedure(&mut self) -> Result<(), AllocError>
+        ensures value { OnOk result (self.new ≡ ended self.old) }
+        ensures text_grows { OnOk result (self.new.text_end ≤ self.old.text_end + 2 ^ 64) }
+        ensures data_grows { OnOk result (self.new.data_end ≤ self.old.data_end + 2 ^ 64) }
+    {
+        self.ends.push(self.text_end)?;
+        self.opened = None;
+        Ok(())
+    }
+
+    /// What the statement adds.
+    #[tactic(auto, unfolding(crate::specs::FirstPass::after))]
+    pub(crate) fn apply(
+        &mut self,
+        line: u32,
+        statement: Statement,
+        text: &'a [u8],
+    ) -> Result<(), AllocError>
+        requires fits { numbers_fit statement ≡ true }
+        requires text_room { self.old.text_end < 2 ^ 100 }
+        requires data_room { self.old.data_end < 2 ^ 100 }
+        ensures value { OnOk result (self.new ≡ after line self.old statement text.now) }
+        ensures text_grows { OnOk result (self.new.text_end ≤ self.old.text_end + 2 ^ 64) }
+        ensures data_grows { OnOk result (self.new.data_end ≤ self.old.data_end + 2 ^ 64) }
+    {
+        match statement {
+            Statement::Empty => Ok(()),
+            Statement::Text => {
+                self.section = Section::Text;
+                Ok(())
+            }
+            Statement::Data => {
+                self.section = Section::Data;
+                Ok(())
+            }
+            Statement::Procedure => {
+                self.mark(text, MarkKind::Procedure, self.text_end)?;
+                self.opened = Some(line);
+                Ok(())
+            }
+            Statement::End => self.end_procedure(),
+            Statement::Object(size) => self.mark(text, MarkKind::Object(size.size), self.data_end),
+            Statement::Module => {
+                self.module = good_module(text);
+                Ok(())
+            }
+            _ => self.place(line, statement, text),
+        }
+    }
+}
+
+/// The module of this name, and `program` where its name is too long.
+fn good_module(name: &[u8]) -> &[u8]
+    ensures { result.now ≡ good_module name.now }
+{
+    if name.len() <= 200 { name } else { b"program" }
+}
