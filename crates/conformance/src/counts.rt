@@ -38,7 +38,7 @@ impl Tally {
 
 impl Counts {
     /// Counts a line that could be read. Comments aren't counted.
-    pub fn add(&mut self, line: &Line, agrees: bool) {
+    pub fn add(&mut self, line: &Line<'_>, agrees: bool) {
         match line {
             Line::Comment => {}
             Line::Vector(_) => self.vectors.add(agrees),

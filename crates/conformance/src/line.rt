@@ -3,10 +3,11 @@ use crate::columns::Columns;
 use crate::listed::Listed;
 use crate::machine::Machine;
 use crate::vector::Vector;
+use std::alloc::Global;
 
 /// A line of the input.
 #[derive(Clone, Copy, Debug, Drop)]
-pub enum Line {
+pub enum Line<'a> {
     /// Begins with `#`.
     Comment,
     /// Ten columns.
@@ -14,13 +15,13 @@ pub enum Line {
     /// Five columns.
     Listed(Listed),
     /// Two or three columns.
-    Assembled(Assembled),
+    Assembled(Assembled<'a>),
 }
 
-impl Line {
+impl<'a> Line<'a> {
     /// Reads a line, of which the number of columns tells the kind. None where it has another number of columns, or
     /// one of them can't be read.
-    pub fn parse(line: &str) -> Option<Line> {
+    pub fn parse(line: &'a str) -> Option<Line<'a>> {
         if line.starts_with('#') {
             return Some(Line::Comment);
         }
@@ -34,12 +35,12 @@ impl Line {
     }
 
     /// Whether what the line says is so here. A comment says nothing.
-    pub fn agrees(&self, machine: &mut Machine) -> bool {
+    pub fn agrees(&self, alloc: Global, machine: &mut Machine) -> bool {
         match self {
             Line::Comment => true,
             Line::Vector(vector) => machine.agrees(vector),
             Line::Listed(listed) => listed.agrees(),
-            Line::Assembled(assembled) => assembled.agrees(),
+            Line::Assembled(assembled) => assembled.agrees(alloc),
         }
     }
 }

@@ -4,7 +4,7 @@
 //!
 //! - ten columns: what one instruction did on another machine ([`vector`]);
 //! - five columns: whether a word is an instruction, and whether it names x31 ([`listed`]);
-//! - two or three columns: words that an assembler made ([`assembled`]).
+//! - two or three columns: words that an assembler made of a text, which ours has to make of it too ([`assembled`]).
 //!
 //! A line that begins with `#` says nothing. Each line that doesn't agree and each that can't be read is printed, and
 //! then the counts. The status is 0 exactly where every line agrees.
@@ -16,6 +16,7 @@ mod counts;
 mod line;
 mod listed;
 mod machine;
+mod source;
 #[cfg(test)]
 mod tests;
 mod vector;
@@ -23,12 +24,14 @@ mod vector;
 use crate::counts::Counts;
 use crate::line::Line;
 use crate::machine::Machine;
+use std::alloc::Global;
 use std::io::{self, BufRead, BufReader};
 use std::process::ExitCode;
 
 /// Judges a line, counts it, and prints it where it doesn't agree.
 fn judge(
     rt: &impl Print,
+    alloc: Global,
     machine: &mut Machine,
     counts: &mut Counts,
     line: &str,
@@ -37,7 +40,7 @@ fn judge(
         counts.add_unknown();
         return println!(rt; "not understood: {line}");
     };
-    let agrees = parsed.agrees(machine);
+    let agrees = parsed.agrees(alloc, machine);
     counts.add(&parsed, agrees);
     if agrees {
         Ok(())
@@ -52,7 +55,7 @@ fn main(rt: HostRuntime) -> io::Result<ExitCode> {
     let mut counts = Counts::default();
     for line in BufReader::new(alloc, rt.reader())?.lines(alloc) {
         let line = line?;
-        judge(&rt, &mut machine, &mut counts, line.as_str())?;
+        judge(&rt, alloc, &mut machine, &mut counts, line.as_str())?;
     }
     println!(rt; "{counts}")?;
     if counts.all_agree() {

@@ -2,11 +2,12 @@
 
 use crate::line::Line;
 use crate::machine::Machine;
+use std::alloc::Global;
 use std::test::Fail;
 
 /// Whether the line agrees, or none where it can't be read.
-fn verdict(machine: &mut Machine, line: &str) -> Option<bool> {
-    Some(Line::parse(line)?.agrees(machine))
+fn verdict(alloc: Global, machine: &mut Machine, line: &str) -> Option<bool> {
+    Some(Line::parse(line)?.agrees(alloc, machine))
 }
 
 #[test]
@@ -21,7 +22,7 @@ fn judges_computations(rt: HostRuntime) -> Result<(), Fail> {
         ("add\t005288b3\t80\t80\t-\t-\t-\t-\t-\t-", None),
         ("add\t005288b3\t80\t80\t100\t-\t-\t-\t-", None),
     ] {
-        assert_eq!(rt; verdict(&mut machine, line), expected, "{line}");
+        assert_eq!(rt; verdict(rt.alloc(), &mut machine, line), expected, "{line}");
     }
     Ok(())
 }
@@ -42,7 +43,7 @@ fn judges_branches(rt: HostRuntime) -> Result<(), Fail> {
             Some(false),
         ),
     ] {
-        assert_eq!(rt; verdict(&mut machine, line), expected, "{line}");
+        assert_eq!(rt; verdict(rt.alloc(), &mut machine, line), expected, "{line}");
     }
     Ok(())
 }
@@ -85,7 +86,7 @@ fn judges_accesses(rt: HostRuntime) -> Result<(), Fail> {
         ),
         ("sc.d\t181eb0af\t20a11e0\t7\t0\t-\t-\t5\t7\tperhaps", None),
     ] {
-        assert_eq!(rt; verdict(&mut machine, line), expected, "{line}");
+        assert_eq!(rt; verdict(rt.alloc(), &mut machine, line), expected, "{line}");
     }
     Ok(())
 }
@@ -106,7 +107,27 @@ fn judges_words(rt: HostRuntime) -> Result<(), Fail> {
         ("181d78063\tbeq a5, x29, target\t-4096", None),
         ("", None),
     ] {
-        assert_eq!(rt; verdict(&mut machine, line), expected, "{line}");
+        assert_eq!(rt; verdict(rt.alloc(), &mut machine, line), expected, "{line}");
+    }
+    Ok(())
+}
+
+#[test]
+fn judges_texts(rt: HostRuntime) -> Result<(), Fail> {
+    let mut machine = Machine::new(rt.alloc())?;
+    for (line, expected) in [
+        ("00000013\tnop", Some(true)),
+        ("00000093\tnop", Some(false)),
+        ("00000013\tfrob x1", Some(false)),
+        ("0040006f\tj target\t4", Some(true)),
+        ("0040006f\tj target\t8", Some(false)),
+        ("ffdff06f\tj target\t-4", Some(true)),
+        ("0000006f\tj target\t0", Some(true)),
+        ("000015b7 8005859b\tli a1, 2048", Some(true)),
+        ("000015b7 8015859b\tli a1, 2048", Some(false)),
+        ("0000006f\tj target\tfar", None),
+    ] {
+        assert_eq!(rt; verdict(rt.alloc(), &mut machine, line), expected, "{line}");
     }
     Ok(())
 }
