@@ -62,6 +62,11 @@ procedures_of image = kept_of image [] (functions_of image)
 abbrev pub skipped_of : Image → ℕ
 skipped_of image = length (functions_of image) - length (procedures_of image)
 
+-- the text ends below 2^64, and a number of 32 bits counts the symbols
+pub record IsCountable (image : Image) : Type 0 where
+  pub text : image.text_at + image.text_len < 2 ^ 64
+  pub symbols : length image.symbols < 2 ^ 32
+
 -- at least one whole word, all in the text
 pub record IsProcOf (image : Image) (p : Proc) : Type 0 where
   pub start : p.start % 4 ≡ 0

@@ -6,7 +6,7 @@ ghost use Rattle.rv_word.specs.Names.{is_return_of};
 ghost use Rattle.code_points.specs.Points.{words_from, instr_at, calls_at, point_at, has_kind, points_in, points_of};
 ghost use Rattle.code_points.specs.Procedures.{AreProcsOf};
 
-use crate::text::{text, word};
+use crate::text::word;
 use pn_types::{Image, NoMemory, Point, Proc};
 use rv_word::{is_call, is_return};
 use std::alloc::Global;
@@ -83,7 +83,7 @@ pub fn points(alloc: Global, image: &Image, procs: &[Proc]) -> Result<Vec<Point>
     ensures points { IfOk result (λ points. points.items ≡ points_of image.now procs.now) }
     ensures ascending { IfOk result (λ points. IsStrictlyIncreasing (map (λ q. q.at) points.items)) }
 {
-    let text = text(image);
+    let text = image.text_bytes();
     let mut points = Vec::new(alloc);
     for (number, proc) in procs.iter().enumerate() {
         add_points(&mut points, text, image.text_at, number as u32, proc)?;

@@ -1,7 +1,7 @@
 //! The procedures of an image.
 
 ghost use Rattle.std.specs.Prelude.{◌≡◌, ◌+◌, ◌<◌, ◌≤◌, ◌^◌, IfOk, length, map};
-ghost use Rattle.code_points.specs.Procedures.{can_be_procedure, proc_of, functions_of, procedures_of, skipped_of, AreProcsOf};
+ghost use Rattle.code_points.specs.Procedures.{can_be_procedure, proc_of, functions_of, procedures_of, skipped_of, IsCountable, AreProcsOf};
 
 use crate::symbols::functions_by_address;
 use pn_types::{Image, NoMemory, Proc, Symbol, Text, is_good_name};
@@ -70,8 +70,7 @@ fn kept(alloc: Global, image: &Image, functions: &[&Symbol]) -> Result<Vec<Proc>
 /// its address and its size are multiples of 4, its size isn't 0, it lies in the text, it overlaps no procedure before
 /// it, and none of them has its module and name.
 pub fn procedures(alloc: Global, image: &Image) -> Result<(Vec<Proc>, u32), NoMemory>
-    requires text { image.now.text_at + image.now.text_len < 2 ^ 64 }
-    requires few { length image.now.symbols < 2 ^ 32 }
+    requires { IsCountable image.now }
     ensures procs { IfOk result (λ r. r.0.items ≡ procedures_of image.now) }
     ensures skipped { IfOk result (λ r. r.1 ≡ skipped_of image.now) }
     ensures are_procs { IfOk result (λ r. AreProcsOf image.now r.0.items) }

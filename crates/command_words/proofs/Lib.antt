@@ -5,3 +5,6 @@ pub mod Fitting
 pub mod Simple
 pub mod Reading
 pub mod Ranges
+mod Words
+mod Agreeing
+mod GivenLogs

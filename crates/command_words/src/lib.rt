@@ -3,13 +3,19 @@
 
 mod builders;
 mod commands;
+mod given;
+mod logging;
 mod matching;
 mod requests;
 mod settings;
 #[cfg(test)]
 mod tests;
+mod values;
+mod walking;
+mod word_kind;
 
 pub use commands::CommandName;
+pub use logging::log_name;
 pub use matching::WordFault;
 pub use requests::{Request, RunRequest, read_request};
 pub use settings::Settings;

@@ -1,11 +1,11 @@
 ghost use Rattle.std.specs.Prelude.{◌≡◌, ◌≤◌, List, MatchResult, IfOk, IfSome, Some, None, map, option_map, string_bytes};
-ghost use Rattle.command_words.specs.Asked.{asked, given_by};
+ghost use Rattle.command_words.specs.Asked.{asked};
 ghost use Rattle.command_words.specs.Requests.{number_between, number_given, place_in, settings_of, run_request, live_request, plan_request, stress_request, request_from, request_of, AreInRange, HasRanges};
 
 use crate::commands::CommandName;
+use crate::given::Given;
 use crate::matching::{WordFault, matches};
 use crate::settings::Settings;
-use clap::ArgMatches;
 use pn_text::number;
 use std::alloc::Global;
 
@@ -35,10 +35,10 @@ pub enum Request<'a> {
 }
 
 /// A positional word.
-fn place<'a>(matches: &ArgMatches<'a>, name: &str) -> &'a str
-    ensures { result.now ≡ place_in (given_by matches.now) name.now }
+fn place<'a, G: Given<'a>>(given: &G, name: &str) -> &'a str
+    ensures { result.now ≡ place_in (G.given given.now) name.now }
 {
-    matches.get_str(name).unwrap_or("")
+    given.value(name).unwrap_or("")
 }
 
 /// A number of 1 to 10 digits in a range.
@@ -52,33 +52,33 @@ fn number_between(text: &str, least: u64, most: u64) -> Option<u64>
 }
 
 /// The number that an option gives, and else its default.
-fn number_given(
-    matches: &ArgMatches<'_>,
+fn number_given<'a, G: Given<'a>>(
+    given: &G,
     name: &str,
     least: u64,
     most: u64,
     default: u64,
 ) -> Option<u64>
     requires { (least ≤ default) × (default ≤ most) }
-    ensures number { result ≡ number_given (given_by matches.now) name.now least most default }
+    ensures number { result ≡ number_given (G.given given.now) name.now least most default }
     ensures range { IfSome result (λ n. (least ≤ n) × (n ≤ most)) }
 {
-    match matches.get_str(name) {
+    match given.value(name) {
         Some(text) => number_between(text, least, most),
         None => Some(default),
     }
 }
 
-fn settings(matches: &ArgMatches<'_>) -> Option<Settings>
-    ensures settings { result ≡ settings_of (given_by matches.now) }
+fn settings<'a, G: Given<'a>>(given: &G) -> Option<Settings>
+    ensures settings { result ≡ settings_of (G.given given.now) }
     ensures ranges { IfSome result AreInRange }
 {
-    let harts = number_given(matches, "harts", 1, 16, 1)?;
-    let seed = number_given(matches, "seed", 0, 4_294_967_295, 0)?;
-    let quantum = number_given(matches, "quantum", 1, 10_000, 50)?;
-    let budget = number_given(matches, "budget", 1, 100_000_000, 1_000_000)?;
-    let bins = number_given(matches, "bins", 2, 1_024, 64)?;
-    let width = number_given(matches, "width", 1, 1_000_000, 1_000)?;
+    let harts = number_given(given, "harts", 1, 16, 1)?;
+    let seed = number_given(given, "seed", 0, 4_294_967_295, 0)?;
+    let quantum = number_given(given, "quantum", 1, 10_000, 50)?;
+    let budget = number_given(given, "budget", 1, 100_000_000, 1_000_000)?;
+    let bins = number_given(given, "bins", 2, 1_024, 64)?;
+    let width = number_given(given, "width", 1, 1_000_000, 1_000)?;
     Some(Settings {
         harts,
         seed,
@@ -89,57 +89,57 @@ fn settings(matches: &ArgMatches<'_>) -> Option<Settings>
     })
 }
 
-fn run_request<'a>(matches: &ArgMatches<'a>) -> Option<Request<'a>>
-    ensures request { option_map asked result ≡ run_request (given_by matches.now) }
+fn run_request<'a, G: Given<'a>>(given: &G) -> Option<Request<'a>>
+    ensures request { option_map asked result ≡ run_request (G.given given.now) }
     ensures ranges { IfSome result (λ request. HasRanges (asked request)) }
 {
-    let settings = settings(matches)?;
+    let settings = settings(given)?;
     Some(Request::Run(RunRequest {
-        program: place(matches, "program"),
-        conf: place(matches, "conf"),
+        program: place(given, "program"),
+        conf: place(given, "conf"),
         settings,
-        log: matches.get_str("log"),
+        log: given.value("log"),
     }))
 }
 
-fn live_request<'a>(matches: &ArgMatches<'_>) -> Option<Request<'a>>
-    ensures request { option_map asked result ≡ live_request (given_by matches.now) }
+fn live_request<'a, G: Given<'a>>(given: &G) -> Option<Request<'a>>
+    ensures request { option_map asked result ≡ live_request (G.given given.now) }
     ensures ranges { IfSome result (λ request. HasRanges (asked request)) }
 {
-    settings(matches)?;
-    number_given(matches, "workers", 1, 16, 2)?;
+    settings(given)?;
+    number_given(given, "workers", 1, 16, 2)?;
     Some(Request::Later)
 }
 
-fn plan_request<'a>(matches: &ArgMatches<'_>) -> Option<Request<'a>>
-    ensures request { option_map asked result ≡ plan_request (given_by matches.now) }
+fn plan_request<'a, G: Given<'a>>(given: &G) -> Option<Request<'a>>
+    ensures request { option_map asked result ≡ plan_request (G.given given.now) }
     ensures ranges { IfSome result (λ request. HasRanges (asked request)) }
 {
-    number_given(matches, "harts", 1, 16, 1)?;
+    number_given(given, "harts", 1, 16, 1)?;
     Some(Request::Later)
 }
 
-fn stress_request<'a>(matches: &ArgMatches<'_>) -> Option<Request<'a>>
-    ensures request { option_map asked result ≡ stress_request (given_by matches.now) }
+fn stress_request<'a, G: Given<'a>>(given: &G) -> Option<Request<'a>>
+    ensures request { option_map asked result ≡ stress_request (G.given given.now) }
     ensures ranges { IfSome result (λ request. HasRanges (asked request)) }
 {
-    number_between(place(matches, "rows"), 1, 200)?;
-    number_between(place(matches, "seed"), 0, 4_294_967_295)?;
+    number_between(place(given, "rows"), 1, 200)?;
+    number_between(place(given, "seed"), 0, 4_294_967_295)?;
     Some(Request::Later)
 }
 
-fn request_from<'a>(name: CommandName, matches: &ArgMatches<'a>) -> Option<Request<'a>>
-    ensures request { option_map asked result ≡ request_from name (given_by matches.now) }
+pub fn request_from<'a, G: Given<'a>>(name: CommandName, given: &G) -> Option<Request<'a>>
+    ensures request { option_map asked result ≡ request_from name (G.given given.now) }
     ensures ranges { IfSome result (λ request. HasRanges (asked request)) }
 {
     match name {
-        CommandName::Run => run_request(matches),
-        CommandName::Live => live_request(matches),
+        CommandName::Run => run_request(given),
+        CommandName::Live => live_request(given),
         CommandName::Replay => Some(Request::Later),
-        CommandName::Asm => Some(Request::Asm(place(matches, "text"))),
-        CommandName::Points => Some(Request::Points(place(matches, "program"))),
-        CommandName::Plan => plan_request(matches),
-        CommandName::Stress => stress_request(matches),
+        CommandName::Asm => Some(Request::Asm(place(given, "text"))),
+        CommandName::Points => Some(Request::Points(place(given, "program"))),
+        CommandName::Plan => plan_request(given),
+        CommandName::Stress => stress_request(given),
     }
 }
 

@@ -129,3 +129,47 @@ fn reads_lines_of_words(rt: HostRuntime) -> Result<(), Fail> {
     }
     Ok(())
 }
+
+/// Words with the name that they give for the log.
+const LOGS: [(&str, Option<&str>); 12] = [
+    ("run a b", None),
+    ("run a b --log l", Some("l")),
+    ("run a --log=l b", Some("l")),
+    ("run a b --log=", Some("")),
+    ("run a b --log -", Some("-")),
+    ("run a b --log=-l", Some("-l")),
+    ("run a b --log l --harts 17", None),
+    ("run a b --log l --log m", None),
+    ("run a --log l", None),
+    ("run -- a --log", None),
+    ("live a b --log l --workers 2", Some("l")),
+    ("points a --log l", None),
+];
+
+#[test]
+fn names_the_log(rt: HostRuntime) -> Result<(), Fail> {
+    for (line, log) in LOGS {
+        let words = words(rt.alloc(), line)?;
+        assert_eq!(rt; log_name(&words), log, "{line}");
+    }
+    Ok(())
+}
+
+/// Whatever clap takes the walk without memory takes, too.
+#[test]
+fn both_readings_agree(rt: HostRuntime) -> Result<(), Fail> {
+    let alloc = rt.alloc();
+    for (line, _) in LINES {
+        let line = format!(in alloc; "{line} --log=l")?;
+        let words = words(alloc, &line)?;
+        let request = read_request(alloc, &words);
+        let log = match request {
+            Ok(Request::Run(run)) => run.log,
+            _ => None,
+        };
+        if log.is_some() {
+            assert_eq!(rt; log_name(&words), log, "{line}");
+        }
+    }
+    Ok(())
+}

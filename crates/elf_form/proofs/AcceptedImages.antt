@@ -23,7 +23,7 @@ use Rattle.elf_form.proofs.FoundText.{range_positive, inside_again, are_mapped, 
 use Rattle.elf_form.proofs.FoundSymbols.{symbols_named}
 use Rattle.pn_types.specs.declared.image.Image.{Image}
 
-meant : (o : Option ElfFault) (image i : Image) → unless_fault o image ≡ Ok i → (o ≡ None) × (image ≡ i)
+pub meant : (o : Option ElfFault) (image i : Image) → unless_fault o image ≡ Ok i → (o ≡ None) × (image ≡ i)
 meant None image i h = (refl, cc)
 meant (Some fault) image i h = absurd (cc)
 

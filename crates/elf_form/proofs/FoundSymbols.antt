@@ -6,7 +6,8 @@ use Rattle.std.proofs.lemmas.List.{append-nil, get_or-drop}
 use Rattle.std.proofs.lemmas.List.Sums.{take_while-cons}
 use Rattle.byteorder.specs.Numbers.{little_from-lt}
 use Rattle.elf_form.specs.Fields.{field, table, symbol_entry_of}
-use Rattle.elf_form.specs.Symbols.{kind_of, is_file, is_local, name_at, is_good, module_of, program, symbol_of, symbols_from, is_of_program, with_program_last, symbols_of, symbols_in, symbol_table, table_symbols, strings_of, section_bytes, entries_of}
+use Rattle.elf_form.specs.Symbols.{kind_of, is_file, is_local, name_at, module_of, program, symbol_of, symbols_from, is_of_program, with_program_last, symbols_of, symbols_in, symbol_table, table_symbols, strings_of, section_bytes, entries_of}
+use Rattle.pn_types.specs.GoodNames.{is_good_name}
 use Rattle.elf_form.specs.Accepted.{IsNamed, IsBytes}
 use Rattle.elf_form.specs.declared.section.SectionHeader.{SectionHeader}
 use Rattle.elf_form.specs.declared.symbol.SymbolEntry.{SymbolEntry}
@@ -30,12 +31,12 @@ entries_fit b (suc n) at bytes =
 -- ---- names and modules
 
 abbrev IsModule : List ℕ → Type 0
-IsModule name = (is_good name ≡ true) ⊎ (name ≡ program)
+IsModule name = (is_good_name name ≡ true) ⊎ (name ≡ program)
 
 is_module : (name : List ℕ) → IsModule (module_of name)
-is_module name = by (is_good name) refl
+is_module name = by (is_good_name name) refl
   where
-    by : (b : Bool) → is_good name ≡ b → IsModule (if is_good name then name else program)
+    by : (b : Bool) → is_good_name name ≡ b → IsModule (if is_good_name name then name else program)
     by true is = rw is (inl is)
     by false is = rw is (inr refl)
 

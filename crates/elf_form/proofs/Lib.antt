@@ -3,3 +3,4 @@ pub mod SortedLoads
 pub mod FoundText
 pub mod FoundSymbols
 pub mod AcceptedImages
+pub mod Countable

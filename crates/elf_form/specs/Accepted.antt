@@ -7,7 +7,8 @@ use Rattle.pn_types.specs.declared.image.Image.{Image}
 use Rattle.pn_types.specs.declared.image.Segment.{Segment}
 use Rattle.pn_types.specs.declared.image.Symbol.{Symbol}
 use Rattle.elf_form.specs.Texts.{is_entry}
-use Rattle.elf_form.specs.Symbols.{is_good, program, with_program_last}
+use Rattle.elf_form.specs.Symbols.{program, with_program_last}
+use Rattle.pn_types.specs.GoodNames.{is_good_name}
 
 -- each is a byte
 abbrev pub IsBytes : List ℕ → Type 0
@@ -37,7 +38,7 @@ are_inside (s ∷ ss) at len = if has_byte s at then nat_le (at + len) (s.at + l
 -- the name of a symbol has no zero byte, and its module is `program` or a good name
 pub record IsNamed (s : Symbol) : Type 0 where
   pub name : list_all (λ byte. not (byte == 0)) s.name ≡ true
-  pub source : (is_good s.module ≡ true) ⊎ (s.module ≡ program)
+  pub source : (is_good_name s.module ≡ true) ⊎ (s.module ≡ program)
   pub at : s.at < 2 ^ 64
   pub size : s.size < 2 ^ 64
 

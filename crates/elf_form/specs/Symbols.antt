@@ -1,5 +1,5 @@
 -- The symbols, and the checks on their tables in their order (System V ABI: symbol table, string table).
-use Rattle.std.specs.Prelude.{ℕ, ◌/◌, ◌%◌, ◌==◌, ◌&&◌, ◌||◌, not, nat_lt, nat_le, if◌then◌else◌, Bool, Option, Some, None, List, [], ◌∷◌, ◌++◌, length, drop, filter, find, codes, slice_get, take_while, option_map, option_to_list, bytes_eq}
+use Rattle.std.specs.Prelude.{ℕ, ◌/◌, ◌%◌, ◌==◌, ◌&&◌, ◌||◌, not, if◌then◌else◌, Bool, Option, Some, None, List, [], ◌∷◌, ◌++◌, length, drop, filter, find, codes, slice_get, take_while, option_map, option_to_list, bytes_eq}
 use Rattle.std.specs.List.{list_any, list_all}
 use Rattle.elf_form.specs.Fields.{part, table, symbol_entry_of}
 use Rattle.elf_form.specs.Faults.{fault_where, first_fault, reaches_past}
@@ -7,6 +7,7 @@ use Rattle.elf_form.specs.declared.fault.ElfFault.{ElfFault}
 use Rattle.elf_form.specs.declared.fault.ElfFault.TheVariants.{Short, BadSymbols}
 use Rattle.elf_form.specs.declared.section.SectionHeader.{SectionHeader}
 use Rattle.elf_form.specs.declared.symbol.SymbolEntry.{SymbolEntry}
+use Rattle.pn_types.specs.GoodNames.{is_good_name}
 use Rattle.pn_types.specs.declared.image.SymKind.{SymKind}
 use Rattle.pn_types.specs.declared.image.SymKind.TheVariants.{Func, Object}
 use Rattle.pn_types.specs.declared.image.Symbol.{Symbol}
@@ -39,21 +40,13 @@ is_ended strings at = list_any (λ byte. byte == 0) (drop at strings)
 abbrev pub name_at : List ℕ → ℕ → List ℕ
 name_at strings at = take_while (λ byte. not (byte == 0)) (drop at strings)
 
--- a printable byte that no focus and no list uses
-abbrev pub is_name_byte : ℕ → Bool
-is_name_byte byte = nat_lt 0x20 byte && nat_lt byte 0x7f && not (byte == 47) && not (byte == 44) && not (byte == 59)
-
--- 1 to 200 bytes from 0x21 to 0x7E without `/`, `,` and `;`
-abbrev pub is_good : List ℕ → Bool
-is_good name = nat_lt 0 (length name) && nat_le (length name) 200 && list_all is_name_byte name
-
 -- the module of all symbols that aren't local
 abbrev pub program : List ℕ
 program = codes "program"
 
 -- the module that a source file's name gives
 abbrev pub module_of : List ℕ → List ℕ
-module_of file = if is_good file then file else program
+module_of file = if is_good_name file then file else program
 
 -- ---- symbols
 

@@ -2,10 +2,11 @@
 
 ghost use Rattle.std.specs.Prelude.{◌≡◌, ◌+◌, ◌≤◌, ◌==◌, not, ℕ, nat_lt, length, take, drop};
 ghost use Rattle.std.specs.Str.{bytes_eq};
-ghost use Rattle.std.specs.List.{list_all, prefix_len};
-ghost use Rattle.elf_form.specs.Symbols.{is_ended, name_at, is_name_byte, is_good, module_of, program};
+ghost use Rattle.std.specs.List.{prefix_len};
+ghost use Rattle.elf_form.specs.Symbols.{is_ended, name_at, module_of, program};
 
 use crate::tables::part;
+use pn_types::is_good_name;
 
 /// The module of all symbols that aren't local.
 pub const PROGRAM: &[u8] = b"program";
@@ -45,32 +46,11 @@ pub fn name_at(strings: &[u8], at: usize) -> &[u8]
     &rest[..name_len(rest)]
 }
 
-/// Whether a byte may stand in a good name: it is printable, and no focus and no list uses it.
-fn is_name_byte(byte: u8) -> bool
-    ensures { result ≡ is_name_byte byte }
-{
-    byte > 0x20 && byte < 0x7f && byte != b'/' && byte != b',' && byte != b';'
-}
-
-/// Whether each byte may stand in a good name.
-fn are_name_bytes(name: &[u8]) -> bool
-    ensures { result ≡ list_all is_name_byte name.now }
-{
-    name.iter().all(|byte| is_name_byte(*byte))
-}
-
-/// Whether a name has 1 to 200 bytes that may stand in a good name.
-fn is_good(name: &[u8]) -> bool
-    ensures { result ≡ is_good name.now }
-{
-    !name.is_empty() && name.len() <= NAME_LIMIT && are_name_bytes(name)
-}
-
 /// The module that a source file of this name gives.
 fn module_of(name: &[u8]) -> &[u8]
     ensures { result.now ≡ module_of name.now }
 {
-    if is_good(name) { name } else { PROGRAM }
+    if is_good_name(name) { name } else { PROGRAM }
 }
 
 /// The name at a place, or so much of a long one as tells that it is too long.

@@ -7,7 +7,8 @@ use Rattle.std.proofs.lemmas.List.{take_at}
 use Rattle.std.proofs.lemmas.List.Folds.{list_any-append}
 use Rattle.std.proofs.lemmas.Slice.Eq.{bytes_eq-Decides}
 use Rattle.std.proofs.lemmas.Grind.{common_steps}
-use Rattle.elf_form.specs.Symbols.{is_ended, name_at, is_name_byte, is_good, module_of, program, symbols_from, is_of_program, with_program_last}
+use Rattle.elf_form.specs.Symbols.{is_ended, name_at, module_of, program, symbols_from, is_of_program, with_program_last}
+use Rattle.pn_types.specs.GoodNames.{is_name_byte, is_good_name}
 use Rattle.elf_form.specs.Accepted.{IsNamed}
 use Rattle.elf_form.specs.declared.symbol.SymbolEntry.{SymbolEntry}
 use Rattle.elf_write.specs.Symbols.{Named, type_of, entry_with, file_entry, entries_after, local_entries, locals_of, globals_of, entries_of, names_of}
@@ -75,7 +76,7 @@ bytes_no_zero [] h = refl
 bytes_no_zero (x ∷ xs) h =
     ap (λ t. t && list_all (λ byte. not (byte == 0)) xs) (byte_no_zero x (and_left (is_name_byte x) _ h)) ∙ bytes_no_zero xs (and_right (is_name_byte x) _ h)
 
-good_no_zero : (name : List ℕ) → is_good name ≡ true → HasNoZero name
+good_no_zero : (name : List ℕ) → is_good_name name ≡ true → HasNoZero name
 good_no_zero name h = bytes_no_zero name (and_right _ (list_all is_name_byte name) h)
 
 -- ---- symbols
@@ -83,7 +84,7 @@ good_no_zero name h = bytes_no_zero name (and_right _ (list_all is_name_byte nam
 -- a symbol that is written as local, and one that is written as global
 pub record IsLocal (s : Symbol) : Type 0 where
   pub name : list_all (λ byte. not (byte == 0)) s.name ≡ true
-  pub source : is_good s.module ≡ true
+  pub source : is_good_name s.module ≡ true
 
 pub record IsGlobal (s : Symbol) : Type 0 where
   pub name : list_all (λ byte. not (byte == 0)) s.name ≡ true
@@ -168,7 +169,7 @@ module _ {A : Type 0} (P : A → Type 0) where
 local_of : (s : Symbol) → IsNamed s → bytes_eq s.module program ≡ false → IsLocal s
 local_of s named other = record { name = named.name; source = chosen named.source }
   where
-    chosen : ((is_good s.module ≡ true) ⊎ (s.module ≡ program)) → is_good s.module ≡ true
+    chosen : ((is_good_name s.module ≡ true) ⊎ (s.module ≡ program)) → is_good_name s.module ≡ true
     chosen (inl good) = good
     chosen (inr own) = let yes = (bytes_eq-Decides s.module program).1 own in absurd (cc)
 

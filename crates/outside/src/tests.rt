@@ -97,6 +97,7 @@ fn sinks_without_room_or_pieces_fail(rt: HostRuntime) -> Result<(), Fail> {
     assert_eq!(rt; write_all(&mut idle, b"abc"), Err(Failed));
     assert_eq!(rt; idle.faults(), 2);
     assert_eq!(rt; write_all(&mut DropSink, b"abc"), Ok(()));
+    OpenGate.pass(0, 0);
     Ok(())
 }
 

@@ -1,8 +1,8 @@
 //! The program: it makes the real files and sinks and hands them to the top call.
 #![tactic(auto)]
 
-use outside::{DropSink, OsFiles, StdSink};
-use paradyn_top::serve;
+use outside::{DropSink, FileSink, OsFiles, StdSink};
+use paradyn_top::{log_name, serve};
 use std::process::ExitCode;
 use std::{env, io};
 
@@ -25,7 +25,13 @@ fn run(rt: HostRuntime) -> u8 {
     };
     let mut files = OsFiles::new(rt);
     let mut out = StdSink::new(rt);
-    let mut log = DropSink;
+    let Some(name) = log_name(&words) else {
+        return serve(alloc, &words, &mut files, &mut out, &mut DropSink);
+    };
+    let Ok(name) = String::from_str(alloc, name) else {
+        return 8;
+    };
+    let mut log = FileSink::new(rt, name);
     serve(alloc, &words, &mut files, &mut out, &mut log)
 }
 

@@ -8,12 +8,12 @@ use Rattle.outside.specs.Causes.{Rose}
 use Rattle.outside.specs.Outside.{Holding, IsWhole, IsLonger, ReadsOnly}
 use Rattle.command_words.specs.Requests.{Request, RunRequest, run, assemble, list_points, later}
 use Rattle.command_words.specs.declared.settings.Settings.{Settings}
-use Rattle.paradyn_top.specs.Programs.{image_of}
-use Rattle.paradyn_top.specs.Due.{Answer, IsDueFor, IsDueOn, IsDueWith, IsRunDue, IsRunUnreadable, IsUnreadableFor, NamesFault, points_answer, refusal}
+use Rattle.paradyn_top.specs.Programs.{image_of, file_of}
+use Rattle.paradyn_top.specs.Due.{Answer, IsDueFor, IsDueOn, IsDueWith, IsRunDue, IsRunUnreadable, IsUnreadableFor, NamesFault, points_answer, asm_answer, refusal}
 use Rattle.paradyn_top.specs.declared.faults.Fault.TheVariants.{BadProgram, NotYet}
 use Rattle.paradyn_top.specs.declared.faults.ProgramFault.TheVariants.{TooLong}
 use Rattle.paradyn_top.specs.declared.faults.ProgramFault.{ProgramFault}
-use Rattle.paradyn_top.specs.Reading.{GivesImage, GivesEmpty, is_empty}
+use Rattle.paradyn_top.specs.Reading.{GivesImage, GivesFile, GivesEmpty, is_empty}
 
 -- a file that is longer than so many bytes is some bytes
 pub some_longer : (holding : Holding) (most : ℕ) → IsLonger holding most → (bytes : List ℕ) × IsWhole holding bytes × (most < length bytes)
@@ -29,6 +29,15 @@ pub too_long_program : (holding : Holding) → IsLonger holding 33554432 → Giv
 too_long_program holding h =
     let file = some_longer holding 33554432 h in
     record { bytes = file.0; whole = file.1; loads = too_long_image (nat_lt 33554432 (length file.0)) _ (lt-ltb 33554432 (length file.0) file.2) }
+
+too_long_text : (b : Bool) (other : Result (List ℕ) ProgramFault) → b ≡ true → Err TooLong ≡ cond b (Err TooLong) other
+too_long_text true other e = refl
+too_long_text false other e = absurd (cc)
+
+pub too_long_file : (holding : Holding) → IsLonger holding 33554432 → GivesFile holding (Err TooLong)
+too_long_file holding h =
+    let file = some_longer holding 33554432 h in
+    record { bytes = file.0; whole = file.1; makes = too_long_text (nat_lt 33554432 (length file.0)) _ (lt-ltb 33554432 (length file.0) file.2) }
 
 not_empty : (bytes : List ℕ) (most : ℕ) → most < length bytes → false ≡ is_empty bytes
 not_empty [] most h = absurd (omega arith)
@@ -82,11 +91,15 @@ status_points : (o : Result Image ProgramFault) (answer : Answer) → answer ≡
 status_points (Err why) answer due = refused why answer due
 status_points (Ok image) answer due = inl (ap (λ a. a.status) due)
 
+status_asm : (o : Result (List ℕ) ProgramFault) (answer : Answer) → answer ≡ asm_answer o → IsDueStatus answer.status
+status_asm (Err why) answer due = refused why answer due
+status_asm (Ok file) answer due = inl (ap (λ a. a.status) due)
+
 due_status : (o : Option Request) (holds : List ℕ → Holding) (answer : Answer) → IsDueFor o holds answer → IsDueStatus answer.status
 due_status None holds answer due = inr (inl (ap (λ a. a.status) due))
 due_status (Some (run r)) holds answer due = status_run r r.log holds answer due
 due_status (Some (list_points name)) holds answer due = status_points (image_of due.0) answer due.2
-due_status (Some (assemble name)) holds answer due = not_yet answer due
+due_status (Some (assemble name)) holds answer due = status_asm (file_of due.0) answer due.2
 due_status (Some later) holds answer due = not_yet answer due
 
 unreadable_run : (r : RunRequest) (log : Option (List ℕ)) (holds : List ℕ → Holding) (before now : List ℕ → ℕ) (answer : Answer) → IsRunUnreadable r log holds before now answer → answer.status ≡ 3
@@ -98,7 +111,7 @@ unreadable_status : (o : Option Request) (holds : List ℕ → Holding) (before 
 unreadable_status None holds before now answer u = absurd u
 unreadable_status (Some (run r)) holds before now answer u = unreadable_run r r.log holds before now answer u
 unreadable_status (Some (list_points name)) holds before now answer u = ap (λ a. a.status) u.1
-unreadable_status (Some (assemble name)) holds before now answer u = absurd u
+unreadable_status (Some (assemble name)) holds before now answer u = ap (λ a. a.status) u.1
 unreadable_status (Some later) holds before now answer u = absurd u
 
 no_due_status : (s : ℕ) → s ≡ 3 → IsDueStatus s → ⊥

@@ -14,7 +14,7 @@ use Rattle.paradyn_top.specs.declared.faults.Fault.{Fault}
 use Rattle.paradyn_top.specs.declared.faults.Fault.TheVariants.{Usage, FileFault, BadProgram, NotYet}
 use Rattle.paradyn_top.specs.declared.faults.ProgramFault.{ProgramFault}
 use Rattle.paradyn_top.specs.Faults.{fault_line, fault_status}
-use Rattle.paradyn_top.specs.Programs.{image_of}
+use Rattle.paradyn_top.specs.Programs.{image_of, file_of}
 
 -- An answer: the status, the bytes for the output, and the bytes for the log.
 pub record Answer : Type 0 where
@@ -65,13 +65,23 @@ points_answer (Ok image) = success (points_text (procedures_of image) (points_of
 abbrev pub IsPointsDue : List ℕ → (List ℕ → Holding) → Answer → Type 0
 IsPointsDue name holds answer = (bytes : List ℕ) × IsWhole (holds name) bytes × (answer ≡ points_answer (image_of bytes))
 
+-- ---- asm
+
+abbrev pub asm_answer : Result (List ℕ) ProgramFault → Answer
+asm_answer (Err fault) = refusal (BadProgram fault)
+asm_answer (Ok file) = success file
+
+-- the ELF file of the text of a name
+abbrev pub IsAsmDue : List ℕ → (List ℕ → Holding) → Answer → Type 0
+IsAsmDue name holds answer = (bytes : List ℕ) × IsWhole (holds name) bytes × (answer ≡ asm_answer (file_of bytes))
+
 -- ---- what is due
 
 abbrev pub IsDueFor : Option Request → (List ℕ → Holding) → Answer → Type 0
 IsDueFor None holds answer = answer ≡ refusal Usage
 IsDueFor (Some (run r)) holds answer = IsRunDue r r.log holds answer
 IsDueFor (Some (list_points name)) holds answer = IsPointsDue name holds answer
-IsDueFor (Some (assemble name)) holds answer = answer ≡ refusal NotYet
+IsDueFor (Some (assemble name)) holds answer = IsAsmDue name holds answer
 IsDueFor (Some later) holds answer = answer ≡ refusal NotYet
 
 -- The answer that is due for words and what the files hold: the first refusal, or the text that was asked for.
@@ -95,7 +105,7 @@ abbrev pub IsUnreadableFor : Option Request → (List ℕ → Holding) → (List
 IsUnreadableFor None holds before now answer = ⊥
 IsUnreadableFor (Some (run r)) holds before now answer = IsRunUnreadable r r.log holds before now answer
 IsUnreadableFor (Some (list_points name)) holds before now answer = NamesFault name before now answer
-IsUnreadableFor (Some (assemble name)) holds before now answer = ⊥
+IsUnreadableFor (Some (assemble name)) holds before now answer = NamesFault name before now answer
 IsUnreadableFor (Some later) holds before now answer = ⊥
 
 -- The answer says that a file could not be read, which was to be read with no refusal before, and whose count of

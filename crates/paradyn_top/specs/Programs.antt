@@ -1,10 +1,11 @@
--- The image of a program file.
+-- What the bytes of files stand for.
 use Rattle.std.specs.Prelude.{ℕ, ◌&&◌, nat_le, nat_lt, if◌then◌else◌, Bool, List, [], ◌∷◌, length, take, Result, Ok, Err}
 use Rattle.std.specs.Str.{bytes_eq}
 use Rattle.pn_types.specs.declared.image.Image.{Image}
 use Rattle.elf_form.specs.Meaning.{meaning_of}
 use Rattle.elf_form.specs.declared.fault.ElfFault.{ElfFault}
 use Rattle.rv_asm.specs.Assembly.{assembled}
+use Rattle.asm_file.specs.Made.{elf_of}
 use Rattle.rv_asm.specs.declared.fault.AsmFault.{AsmFault}
 use Rattle.paradyn_top.specs.declared.faults.ProgramFault.{ProgramFault}
 use Rattle.paradyn_top.specs.declared.faults.ProgramFault.TheVariants.{Elf, Asm, TooLong}
@@ -27,3 +28,11 @@ image_of bytes =
     if nat_lt 33554432 (length bytes) then Err TooLong
     else if begins_elf bytes then elf_image (meaning_of bytes)
     else text_image (assembled bytes)
+
+abbrev pub text_file : Result (List ℕ) AsmFault → Result (List ℕ) ProgramFault
+text_file (Ok file) = Ok file
+text_file (Err fault) = Err (Asm fault)
+
+-- The ELF file of the bytes of an assembly text, or their first fault.
+abbrev pub file_of : List ℕ → Result (List ℕ) ProgramFault
+file_of bytes = if nat_lt 33554432 (length bytes) then Err TooLong else text_file (elf_of bytes)

@@ -1,15 +1,16 @@
 ghost use Rattle.std.specs.Prelude.{◌≡◌, ◌⊎◌, List, ℕ, IfOk, map, string_bytes, Some, None, Ok};
 ghost use Rattle.std.specs.List.{All};
 ghost use Rattle.rv_mem.specs.Start.{IsSized};
+ghost use Rattle.code_points.specs.Procedures.{IsCountable};
 ghost use Rattle.outside.specs.Outside.{IsCalm};
 ghost use Rattle.command_words.specs.Asked.{asked, asked_run};
 ghost use Rattle.command_words.specs.Requests.{AreInRange, HasRanges};
-ghost use Rattle.paradyn_top.specs.Due.{IsDue, IsDueFor, IsDueOn, IsRunDue, IsRunUnreadable, IsUnreadable, IsUnreadableFor, IsPointsDue, NamesFault, refusal};
+ghost use Rattle.paradyn_top.specs.Due.{IsDue, IsDueFor, IsDueOn, IsRunDue, IsRunUnreadable, IsUnreadable, IsUnreadableFor, IsPointsDue, IsAsmDue, NamesFault, refusal};
 ghost use Rattle.paradyn_top.specs.Replies.{answer_of};
 
 use crate::faults::Fault;
 use crate::listing::list_points;
-use crate::reading::{Unread, read_configuration, read_program};
+use crate::reading::{Unread, read_configuration, read_program, read_text};
 use crate::reply::{Reply, refuse, succeed};
 use crate::running::run_image;
 use command_words::{Request, RunRequest, Settings, WordFault, read_request};
@@ -34,6 +35,7 @@ fn answer_image<F: Files>(
     files: &mut F,
 ) -> Result<Reply, NoMemory>
     requires segments { All IsSized image.now.segments }
+    requires countable { IsCountable image.now }
     requires settings { AreInRange settings.now }
     ensures answer { IfOk result (λ reply. IsDueOn settings.now (Ok image.now) (F.holds files.old conf.now) (answer_of reply)
         ⊎ NamesFault conf.now (F.faults files.old) (F.faults files.new) (answer_of reply)) }
@@ -80,6 +82,20 @@ fn answer_points<F: Files>(alloc: Global, name: &str, files: &mut F) -> Result<R
     }
 }
 
+/// The answer that gives the ELF file of the text of a name.
+fn answer_asm<F: Files>(alloc: Global, name: &str, files: &mut F) -> Result<Reply, NoMemory>
+    ensures answer { IfOk result (λ reply. IsAsmDue name.now (F.holds files.old) (answer_of reply)
+        ⊎ NamesFault name.now (F.faults files.old) (F.faults files.new) (answer_of reply)) }
+    ensures calm { IfOk result (λ reply. (reply.status ≡ 3 → ⊥) → IsCalm F.faults files.old files.new) }
+{
+    match read_text(alloc, files, name) {
+        Ok(Ok(file)) => Ok(succeed(alloc, file.into_vec())),
+        Ok(Err(fault)) => Ok(refuse(alloc, &Fault::BadProgram(fault))?),
+        Err(Unread::Failed) => Ok(cannot_read(alloc, name)?),
+        Err(Unread::NoMemory) => Err(NoMemory {}),
+    }
+}
+
 /// The answer for a request.
 fn answer_request<F: Files>(
     alloc: Global,
@@ -97,7 +113,8 @@ fn answer_request<F: Files>(
             Some(_) => Ok(refuse(alloc, &Fault::NotYet)?),
         },
         Request::Points(name) => Ok(answer_points(alloc, name, files)?),
-        Request::Asm(_) | Request::Later => Ok(refuse(alloc, &Fault::NotYet)?),
+        Request::Asm(name) => Ok(answer_asm(alloc, name, files)?),
+        Request::Later => Ok(refuse(alloc, &Fault::NotYet)?),
     }
 }
 

@@ -11,6 +11,7 @@ mod reply;
 mod running;
 mod top;
 
+pub use command_words::log_name;
 pub use faults::{Fault, ProgramFault, faults_text};
 pub use top::serve;
 

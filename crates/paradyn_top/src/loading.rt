@@ -1,13 +1,16 @@
 ghost use Rattle.std.specs.Prelude.{◌≡◌, ◌≢◌, ◌≤◌, IfOk, MatchResult, Ok, Err, length};
 ghost use Rattle.std.specs.List.{All};
 ghost use Rattle.rv_mem.specs.Start.{IsSized};
+ghost use Rattle.code_points.specs.Procedures.{IsCountable};
 ghost use Rattle.elf_form.specs.Meaning.{meaning_of};
 ghost use Rattle.rv_asm.specs.Assembly.{assembled};
-ghost use Rattle.paradyn_top.specs.Programs.{begins_elf, elf_image, text_image, image_of};
+ghost use Rattle.paradyn_top.specs.Programs.{begins_elf, elf_image, text_image, image_of, text_file};
+ghost use Rattle.asm_file.specs.Made.{elf_of};
 
 use crate::faults::ProgramFault;
+use asm_file::elf_of_text;
 use elf_form::ElfFault;
-use pn_types::{Image, NoMemory};
+use pn_types::{Image, NoMemory, Seq};
 use rv_asm::{AsmFault, assemble};
 use std::alloc::Global;
 
@@ -23,8 +26,10 @@ fn begins_elf(bytes: &[u8]) -> bool
 
 /// The image of an ELF file, or its fault.
 fn load_elf(alloc: Global, bytes: &[u8]) -> Result<Result<Image, ProgramFault>, NoMemory>
+    requires { length bytes.now ≤ 33554432 }
     ensures image { IfOk result (λ image. image ≡ elf_image (meaning_of bytes.now)) }
     ensures sized { IfOk result (λ image. IfOk image (λ i. All IsSized i.segments)) }
+    ensures countable { IfOk result (λ image. IfOk image IsCountable) }
 {
     match elf_load::load(alloc, bytes) {
         Ok(image) => Ok(Ok(image)),
@@ -38,9 +43,22 @@ fn load_text(alloc: Global, bytes: &[u8]) -> Result<Result<Image, ProgramFault>,
     requires { length bytes.now ≤ 33554432 }
     ensures image { IfOk result (λ image. image ≡ text_image (assembled bytes.now)) }
     ensures sized { IfOk result (λ image. IfOk image (λ i. All IsSized i.segments)) }
+    ensures countable { IfOk result (λ image. IfOk image IsCountable) }
 {
     match assemble(alloc, bytes) {
         Ok(image) => Ok(Ok(image)),
+        Err(AsmFault::NoMemory) => Err(NoMemory {}),
+        Err(fault) => Ok(Err(ProgramFault::Asm(fault))),
+    }
+}
+
+/// The ELF file of an assembly text, or its fault.
+pub fn make_file(alloc: Global, text: &[u8]) -> Result<Result<Seq<u8>, ProgramFault>, NoMemory>
+    requires { length text.now ≤ 33554432 }
+    ensures { IfOk result (λ file. file ≡ text_file (elf_of text.now)) }
+{
+    match elf_of_text(alloc, text) {
+        Ok(file) => Ok(Ok(Seq::from_vec(file))),
         Err(AsmFault::NoMemory) => Err(NoMemory {}),
         Err(fault) => Ok(Err(ProgramFault::Asm(fault))),
     }
@@ -51,6 +69,7 @@ pub fn load(alloc: Global, bytes: &[u8]) -> Result<Result<Image, ProgramFault>, 
     requires { length bytes.now ≤ 33554432 }
     ensures image { IfOk result (λ image. image ≡ image_of bytes.now) }
     ensures sized { IfOk result (λ image. IfOk image (λ i. All IsSized i.segments)) }
+    ensures countable { IfOk result (λ image. IfOk image IsCountable) }
 {
     if begins_elf(bytes) {
         load_elf(alloc, bytes)

@@ -3,12 +3,13 @@ ghost use Rattle.std.specs.List.{All};
 ghost use Rattle.outside.specs.Causes.{Rose};
 ghost use Rattle.outside.specs.Outside.{ReadsOnly, IsCalm};
 ghost use Rattle.rv_mem.specs.Start.{IsSized};
-ghost use Rattle.paradyn_top.specs.Reading.{GivesImage, GivesEmpty};
+ghost use Rattle.code_points.specs.Procedures.{IsCountable};
+ghost use Rattle.paradyn_top.specs.Reading.{GivesImage, GivesFile, GivesEmpty};
 
 use crate::faults::ProgramFault;
-use crate::loading::{PROGRAM_LIMIT, load};
+use crate::loading::{PROGRAM_LIMIT, load, make_file};
 use outside::{Files, ReadFault, read_whole};
-use pn_types::{Image, NoMemory};
+use pn_types::{Image, NoMemory, Seq};
 use std::alloc::Global;
 
 /// The greatest length of a configuration in bytes.
@@ -42,12 +43,32 @@ pub fn read_program<F: Files>(
 ) -> Result<Result<Image, ProgramFault>, Unread>
     ensures image { IfOk result (λ image. GivesImage (F.holds files.old name.now) image) }
     ensures sized { IfOk result (λ image. IfOk image (λ i. All IsSized i.segments)) }
+    ensures countable { IfOk result (λ image. IfOk image IsCountable) }
     ensures reads { ReadsOnly F.holds F.faults name.now files.old files.new }
     ensures cause { IsErrOf result Unread.Failed → Rose (F.faults files.old name.now) (F.faults files.new name.now) }
     ensures calm { (result ≡ Err Unread.Failed → ⊥) → IsCalm F.faults files.old files.new }
 {
     match read_whole(alloc, files, name, PROGRAM_LIMIT) {
         Ok(bytes) => Ok(load(alloc, &bytes)?),
+        Err(ReadFault::TooLong) => Ok(Err(ProgramFault::TooLong)),
+        Err(ReadFault::NoMemory) => Err(Unread::NoMemory),
+        Err(ReadFault::Outside) => Err(Unread::Failed),
+    }
+}
+
+/// Reads an assembly text, and gives its ELF file, or why it has none.
+pub fn read_text<F: Files>(
+    alloc: Global,
+    files: &mut F,
+    name: &str,
+) -> Result<Result<Seq<u8>, ProgramFault>, Unread>
+    ensures file { IfOk result (λ file. GivesFile (F.holds files.old name.now) file) }
+    ensures reads { ReadsOnly F.holds F.faults name.now files.old files.new }
+    ensures cause { IsErrOf result Unread.Failed → Rose (F.faults files.old name.now) (F.faults files.new name.now) }
+    ensures calm { (result ≡ Err Unread.Failed → ⊥) → IsCalm F.faults files.old files.new }
+{
+    match read_whole(alloc, files, name, PROGRAM_LIMIT) {
+        Ok(bytes) => Ok(make_file(alloc, &bytes)?),
         Err(ReadFault::TooLong) => Ok(Err(ProgramFault::TooLong)),
         Err(ReadFault::NoMemory) => Err(Unread::NoMemory),
         Err(ReadFault::Outside) => Err(Unread::Failed),

@@ -1,5 +1,6 @@
 //! Runs of the top call over files and sinks in memory.
 
+mod asm;
 mod elf;
 mod texts;
 

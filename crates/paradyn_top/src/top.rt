@@ -11,7 +11,8 @@ use std::alloc::Global;
 /// All that the program does: it takes the words of the command line without the program's name, reads the files that
 /// they name, and writes to the output and the log. It answers the program's status:
 ///
-/// - 0: the output gained the text that was asked for: the report of the program's whole run, or its points.
+/// - 0: the output gained what was asked for: the report of the program's whole run, its points, or the ELF file of an
+///   assembly text.
 /// - 2: the words are no command, and the output gained the line of that fault.
 /// - 3: a file could not be read, and the output gained a line with its name.
 /// - 4: the program is faulty, and the output gained the line of that fault.

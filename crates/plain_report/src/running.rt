@@ -1,6 +1,7 @@
 ghost use Rattle.std.specs.Prelude.{◌≡◌, IfOk};
 ghost use Rattle.std.specs.List.{All};
 ghost use Rattle.rv_mem.specs.Start.{IsSized};
+ghost use Rattle.code_points.specs.Procedures.{IsCountable};
 ghost use Rattle.plain_report.specs.Reports.{IsReport, IsInRange};
 
 use crate::parts::report_parts;
@@ -18,6 +19,7 @@ pub fn report_of_run(
     settings: &RunSettings,
 ) -> Result<Vec<u8>, NoMemory>
     requires segments { All IsSized image.now.segments }
+    requires countable { IsCountable image.now }
     requires settings { IsInRange settings.now }
     ensures { IfOk result (λ text. IsReport image.now settings.now text.items) }
 {

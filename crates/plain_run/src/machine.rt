@@ -8,7 +8,7 @@ ghost use Rattle.plain_run.specs.Machines.{Machine, turned};
 ghost use Rattle.plain_run.specs.Views.{harts_of};
 
 use crate::hart::{HartState, turn};
-use crate::program::{fetch, text, words};
+use crate::program::{fetch, words};
 use pn_types::{HartNo, Image, NoMemory};
 use rv_exec::{Output, Regs, Reservations};
 use rv_mem::Mem;
@@ -105,7 +105,7 @@ impl PlainMachine {
             resv: Reservations::new(alloc, harts)?,
             out: Output::new(alloc)?,
             text_at: image.text_at,
-            words: words(alloc, text(image))?,
+            words: words(alloc, image.text_bytes())?,
             budget,
         })
     }

@@ -1,32 +1,10 @@
 ghost use Rattle.std.specs.Prelude.{◌≡◌, IfOk, length};
-ghost use Rattle.pn_types.specs.Images.{text_of, bytes_in};
 ghost use Rattle.rv_word.specs.Names.{words_of};
 ghost use Rattle.rv_word.specs.Plain.{program_word};
 
-use pn_types::{Image, NoMemory, Segment};
+use pn_types::NoMemory;
 use rv_word::split_word;
 use std::alloc::Global;
-
-/// The bytes from an address, out of the first segment whose bytes have that address.
-fn bytes_at(segments: &[Segment], at: u64, len: u64) -> &[u8]
-    ensures { result.now ≡ bytes_in segments.now at len }
-{
-    for segment in segments {
-        let bytes = segment.bytes.as_slice();
-        if segment.at <= at && at - segment.at < bytes.len() as u64 {
-            let rest = &bytes[(at - segment.at) as usize..];
-            return &rest[..(len as usize).min(rest.len())];
-        }
-    }
-    &[]
-}
-
-/// The bytes of the text.
-pub fn text(image: &Image) -> &[u8]
-    ensures { result.now ≡ text_of image.now }
-{
-    bytes_at(image.segments.as_slice(), image.text_at, image.text_len)
-}
 
 /// The words of the text.
 pub fn words(alloc: Global, text: &[u8]) -> Result<Vec<u32>, NoMemory>

@@ -1,1 +1,12 @@
 pub mod Cuts
+pub mod BlankSteps
+pub mod Growing
+pub mod LexemeLens
+pub mod ScanSteps
+pub mod Spans
+pub mod Decimals
+pub mod WordLexemes
+pub mod WordEnds
+pub mod Legible
+pub mod ReadWords
+pub mod Taking

@@ -1,2 +1,11 @@
 pub mod Numbers
 pub mod Lines
+pub mod Places
+pub mod Bytes
+pub mod Blanks
+pub mod Signs
+pub mod Tokens
+pub mod Scans
+pub mod Remains
+pub mod Words
+pub mod Writing

@@ -1,10 +1,18 @@
-//! Numbers and lines of the texts that are read.
+//! Numbers, lines and tokens of the texts that are read.
 #![tactic(auto)]
 
+mod blanks;
+mod lexeme;
 mod line;
 mod numbers;
+mod place;
+mod scanner;
 #[cfg(test)]
 mod tests;
+mod token;
 
 pub use line::next_line;
 pub use numbers::number;
+pub use place::Place;
+pub use scanner::Scanner;
+pub use token::{LexFault, Sign, Token, TokenKind};

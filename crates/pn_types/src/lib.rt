@@ -2,6 +2,8 @@
 #![tactic(auto)]
 
 mod code;
+mod compare;
+mod focus;
 mod hart;
 mod image;
 mod names;
@@ -10,6 +12,8 @@ mod stop;
 mod text;
 
 pub use code::{Point, Proc};
+pub use compare::Cmp;
+pub use focus::{Axis, CodePart, Focus};
 pub use hart::{HartNo, MAX_HARTS, OutOfRange};
 pub use image::{Image, Segment, SymKind, Symbol};
 pub use names::is_good_name;

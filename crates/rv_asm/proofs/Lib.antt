@@ -3,3 +3,6 @@ pub mod LineLabels
 pub mod Entries
 pub mod Strings
 pub mod Codes
+mod Shorter
+mod Lengths
+pub mod SmallImages

@@ -1,15 +1,11 @@
 -- The names of the registers.
 use Rattle.std.specs.Prelude.{ℕ, if◌then◌else◌, Option, Some, None, List, [], ◌∷◌, codes, bytes_eq}
+use Rattle.std.specs.Option.{option_or}
 
 -- the row of this name
 abbrev pub named : {A : Type 0} → List ℕ → List (List ℕ × A) → Option A
 named name [] = None
 named name (row ∷ rows) = if bytes_eq name row.0 then Some row.1 else named name rows
-
--- the first answer that there is
-abbrev pub or_else : {A : Type 0} → Option A → Option A → Option A
-or_else None second = second
-or_else (Some a) second = Some a
 
 abbrev pub numbered_names : List (List ℕ × ℕ)
 numbered_names =
@@ -21,4 +17,4 @@ usual_names =
 
 -- the register of a name
 unfoldable pub register_of : List ℕ → Option ℕ
-register_of name = or_else (named name usual_names) (named name numbered_names)
+register_of name = option_or (named name usual_names) (named name numbered_names)

@@ -5,7 +5,7 @@ use std::alloc::{AllocError, Global};
 use std::test::Fail;
 
 /// The file with symbols and names behind the text, four sections and 424 bytes.
-fn whole_file(alloc: Global) -> Result<Vec<u8>, AllocError> {
+pub fn whole_file(alloc: Global) -> Result<Vec<u8>, AllocError> {
     let mut file = Vec::new(alloc);
     file.extend_from_slice(b"\x7fELF\x02\x01\x01\0\0\0\0\0\0\0\0\0")?;
     file.extend_from_slice(b"\x02\0\xf3\0\x01\0\0\0\0\0\x01\0\0\0\0\0\x40\0\0\0\0\0\0\0")?;
@@ -76,7 +76,7 @@ fn a_file_that_is_cut_is_short(rt: HostRuntime) -> Result<(), Fail> {
 }
 
 /// The bytes with one of them replaced.
-fn with_byte(mut file: Vec<u8>, at: usize, byte: u8) -> Vec<u8> {
+pub fn with_byte(mut file: Vec<u8>, at: usize, byte: u8) -> Vec<u8> {
     if at < file.len() {
         file[at] = byte;
     }

@@ -1,0 +1,18 @@
+ghost use Rattle.std.specs.Prelude.{◌≡◌, ◌≢◌, ◌≤◌, Ok, Err, MatchResult, length};
+ghost use Rattle.rv_asm.specs.declared.fault.AsmFault.TheVariants.{NoMemory};
+ghost use Rattle.asm_file.specs.Made.{elf_of};
+
+use elf_write::write;
+use rv_asm::{AsmFault, assemble};
+use std::alloc::Global;
+
+/// The ELF file of the program that an assembly text stands for, or the text's first fault. The text has at most
+/// 33,554,432 bytes.
+#[tactic(auto, using(crate::proofs::Writable::can_write))]
+pub fn elf_of_text(alloc: Global, text: &[u8]) -> Result<Vec<u8>, AsmFault>
+    requires { length text.now ≤ 33554432 }
+    ensures { MatchResult result (λ bytes. elf_of text.now ≡ Ok bytes.items) (λ fault. fault ≢ NoMemory → elf_of text.now ≡ Err fault) }
+{
+    let image = assemble(alloc, text)?;
+    Ok(write(alloc, &image)?)
+}

@@ -1,0 +1,18 @@
+ghost use Rattle.std.specs.Prelude.{◌≡◌, map, option_map, string_bytes};
+ghost use Rattle.command_words.specs.Logs.{log_of};
+
+use crate::commands::CommandName;
+use crate::requests::request_from;
+use crate::walking::values_of;
+
+/// The name that the words of the command line give for the log. None exactly where they are no command or have no
+/// `log` option. It takes no memory.
+pub fn log_name(words: &[String]) -> Option<&str>
+    ensures { option_map (λ s. s.now) result ≡ log_of (map string_bytes words.now) }
+{
+    let (first, others) = words.split_first()?;
+    let command = CommandName::of_word(first.as_str())?;
+    let values = values_of(command, others)?;
+    request_from(command, &values)?;
+    values.get("log")
+}
