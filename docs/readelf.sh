@@ -10,8 +10,8 @@ file=$(mktemp)
 trap 'rm -f "$file"' EXIT
 read=0
 warned=0
-for text in "$top"/examples/*.s $(for folder in "$@"; do ls "$folder"/*.s; done); do
-  "$paradyn" asm "$text" >"$file" || continue
+for text in "$top"/examples/*.s $(for folder in "$@"; do ls -d "$folder"/*; done); do
+  [ -f "$text" ] && "$paradyn" asm "$text" >"$file" || continue
   read=$((read + 1))
   warnings=$(readelf -a "$file" 2>&1 >/dev/null)
   warnings+=$(readelf -a "$file" 2>/dev/null | grep -i "warning\|error" || true)

@@ -1,16 +1,15 @@
 -- An assembled image can be written.
-use Rattle.std.proofs.Common.{◌≡◌, ℕ, ◌+◌, ◌*◌, ◌^◌, ◌<◌, ◌≤◌, ◌==◌, cond, not, Bool, true, false, Result, Ok, Err, List, [], ◌∷◌, ◌++◌, length, map, arith}
-use Rattle.std.specs.List.{sum_by, flat_map, filter}
+use Rattle.std.proofs.Common.{◌≡◌, ℕ, ◌+◌, ◌≤◌, cond, not, Bool, true, false, Ok, List, [], ◌∷◌, ◌++◌, length, map, arith}
+use Rattle.std.specs.List.{sum_by, filter}
 use Rattle.std.specs.Str.{bytes_eq}
 use Rattle.std.proofs.lemmas.List.{length-append}
 use Rattle.std.proofs.lemmas.List.Sums.{sum_by-cons}
 use Rattle.pn_types.specs.declared.image.Image.{Image}
 use Rattle.pn_types.specs.declared.image.Symbol.{Symbol}
-use Rattle.rv_asm.specs.declared.fault.AsmFault.{AsmFault}
 use Rattle.rv_asm.specs.Assembly.{assembled}
 use Rattle.rv_asm.proofs.SmallImages.{name_room, parted, assembled_small}
 use Rattle.elf_form.specs.Symbols.{is_of_program, program}
-use Rattle.elf_write.specs.Symbols.{Named, entry_with, file_entry, entries_after, local_entries, locals_of, globals_of, null_entry, entries_of, names_of, string_table}
+use Rattle.elf_write.specs.Symbols.{Named, entry_with, file_entry, entries_after, local_entries, locals_of, globals_of, null_entry, names_of, string_table}
 use Rattle.elf_write.specs.Layout.{CanWrite}
 
 abbrev names_len : List Named → ℕ

@@ -9,11 +9,16 @@ use Rattle.outside.specs.Outside.{Holding, IsWhole, IsLonger, ReadsOnly}
 use Rattle.command_words.specs.Requests.{Request, RunRequest, run, assemble, list_points, later}
 use Rattle.command_words.specs.declared.settings.Settings.{Settings}
 use Rattle.paradyn_top.specs.Programs.{image_of, file_of}
-use Rattle.paradyn_top.specs.Due.{Answer, IsDueFor, IsDueOn, IsDueWith, IsRunDue, IsRunUnreadable, IsUnreadableFor, NamesFault, points_answer, asm_answer, refusal}
-use Rattle.paradyn_top.specs.declared.faults.Fault.TheVariants.{BadProgram, NotYet}
+use Rattle.paradyn_top.specs.Due.{Answer, IsDueFor, IsDueOn, IsDueOf, IsDueAs, IsDueWith, IsRunDue, IsRunUnreadable, IsUnreadableFor, NamesFault, points_answer, asm_answer, refusal}
+use Rattle.paradyn_top.specs.declared.faults.Fault.TheVariants.{BadProgram, BadConf, NotYet}
 use Rattle.paradyn_top.specs.declared.faults.ProgramFault.TheVariants.{TooLong}
 use Rattle.paradyn_top.specs.declared.faults.ProgramFault.{ProgramFault}
-use Rattle.paradyn_top.specs.Reading.{GivesImage, GivesFile, GivesEmpty, is_empty}
+use Rattle.paradyn_top.specs.Reading.{GivesImage, GivesFile, GivesConf}
+use Rattle.paradyn_top.specs.Configurations.{fault_at, IsLong}
+use Rattle.paradyn_top.specs.declared.configuration.ConfKind.TheVariants.{TooLong as TooLongConf}
+use Rattle.paradyn_top.specs.declared.configuration.ConfFault.{ConfFault}
+use Rattle.mdl_ast.specs.declared.items.Conf.{Conf}
+use Rattle.mdl_ast.specs.declared.items.Item.{Item}
 
 -- a file that is longer than so many bytes is some bytes
 pub some_longer : (holding : Holding) (most : ℕ) → IsLonger holding most → (bytes : List ℕ) × IsWhole holding bytes × (most < length bytes)
@@ -39,14 +44,10 @@ too_long_file holding h =
     let file = some_longer holding 33554432 h in
     record { bytes = file.0; whole = file.1; makes = too_long_text (nat_lt 33554432 (length file.0)) _ (lt-ltb 33554432 (length file.0) file.2) }
 
-not_empty : (bytes : List ℕ) (most : ℕ) → most < length bytes → false ≡ is_empty bytes
-not_empty [] most h = absurd (omega arith)
-not_empty (x ∷ xs) most h = refl
-
-pub too_long_configuration : (holding : Holding) (most : ℕ) → IsLonger holding most → GivesEmpty holding false
-too_long_configuration holding most h =
-    let file = some_longer holding most h in
-    record { bytes = file.0; whole = file.1; tells = not_empty file.0 most file.2 }
+pub too_long_configuration : (holding : Holding) → IsLonger holding 1048576 → GivesConf holding (Err (fault_at 0 0 TooLongConf))
+too_long_configuration holding h =
+    let file = some_longer holding 1048576 h in
+    record { bytes = file.0; whole = file.1; means = IsLong file.2 }
 
 -- a count that rose since it was higher has risen
 pub Rose-before : (a b c : ℕ) → a ≤ b → Rose b c → Rose a c
@@ -67,21 +68,25 @@ run_answer holds faults r a b c image answer given reads (inr fault) =
 
 -- the statuses of what is due
 abbrev pub IsDueStatus : ℕ → Type 0
-IsDueStatus s = (s ≡ 0) ⊎ ((s ≡ 2) ⊎ ((s ≡ 4) ⊎ (s ≡ 10)))
+IsDueStatus s = (s ≡ 0) ⊎ ((s ≡ 2) ⊎ ((s ≡ 4) ⊎ ((s ≡ 5) ⊎ (s ≡ 10))))
 
 not_yet : (answer : Answer) → answer ≡ refusal NotYet → IsDueStatus answer.status
-not_yet answer e = inr (inr (inr (ap (λ a. a.status) e)))
+not_yet answer e = inr (inr (inr (inr (ap (λ a. a.status) e))))
 
 refused : (fault : ProgramFault) (answer : Answer) → answer ≡ refusal (BadProgram fault) → IsDueStatus answer.status
 refused fault answer e = inr (inr (inl (ap (λ a. a.status) e)))
 
-status_with : (s : Settings) (image : Image) (text : List ℕ) (answer : Answer) → IsDueWith s image text answer → IsDueStatus answer.status
-status_with s image [] answer due = inl (ap (λ a. a.status) due.answered)
-status_with s image (b ∷ bs) answer due = not_yet answer due
+status_of_items : (s : Settings) (image : Image) (items : List Item) (answer : Answer) → IsDueOf s image items answer → IsDueStatus answer.status
+status_of_items s image [] answer due = inl (ap (λ a. a.status) due.answered)
+status_of_items s image (item ∷ items) answer due = not_yet answer due
+
+status_as : (s : Settings) (image : Image) (read : Result Conf ConfFault) (answer : Answer) → IsDueAs s image read answer → IsDueStatus answer.status
+status_as s image (Err fault) answer due = inr (inr (inr (inl (ap (λ a. a.status) due))))
+status_as s image (Ok conf) answer due = status_of_items s image conf.items answer due
 
 status_on : (s : Settings) (o : Result Image ProgramFault) (holding : Holding) (answer : Answer) → IsDueOn s o holding answer → IsDueStatus answer.status
 status_on s (Err why) holding answer due = refused why answer due
-status_on s (Ok image) holding answer due = status_with s image due.0 answer due.2
+status_on s (Ok image) holding answer due = status_as s image due.2.0 answer due.2.2
 
 status_run : (r : RunRequest) (log : Option (List ℕ)) (holds : List ℕ → Holding) (answer : Answer) → IsRunDue r log holds answer → IsDueStatus answer.status
 status_run r (Some log) holds answer due = not_yet answer due
@@ -118,14 +123,16 @@ no_due_status : (s : ℕ) → s ≡ 3 → IsDueStatus s → ⊥
 no_due_status s e (inl z) = omega arith
 no_due_status s e (inr (inl z)) = omega arith
 no_due_status s e (inr (inr (inl z))) = omega arith
-no_due_status s e (inr (inr (inr z))) = omega arith
+no_due_status s e (inr (inr (inr (inl z)))) = omega arith
+no_due_status s e (inr (inr (inr (inr z)))) = omega arith
 
 none_of : (t s : ℕ) → 6 < s → s < 10 → t ≡ s → (t ≡ 3) ⊎ IsDueStatus t → ⊥
 none_of t s low high e (inl z) = omega arith
 none_of t s low high e (inr (inl z)) = omega arith
 none_of t s low high e (inr (inr (inl z))) = omega arith
 none_of t s low high e (inr (inr (inr (inl z)))) = omega arith
-none_of t s low high e (inr (inr (inr (inr z)))) = omega arith
+none_of t s low high e (inr (inr (inr (inr (inl z))))) = omega arith
+none_of t s low high e (inr (inr (inr (inr (inr z))))) = omega arith
 
 module _ (o : Option Request) (holds : List ℕ → Holding) (before now : List ℕ → ℕ) (answer : Answer) where
   abbrev IsEither : Type 0

@@ -11,10 +11,14 @@ use Rattle.plain_report.specs.declared.settings.RunSettings.{RunSettings}
 use Rattle.outside.specs.Causes.{Rose}
 use Rattle.outside.specs.Outside.{Holding, IsWhole}
 use Rattle.paradyn_top.specs.declared.faults.Fault.{Fault}
-use Rattle.paradyn_top.specs.declared.faults.Fault.TheVariants.{Usage, FileFault, BadProgram, NotYet}
+use Rattle.mdl_ast.specs.declared.items.Conf.{Conf}
+use Rattle.mdl_ast.specs.declared.items.Item.{Item}
+use Rattle.paradyn_top.specs.declared.configuration.ConfFault.{ConfFault}
+use Rattle.paradyn_top.specs.declared.faults.Fault.TheVariants.{Usage, FileFault, BadProgram, BadConf, NotYet}
 use Rattle.paradyn_top.specs.declared.faults.ProgramFault.{ProgramFault}
 use Rattle.paradyn_top.specs.Faults.{fault_line, fault_status}
 use Rattle.paradyn_top.specs.Programs.{image_of, file_of}
+use Rattle.paradyn_top.specs.Configurations.{MeansConf}
 
 -- An answer: the status, the bytes for the output, and the bytes for the log.
 pub record Answer : Type 0 where
@@ -40,10 +44,18 @@ pub record IsReported (settings : Settings) (image : Image) (answer : Answer) : 
   pub report : IsReport image (run_settings settings) text
   pub answered : answer ≡ success text
 
--- a configuration is accepted so far exactly where it has no bytes
+-- items of a configuration aren't supported yet
+abbrev pub IsDueOf : Settings → Image → List Item → Answer → Type 0
+IsDueOf settings image [] answer = IsReported settings image answer
+IsDueOf settings image (item ∷ items) answer = answer ≡ refusal NotYet
+
+abbrev pub IsDueAs : Settings → Image → Result Conf ConfFault → Answer → Type 0
+IsDueAs settings image (Err fault) answer = answer ≡ refusal (BadConf fault)
+IsDueAs settings image (Ok conf) answer = IsDueOf settings image conf.items answer
+
+-- for the text of a configuration
 abbrev pub IsDueWith : Settings → Image → List ℕ → Answer → Type 0
-IsDueWith settings image [] answer = IsReported settings image answer
-IsDueWith settings image (b ∷ bs) answer = answer ≡ refusal NotYet
+IsDueWith settings image text answer = (read : Result Conf ConfFault) × MeansConf text read × IsDueAs settings image read answer
 
 -- for the image of a program, and the configuration of a name
 abbrev pub IsDueOn : Settings → Result Image ProgramFault → Holding → Answer → Type 0

@@ -7,7 +7,9 @@ use Rattle.elf_form.specs.declared.fault.ElfFault.TheVariants as elf
 use Rattle.rv_asm.specs.declared.fault.AsmFault.{AsmFault}
 use Rattle.rv_asm.specs.declared.fault.AsmFault.TheVariants as asm
 use Rattle.paradyn_top.specs.declared.faults.Fault.{Fault}
-use Rattle.paradyn_top.specs.declared.faults.Fault.TheVariants.{Usage, FileFault, BadProgram, NotYet}
+use Rattle.paradyn_top.specs.declared.faults.Fault.TheVariants.{Usage, FileFault, BadProgram, BadConf, NotYet}
+use Rattle.paradyn_top.specs.Configurations.{kind_text}
+use Rattle.paradyn_top.specs.declared.configuration.ConfFault.{ConfFault}
 use Rattle.paradyn_top.specs.declared.faults.ProgramFault.{ProgramFault}
 use Rattle.paradyn_top.specs.declared.faults.ProgramFault.TheVariants.{Elf, Asm, TooLong}
 
@@ -49,14 +51,20 @@ program_text (Elf fault) = elf_text fault
 program_text (Asm fault) = asm_text fault
 program_text TooLong = codes "too long"
 
+-- what is wrong with a configuration, and where
+abbrev pub conf_text : ConfFault → List ℕ
+conf_text f = codes "line " ++ decimal f.line ++ codes " column " ++ decimal f.col ++ codes ": " ++ kind_text f.kind
+
 abbrev pub fault_line : Fault → List ℕ
 fault_line Usage = codes "paradyn: usage\n"
 fault_line (FileFault name) = codes "paradyn: cannot read " ++ name ++ codes "\n"
 fault_line (BadProgram fault) = codes "paradyn: bad program: " ++ program_text fault ++ codes "\n"
+fault_line (BadConf fault) = codes "paradyn: bad configuration: " ++ conf_text fault ++ codes "\n"
 fault_line NotYet = codes "paradyn: not yet\n"
 
 abbrev pub fault_status : Fault → ℕ
 fault_status Usage = 2
 fault_status (FileFault name) = 3
 fault_status (BadProgram fault) = 4
+fault_status (BadConf fault) = 5
 fault_status NotYet = 10

@@ -5,7 +5,7 @@ ghost use Rattle.code_points.specs.Procedures.{IsCountable};
 ghost use Rattle.outside.specs.Outside.{IsCalm};
 ghost use Rattle.command_words.specs.Asked.{asked, asked_run};
 ghost use Rattle.command_words.specs.Requests.{AreInRange, HasRanges};
-ghost use Rattle.paradyn_top.specs.Due.{IsDue, IsDueFor, IsDueOn, IsRunDue, IsRunUnreadable, IsUnreadable, IsUnreadableFor, IsPointsDue, IsAsmDue, NamesFault, refusal};
+ghost use Rattle.paradyn_top.specs.Due.{IsDue, IsDueFor, IsDueOf, IsDueOn, IsRunDue, IsRunUnreadable, IsUnreadable, IsUnreadableFor, IsPointsDue, IsAsmDue, NamesFault, refusal};
 ghost use Rattle.paradyn_top.specs.Replies.{answer_of};
 
 use crate::faults::Fault;
@@ -14,6 +14,7 @@ use crate::reading::{Unread, read_configuration, read_program, read_text};
 use crate::reply::{Reply, refuse, succeed};
 use crate::running::run_image;
 use command_words::{Request, RunRequest, Settings, WordFault, read_request};
+use mdl_ast::Conf;
 use outside::Files;
 use pn_types::{Image, NoMemory, Text};
 use std::alloc::Global;
@@ -24,6 +25,26 @@ fn cannot_read(alloc: Global, name: &str) -> Result<Reply, NoMemory>
 {
     let name = Text::from_vec(name.as_bytes().to_vec(alloc)?);
     refuse(alloc, &Fault::FileFault(name))
+}
+
+/// The answer for an image and a configuration.
+fn answer_configuration(
+    alloc: Global,
+    image: &Image,
+    settings: &Settings,
+    conf: &Conf,
+) -> Result<Reply, NoMemory>
+    requires segments { All IsSized image.now.segments }
+    requires countable { IsCountable image.now }
+    requires settings { AreInRange settings.now }
+    ensures answer { IfOk result (λ reply. IsDueOf settings.now image.now conf.now.items (answer_of reply)) }
+    ensures status { IfOk result (λ reply. reply.status ≡ 3 → ⊥) }
+{
+    if conf.items.as_slice().is_empty() {
+        Ok(succeed(alloc, run_image(alloc, image, settings)?))
+    } else {
+        refuse(alloc, &Fault::NotYet)
+    }
 }
 
 /// The answer for an image and the configuration of a name.
@@ -42,8 +63,8 @@ fn answer_image<F: Files>(
     ensures calm { IfOk result (λ reply. (reply.status ≡ 3 → ⊥) → IsCalm F.faults files.old files.new) }
 {
     match read_configuration(alloc, files, conf) {
-        Ok(true) => Ok(succeed(alloc, run_image(alloc, image, settings)?)),
-        Ok(false) => Ok(refuse(alloc, &Fault::NotYet)?),
+        Ok(Ok(conf)) => Ok(answer_configuration(alloc, image, settings, &conf)?),
+        Ok(Err(fault)) => Ok(refuse(alloc, &Fault::BadConf(fault))?),
         Err(Unread::Failed) => Ok(cannot_read(alloc, conf)?),
         Err(Unread::NoMemory) => Err(NoMemory {}),
     }

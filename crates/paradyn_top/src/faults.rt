@@ -1,8 +1,9 @@
 ghost use Rattle.std.specs.Prelude.{◌≡◌, ◌++◌, OnOk, IfOk};
 ghost use Rattle.std.specs.Fmt.{decimal};
 ghost use Rattle.pn_types.specs.Texts.{address};
-ghost use Rattle.paradyn_top.specs.Faults.{asm_text, elf_text, program_text, fault_line, fault_status};
+ghost use Rattle.paradyn_top.specs.Faults.{asm_text, conf_text, elf_text, program_text, fault_line, fault_status};
 
+use crate::configuration::ConfFault;
 use elf_form::ElfFault;
 use pn_types::{NoMemory, Text};
 use rv_asm::AsmFault;
@@ -28,6 +29,8 @@ pub enum Fault {
     FileFault(Text),
     /// The program is faulty.
     BadProgram(ProgramFault),
+    /// The configuration is faulty.
+    BadConf(ConfFault),
     /// A part of the input isn't supported yet.
     NotYet,
 }
@@ -41,6 +44,7 @@ impl Fault {
             Fault::Usage => 2,
             Fault::FileFault(_) => 3,
             Fault::BadProgram(_) => 4,
+            Fault::BadConf(_) => 5,
             Fault::NotYet => 10,
         }
     }
@@ -141,6 +145,26 @@ fn bad_program(alloc: Global, fault: ProgramFault) -> Result<Vec<u8>, NoMemory>
     Ok(line)
 }
 
+/// Adds what is wrong with a configuration, and where.
+fn add_configuration(alloc: Global, line: &mut Vec<u8>, fault: ConfFault) -> Result<(), NoMemory>
+    ensures { OnOk result (line.new.items ≡ line.old.items ++ conf_text fault) }
+{
+    add_number(alloc, line, b"line ", fault.line as u128)?;
+    add_number(alloc, line, b" column ", fault.col as u128)?;
+    line.extend_from_slice(b": ")?;
+    line.extend_from_slice(fault.kind.text())
+}
+
+fn bad_configuration(alloc: Global, fault: ConfFault) -> Result<Vec<u8>, NoMemory>
+    ensures { IfOk result (λ text. text.items ≡ fault_line (Fault.BadConf fault)) }
+{
+    let mut line = Vec::new(alloc);
+    line.extend_from_slice(b"paradyn: bad configuration: ")?;
+    add_configuration(alloc, &mut line, fault)?;
+    line.extend_from_slice(b"\n")?;
+    Ok(line)
+}
+
 /// The line of a fault.
 pub fn faults_text(alloc: Global, fault: &Fault) -> Result<Vec<u8>, NoMemory>
     ensures { IfOk result (λ text. text.items ≡ fault_line fault.now) }
@@ -149,6 +173,7 @@ pub fn faults_text(alloc: Global, fault: &Fault) -> Result<Vec<u8>, NoMemory>
         Fault::Usage => Ok(b"paradyn: usage\n".to_vec(alloc)?),
         Fault::FileFault(name) => Ok(unreadable(alloc, name)?),
         Fault::BadProgram(fault) => Ok(bad_program(alloc, *fault)?),
+        Fault::BadConf(fault) => Ok(bad_configuration(alloc, *fault)?),
         Fault::NotYet => Ok(b"paradyn: not yet\n".to_vec(alloc)?),
     }
 }

@@ -2,6 +2,7 @@
 #![tactic(auto)]
 
 mod answering;
+mod configuration;
 mod delivery;
 mod faults;
 mod listing;
@@ -12,6 +13,7 @@ mod running;
 mod top;
 
 pub use command_words::log_name;
+pub use configuration::{ConfFault, ConfKind};
 pub use faults::{Fault, ProgramFault, faults_text};
 pub use top::serve;
 

@@ -4,10 +4,12 @@ ghost use Rattle.outside.specs.Causes.{Rose};
 ghost use Rattle.outside.specs.Outside.{ReadsOnly, IsCalm};
 ghost use Rattle.rv_mem.specs.Start.{IsSized};
 ghost use Rattle.code_points.specs.Procedures.{IsCountable};
-ghost use Rattle.paradyn_top.specs.Reading.{GivesImage, GivesFile, GivesEmpty};
+ghost use Rattle.paradyn_top.specs.Reading.{GivesImage, GivesFile, GivesConf};
 
+use crate::configuration::{ConfFault, TOO_LONG, configuration};
 use crate::faults::ProgramFault;
 use crate::loading::{PROGRAM_LIMIT, load, make_file};
+use mdl_ast::Conf;
 use outside::{Files, ReadFault, read_whole};
 use pn_types::{Image, NoMemory, Seq};
 use std::alloc::Global;
@@ -75,20 +77,20 @@ pub fn read_text<F: Files>(
     }
 }
 
-/// Reads a configuration, and says whether it has no bytes.
+/// Reads a configuration, or its first fault.
 pub fn read_configuration<F: Files>(
     alloc: Global,
     files: &mut F,
     name: &str,
-) -> Result<bool, Unread>
-    ensures empty { IfOk result (λ empty. GivesEmpty (F.holds files.old name.now) empty) }
+) -> Result<Result<Conf, ConfFault>, Unread>
+    ensures conf { IfOk result (λ conf. GivesConf (F.holds files.old name.now) conf) }
     ensures reads { ReadsOnly F.holds F.faults name.now files.old files.new }
     ensures cause { IsErrOf result Unread.Failed → Rose (F.faults files.old name.now) (F.faults files.new name.now) }
     ensures calm { (result ≡ Err Unread.Failed → ⊥) → IsCalm F.faults files.old files.new }
 {
     match read_whole(alloc, files, name, CONFIGURATION_LIMIT) {
-        Ok(bytes) => Ok(bytes.is_empty()),
-        Err(ReadFault::TooLong) => Ok(false),
+        Ok(bytes) => Ok(configuration(alloc, &bytes)?),
+        Err(ReadFault::TooLong) => Ok(Err(TOO_LONG)),
         Err(ReadFault::NoMemory) => Err(Unread::NoMemory),
         Err(ReadFault::Outside) => Err(Unread::Failed),
     }

@@ -1,6 +1,7 @@
 //! Runs of the top call over files and sinks in memory.
 
 mod asm;
+mod configurations;
 mod elf;
 mod texts;
 
@@ -149,7 +150,7 @@ fn programs_are_reported(rt: HostRuntime) -> Result<(), Fail> {
 #[test]
 fn refusals_have_their_line(rt: HostRuntime) -> Result<(), Fail> {
     let alloc = rt.alloc();
-    let (status, out) = run(alloc, program(alloc, EXIT)?, b"\n")?;
+    let (status, out) = run(alloc, program(alloc, EXIT)?, b"include metrics;")?;
     assert_eq!(rt;
         (status, out.bytes()),
         (10, b"paradyn: not yet\n".as_slice())

@@ -16,6 +16,7 @@ use std::alloc::Global;
 /// - 2: the words are no command, and the output gained the line of that fault.
 /// - 3: a file could not be read, and the output gained a line with its name.
 /// - 4: the program is faulty, and the output gained the line of that fault.
+/// - 5: the configuration is faulty, and the output gained the line of that fault.
 /// - 7: a sink failed; each sink has a prefix of what was due, and the log came first.
 /// - 8: memory was wanting; both sinks are as before.
 /// - 10: the command, the program or the configuration isn't supported yet, and the output gained the line of that fault.
@@ -26,7 +27,7 @@ pub fn serve<F: Files, K: Sink, L: Sink>(
     out: &mut K,
     log: &mut L,
 ) -> u8
-    // 0, 2, 4, 10: both sinks gained all that is due for the words and the files.
+    // 0, 2, 4, 5, 10: both sinks gained all that is due for the words and the files.
     ensures due { result ≢ 3 → result ≢ 7 → result ≢ 8 → (answer : Answer)
         × IsDue (map string_bytes words.now) (F.holds files.old) answer
         × (result ≡ answer.status)

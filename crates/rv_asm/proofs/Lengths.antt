@@ -87,11 +87,12 @@ placed_by true n len d s text e tight = rw e (stays len d _ refl (record { insid
 placed_by false n len d s text e tight =
     rw e (stays len d _ refl (record {
       inside =
-        let h = tight.inside in
-        let g = data_pushed d.data_part (record { line = n; at = d.data_end; statement = s; text = text }) in
-        let k = data_len d.data_end s text in
-        omega arith;
-      short = tight.short }))
+          let h = tight.inside in
+          let g = data_pushed d.data_part (record { line = n; at = d.data_end; statement = s; text = text }) in
+          let k = data_len d.data_end s text in
+          omega arith;
+      short = tight.short;
+    }))
 
 placed_leads : (n len : ℕ) (d : Draft) (s : Statement) (text : List ℕ) → IsTight d → Leads len d (placed_after n d s text)
 placed_leads n len d s text tight = placed_by (in_text d.section) n len d s text refl tight
@@ -113,12 +114,13 @@ after_leads n len d the.Text text fits tight = stays len d _ refl (record { insi
 after_leads n len d the.Data text fits tight = stays len d _ refl (record { inside = tight.inside; short = tight.short })
 after_leads n len d the.Procedure text fits tight = record {
   room =
-    let g = marked_room (record { name = text; kind = kind.Procedure; at = d.text_end; «module» = d.module }) d.marks in
-    let h = fits.within in
-    let k = tight.short in
-    let some = nonempty fits.some in
-    omega arith;
-  tight = record { inside = tight.inside; short = tight.short } }
+      let g = marked_room (record { name = text; kind = kind.Procedure; at = d.text_end; «module» = d.module }) d.marks in
+      let h = fits.within in
+      let k = tight.short in
+      let some = nonempty fits.some in
+      omega arith;
+  tight = record { inside = tight.inside; short = tight.short };
+}
   where
     nonempty : ((the.Procedure ≡ the.Empty) ⊎ (1 ≤ len)) → 1 ≤ len
     nonempty (inl e) = absurd (cc)
@@ -126,12 +128,13 @@ after_leads n len d the.Procedure text fits tight = record {
 after_leads n len d the.End text fits tight = stays len d _ refl (record { inside = tight.inside; short = tight.short })
 after_leads n len d (the.Object size) text fits tight = record {
   room =
-    let g = marked_room (record { name = text; kind = kind.Object size.size; at = d.data_end; «module» = d.module }) d.marks in
-    let h = fits.within in
-    let k = tight.short in
-    let some = nonempty fits.some in
-    omega arith;
-  tight = record { inside = tight.inside; short = tight.short } }
+      let g = marked_room (record { name = text; kind = kind.Object size.size; at = d.data_end; «module» = d.module }) d.marks in
+      let h = fits.within in
+      let k = tight.short in
+      let some = nonempty fits.some in
+      omega arith;
+  tight = record { inside = tight.inside; short = tight.short };
+}
   where
     nonempty : ((the.Object size ≡ the.Empty) ⊎ (1 ≤ len)) → 1 ≤ len
     nonempty (inl e) = absurd (cc)

@@ -245,8 +245,8 @@ unfolding named_statement
 named_shorter name text s e =
     either (length s.1 ≤ length text) (option_or (option_or (branch_statement name text) (zero_branch_statement name text)) (name_statement name text)) (named_single_statement name text) s
     (λ h. either (length s.1 ≤ length text) (option_or (branch_statement name text) (zero_branch_statement name text)) (name_statement name text) s
-      (λ g. either (length s.1 ≤ length text) (branch_statement name text) (zero_branch_statement name text) s (branch_shorter name text s) (zero_branch_shorter name text s) g)
-      (name_statement_shorter name text s) h)
+    (λ g. either (length s.1 ≤ length text) (branch_statement name text) (zero_branch_statement name text) s (branch_shorter name text s) (zero_branch_shorter name text s) g)
+    (name_statement_shorter name text s) h)
     (single_shorter name text s) e
 
 plain_by : (o : Option Statement) (text : List ℕ) (s : Found) → option_map beside_nothing o ≡ Some s → length s.1 ≤ length text

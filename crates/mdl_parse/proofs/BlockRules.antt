@@ -1,0 +1,230 @@
+-- The readers of insertions and blocks.
+use Rattle.std.proofs.Common.{◌≡◌, ℕ, zero, suc, ◌+◌, ◌<◌, ◌≤◌, Bool, true, false, List, [], ◌∷◌, ◌++◌, length, map, Option, Some, None, Result, Ok, Err, refl, sym, ap, subst, ◌∙◌, arith, codes, cond, ◌⊎◌, inl, inr}
+use Rattle.std.specs.Prelude.{is_some}
+use Rattle.std.specs.List.{flat_map, join_by, AllByRecursion}
+use Rattle.std.proofs.lemmas.List.{append_assoc, append-nil}
+use Rattle.pn_text.specs.Words.{Word, NameWord, SignWord}
+use Rattle.pn_text.specs.declared.token.Sign.TheVariants.{OpenBracket, CloseBracket, OpenBrace, CloseBrace, OpenCode, CloseCode, Comma}
+use Rattle.mdl_ast.specs.declared.action.VarName.{VarName}
+use Rattle.mdl_ast.specs.declared.action.VarName.TheVariants.{Named, TheMetric}
+use Rattle.mdl_ast.specs.declared.action.Condition.{Condition}
+use Rattle.mdl_ast.specs.declared.action.Action.{Action}
+use Rattle.mdl_ast.specs.declared.action.Action.TheVariants as act
+use Rattle.mdl_ast.specs.declared.action.Statement.{Statement}
+use Rattle.mdl_ast.specs.declared.block.Set.{Set}
+use Rattle.mdl_ast.specs.declared.block.Set.TheVariants as set
+use Rattle.mdl_ast.specs.declared.block.EventKind.{EventKind}
+use Rattle.mdl_ast.specs.declared.block.Insertion.{Insertion}
+use Rattle.mdl_ast.specs.declared.block.Block.{Block}
+use Rattle.mdl_parse.specs.Spots.{Spot, Mark, Starts, Goes, mark_word, goes, starts, IsWord}
+use Rattle.mdl_parse.specs.Picks.{is_keyword, is_sign, is_var, is_insertion}
+use Rattle.mdl_parse.specs.Steps.{Read, ◌>>=◌, is_first, line_at, option_at, many_at}
+use Rattle.mdl_parse.specs.Readers.{keyword_at, sign_at, name_at, choice_at, event_at, whole_at}
+use Rattle.mdl_parse.specs.Parts.{statement_at, flag_at, insertion_at, another_at, names_at, named_at, set_at, block_at, blocks_at}
+use Rattle.mdl_parse.specs.Grammar.{keyword, var_word, condition_words, action_words, statement_marks, flag_words, event_name, insertion_marks, names_words, set_words, block_marks, blocks_marks}
+use Rattle.mdl_parse.specs.Shapes.{StatementShaped, InsertionShaped, HasNames, SetShaped, BlockShaped, BlocksShaped}
+use Rattle.mdl_parse.proofs.Rules.{StartsAs, never}
+use Rattle.mdl_parse.proofs.Readers.{Reads, closed, any, plainly, one as one_word, pair_at, pair_marks, pair_ok, pair_on}
+use Rattle.mdl_parse.proofs.Repeats.{option_reads, option_on, option_ok, option_marks, either_reads, many_reads, all_ok, always}
+use Rattle.mdl_parse.proofs.Bounded.{lined_at, lined_marks, lined_ok, lined_on, lined_reads, on_line}
+use Rattle.mdl_parse.proofs.Combine.{both, both_open, bind_assoc, bind_id, made, renamed}
+use Rattle.mdl_parse.proofs.LeafRules.{keyword_reads, sign_reads, start_reads, name_reads, choice_reads, choice_word, event_reads, whole_reads, IsWhole, whole_word, keyword-is}
+use Rattle.mdl_parse.proofs.StatementRules.{statement_reads, goes-append, goes-flat_map}
+
+pub goes_behind : (a b : List Word) (rest : List Mark) → goes (a ++ b) ++ rest ≡ goes a ++ (goes b ++ rest)
+goes_behind a b rest = ap (λ (t : List Mark). t ++ rest) (goes-append a b) ∙ append_assoc (goes a) (goes b) rest
+
+-- ---- statements of an insertion
+
+statement_starts : (line : ℕ) (conds : List Condition) (a : Action) → StartsAs is_var true (statement_marks (record { line = line; conds = conds; act = a }))
+statement_starts line [] (act.Up (Named name)) = refl
+statement_starts line [] (act.Up TheMetric) = refl
+statement_starts line [] (act.Down (Named name)) = refl
+statement_starts line [] (act.Down TheMetric) = refl
+statement_starts line [] (act.Put (Named name) n) = refl
+statement_starts line [] (act.Put TheMetric n) = refl
+statement_starts line [] (act.Start var) = refl
+statement_starts line [] (act.Stop var) = refl
+statement_starts line (c ∷ conds) a = refl
+
+pub statements_start : (n : ℕ) (s : Statement) → StatementShaped n s → StartsAs is_var true (statement_marks s)
+statements_start n s h = statement_starts s.line s.conds s.act
+
+pub statements_reads : Reads (λ n. many_at is_var (statement_at n)) (flat_map statement_marks) (all_ok StatementShaped) (always is_var)
+statements_reads = many_reads is_var statement_at statement_marks StatementShaped statement_reads statements_start
+
+-- ---- a keyword that may be there
+
+abbrev pub flag_on : List ℕ → Bool → Word → Bool
+flag_on text true = never
+flag_on text false = is_keyword text
+
+pub flag_reads : (text : List ℕ) → IsWord (keyword text) → Reads (λ n. flag_at text) (λ b. goes (flag_words text b)) any (flag_on text)
+unfolding flag_at option_at
+flag_reads text good = made (option_reads (is_keyword text) (λ n. keyword_at text) (one_word (λ x. keyword text)) any (keyword_reads text good) (λ n a h. keyword-is text))
+    is_some (λ n. flag_at text) (λ b. goes (flag_words text b)) any (flag_on text)
+    (λ n spots. same spots (is_first (is_keyword text) spots)) marks (λ n a h. on a) (λ n a h. tt) back (λ n k b le h. tt)
+  where
+    same : (spots : List Spot) (b : Bool) → cond b (keyword_at text spots >>= λ x. Ok (true, x.1)) (Ok (false, spots)) ≡ (cond b (keyword_at text spots >>= λ x. Ok (Some x.0, x.1)) (Ok (None, spots)) >>= λ x. Ok (is_some x.0, x.1))
+    same spots true = sym (bind_assoc (keyword_at text spots) (λ x. Ok (Some x.0, x.1)) (λ x. Ok (is_some x.0, x.1)))
+    same spots false = refl
+
+    marks : (n : ℕ) (a : Option (Unit {0})) → option_ok any n a → goes (flag_words text (is_some a)) ≡ option_marks (one_word (λ x. keyword text)) a
+    marks n None h = refl
+    marks n (Some x) h = refl
+
+    on : (a : Option (Unit {0})) → flag_on text (is_some a) ≡ option_on (is_keyword text) a
+    on None = refl
+    on (Some x) = refl
+
+    back : (n : ℕ) (b : Bool) → Unit {0} → (a : Option (Unit {0})) × option_ok any n a × (is_some a ≡ b)
+    back n true h = (Some tt, tt, refl)
+    back n false h = (None, tt, refl)
+
+-- ---- insertions
+
+pub insertion_reads : Reads insertion_at insertion_marks InsertionShaped closed
+unfolding insertion_at
+insertion_reads = made (lined_reads _ _ _ _
+    (both (choice_reads (codes "prepend") (codes "append") refl refl) (both event_reads (both_open (flag_reads (codes "constrained") refl)
+    (both (sign_reads OpenCode) (both_open statements_reads (sign_reads CloseCode) (λ n a b h. refl))) first)))
+    (λ n p h. tt))
+    (λ p. record { line = p.0; prepend = p.1.0; kind = p.1.1.0; constrained = p.1.1.1.0; stmts = p.1.1.1.1.1.0 }) insertion_at insertion_marks InsertionShaped closed
+    (λ n spots. simp bind_assoc)
+    (λ n p h. marks p.0 p.1.0 p.1.1.0 p.1.1.1.0 p.1.1.1.1.1.0) (λ n a h. refl) (λ n p h. h.1.1.1.1.0)
+    (λ n i h. ((i.line, (i.prepend, (i.kind, (i.constrained, (tt, (i.stmts, tt)))))), (tt, (tt, (tt, (tt, (h, tt))))), refl))
+    (λ n k i le h. statements_reads.wider n k i.stmts le h)
+  where
+    first : (n : ℕ) (a : Bool) (b : Unit {0} × (List Statement × Unit {0})) → pair_ok any (pair_ok (all_ok StatementShaped) any) n b → StartsAs (flag_on (codes "constrained") a) false (Goes (SignWord OpenCode) ∷ (flat_map statement_marks b.1.0 ++ (Goes (SignWord CloseCode) ∷ [])))
+    first n true b h = refl
+    first n false b h = refl
+
+    marks : (line : ℕ) (prepend : Bool) (kind : EventKind) (constrained : Bool) (stmts : List Statement)
+        → insertion_marks (record { line = line; prepend = prepend; kind = kind; constrained = constrained; stmts = stmts })
+        ≡ Starts line (choice_word (codes "prepend") (codes "append") prepend) ∷ Goes (keyword (event_name kind)) ∷ (goes (flag_words (codes "constrained") constrained)
+        ++ (Goes (SignWord OpenCode) ∷ (flat_map statement_marks stmts ++ (Goes (SignWord CloseCode) ∷ []))))
+    marks line prepend kind true stmts = refl
+    marks line prepend kind false stmts = refl
+
+pub insertion_starts : (n : ℕ) (i : Insertion) → InsertionShaped n i → StartsAs is_insertion true (insertion_marks i)
+insertion_starts n i h = go i.prepend
+  where
+    go : (prepend : Bool) → is_insertion (choice_word (codes "prepend") (codes "append") prepend) ≡ true
+    go true = refl
+    go false = refl
+
+pub insertions_reads : Reads (λ n. many_at is_insertion (insertion_at n)) (flat_map insertion_marks) (all_ok InsertionShaped) (always is_insertion)
+insertions_reads = many_reads is_insertion insertion_at insertion_marks InsertionShaped insertion_reads insertion_starts
+
+-- ---- names
+
+abbrev pub another_words : List ℕ → List Word
+another_words name = SignWord Comma ∷ NameWord name ∷ []
+
+abbrev pub another_marks : List ℕ → List Mark
+another_marks name = goes (another_words name)
+
+pub another_reads : Reads (λ n. another_at) another_marks any closed
+unfolding another_at
+another_reads = made (both (sign_reads Comma) name_reads) (λ p. p.1) (λ n. another_at) another_marks any closed
+    (λ n spots. simp bind_assoc) (λ n a h. refl) (λ n a h. refl) (λ n a h. tt) (λ n b h. ((tt, b), (tt, tt), refl)) (λ n k b le h. tt)
+
+pub others_reads : Reads (λ n. many_at (is_sign Comma) another_at) (flat_map another_marks) (all_ok any) (always (is_sign Comma))
+others_reads = many_reads (is_sign Comma) (λ n. another_at) another_marks any another_reads (λ n a h. refl)
+
+abbrev pub names_marks : List (List ℕ) → List Mark
+names_marks names = goes (names_words names)
+
+pub all_any : {A : Type 0} (n : ℕ) (names : List A) → all_ok any n names
+all_any n [] = tt
+all_any n (name ∷ names) = (tt, all_any n names)
+
+pub names_reads : Reads (λ n. names_at) names_marks (plainly HasNames) (always (is_sign Comma))
+unfolding names_at
+names_reads = made (both name_reads others_reads) (λ p. p.0 ∷ p.1) (λ n. names_at) names_marks (plainly HasNames) (always (is_sign Comma))
+    (λ n spots. simp bind_assoc) (λ n p h. ap (λ (t : List Mark). Goes (NameWord p.0) ∷ t) (goes-flat_map another_words p.1)) (λ n a h. refl) (λ n a h. tt) back (λ n k b le h. h)
+  where
+    back : (n : ℕ) (b : List (List ℕ)) → HasNames b → (a : List ℕ × List (List ℕ)) × (Unit {0} × all_ok any n a.1) × (a.0 ∷ a.1 ≡ b)
+    back n [] h = absurd h
+    back n (name ∷ names) h = ((name, names), (tt, all_any n names), refl)
+
+-- ---- sets
+
+abbrev set_marks : Set → List Mark
+set_marks s = goes (set_words s)
+
+abbrev IsNamed : Set → Type 0
+IsNamed set.Focus = ⊥
+IsNamed set.All = ⊥
+IsNamed (set.Names names) = HasNames names
+
+named_reads : Reads (λ n. named_at) set_marks (plainly IsNamed) closed
+unfolding named_at
+named_reads = made (both (sign_reads OpenBracket) (both_open names_reads (sign_reads CloseBracket) (λ n a b h. refl))) (λ p. set.Names p.1.0) (λ n. named_at) set_marks (plainly IsNamed) closed
+    (λ n spots. simp bind_assoc) (λ n p h. ap (λ (t : List Mark). Goes (SignWord OpenBracket) ∷ t) (goes-append (names_words p.1.0) (SignWord CloseBracket ∷ []))) (λ n a h. refl) (λ n p h. h.1.0) back (λ n k b le h. h)
+  where
+    back : (n : ℕ) (b : Set) → IsNamed b → (a : Unit {0} × (List (List ℕ) × Unit {0})) × (Unit {0} × (HasNames a.1.0 × Unit {0})) × (set.Names a.1.0 ≡ b)
+    back n set.Focus h = absurd h
+    back n set.All h = absurd h
+    back n (set.Names names) h = ((tt, (names, tt)), (tt, (h, tt)), refl)
+
+wholly_reads : Reads (λ n. whole_at) set_marks (plainly IsWhole) closed
+wholly_reads = made whole_reads (λ s. s) (λ n. whole_at) set_marks (plainly IsWhole) closed
+    (λ n spots. bind_id (whole_at spots)) marks (λ n a h. refl) (λ n a h. h) (λ n b h. (b, h, refl)) (λ n k b le h. h)
+  where
+    marks : (n : ℕ) (a : Set) → IsWhole a → set_marks a ≡ one_word whole_word a
+    marks n set.Focus h = refl
+    marks n set.All h = refl
+    marks n (set.Names names) h = absurd h
+
+pub set_reads : Reads (λ n. set_at) set_marks (plainly SetShaped) closed
+unfolding set_at
+set_reads = renamed (either_reads (is_sign OpenBracket) set_marks closed (λ n. named_at) (plainly IsNamed) named_reads (λ n. whole_at) (plainly IsWhole) wholly_reads starts others)
+    (λ n. set_at) (plainly SetShaped) (λ n spots. refl) there back
+  where
+    starts : (n : ℕ) (a : Set) → IsNamed a → StartsAs (is_sign OpenBracket) true (set_marks a)
+    starts n set.Focus h = absurd h
+    starts n set.All h = absurd h
+    starts n (set.Names names) h = refl
+
+    others : (n : ℕ) (a : Set) → IsWhole a → StartsAs (is_sign OpenBracket) false (set_marks a)
+    others n set.Focus h = refl
+    others n set.All h = refl
+    others n (set.Names names) h = absurd h
+
+    there : (n : ℕ) (a : Set) → IsNamed a ⊎ IsWhole a → SetShaped a
+    there n set.Focus h = tt
+    there n set.All h = tt
+    there n (set.Names names) (inl h) = h
+    there n (set.Names names) (inr h) = absurd h
+
+    back : (n : ℕ) (a : Set) → SetShaped a → IsNamed a ⊎ IsWhole a
+    back n set.Focus h = inr tt
+    back n set.All h = inr tt
+    back n (set.Names names) h = inl h
+
+-- ---- blocks
+
+pub block_reads : Reads block_at block_marks BlockShaped closed
+unfolding block_at
+block_reads = made (both (start_reads (codes "foreach") refl) (both (keyword_reads (codes "func") refl) (both (keyword_reads (codes "in") refl) (both set_reads
+    (both (sign_reads OpenBrace) (both_open insertions_reads (sign_reads CloseBrace) (λ n a b h. refl)))))))
+    (λ p. record { line = p.0; set = p.1.1.1.0; insertions = p.1.1.1.1.1.0 }) block_at block_marks BlockShaped closed
+    (λ n spots. simp bind_assoc)
+    (λ n p h. marks p.0 p.1.1.1.0 p.1.1.1.1.1.0) (λ n a h. refl) (λ n p h. (h.1.1.1.0, h.1.1.1.1.1.0))
+    (λ n b h. ((b.line, (tt, (tt, (b.set, (tt, (b.insertions, tt)))))), (tt, (tt, (tt, (h.0, (tt, (h.1, tt)))))), refl))
+    (λ n k b le h. (h.0, insertions_reads.wider n k b.insertions le h.1))
+  where
+    marks : (line : ℕ) (s : Set) (insertions : List Insertion) → block_marks (record { line = line; set = s; insertions = insertions })
+        ≡ Starts line (keyword (codes "foreach")) ∷ Goes (keyword (codes "func")) ∷ Goes (keyword (codes "in"))
+        ∷ (set_marks s ++ (Goes (SignWord OpenBrace) ∷ (flat_map insertion_marks insertions ++ (Goes (SignWord CloseBrace) ∷ []))))
+    marks line s insertions = ap (λ (t : List Mark). Starts line (keyword (codes "foreach")) ∷ Goes (keyword (codes "func")) ∷ Goes (keyword (codes "in")) ∷ t)
+        (goes_behind (set_words s) (SignWord OpenBrace ∷ []) (flat_map insertion_marks insertions ++ (Goes (SignWord CloseBrace) ∷ [])))
+
+pub all_blocks_reads : Reads (λ n. many_at (is_keyword (codes "foreach")) (block_at n)) (flat_map block_marks) (all_ok BlockShaped) (always (is_keyword (codes "foreach")))
+all_blocks_reads = many_reads (is_keyword (codes "foreach")) block_at block_marks BlockShaped block_reads (λ n b h. refl)
+
+pub blocks_reads : Reads blocks_at blocks_marks BlocksShaped closed
+unfolding blocks_at
+blocks_reads = made (both (sign_reads OpenBrace) (both_open all_blocks_reads (sign_reads CloseBrace) (λ n a b h. refl))) (λ p. p.1.0) blocks_at blocks_marks BlocksShaped closed
+    (λ n spots. simp bind_assoc) (λ n p h. refl) (λ n a h. refl) (λ n p h. h.1.0) (λ n b h. ((tt, (b, tt)), (tt, (h, tt)), refl)) (λ n k b le h. all_blocks_reads.wider n k b le h)

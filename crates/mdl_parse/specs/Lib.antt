@@ -1,0 +1,16 @@
+pub mod Spots
+pub mod Steps
+pub mod Actions
+pub mod Picks
+pub mod Readers
+pub mod Parts
+pub mod Items
+pub mod Gives
+pub mod Grammar
+pub mod ItemGrammar
+pub mod Shapes
+pub mod Meaning
+pub mod Ends
+pub mod Printing
+pub mod PrintParts
+pub mod Shipped

@@ -1,0 +1,65 @@
+//! What is wrong with a text.
+
+ghost use Rattle.std.specs.Prelude.{◌≡◌};
+ghost use Rattle.mdl_parse.specs.Meaning.{refusal_kind, lex_kind};
+ghost use Rattle.mdl_parse.specs.Ends.{lex_fault};
+
+use crate::refusal::Refusal;
+use pn_text::{LexFault, Place};
+
+/// What kind of fault it is.
+#[derive(Clone, Copy, Debug, PartialEq, Eq, Drop)]
+pub enum SyntaxKind {
+    /// No word begins with the byte, or none that goes on as the bytes behind it do.
+    BadByte,
+    /// The line or the text ends before the second quote of a string.
+    OpenString,
+    /// A number is above 2,147,483,647.
+    BigNumber,
+    /// The word can't stand here, or the text ends too early.
+    Unexpected,
+    /// It is the `if` of a seventeenth condition of one statement.
+    TooDeep,
+}
+
+/// Why a text is no configuration.
+#[derive(Clone, Copy, Debug, PartialEq, Eq, Drop)]
+pub enum ParseFault {
+    /// Memory is wanting.
+    NoMemory,
+    /// The first fault of the text.
+    At {
+        /// The line of its first byte, from 1.
+        line: u32,
+        /// The column of its first byte, in bytes from 1.
+        col: u32,
+        /// What it is.
+        kind: SyntaxKind,
+    },
+}
+
+/// The kind of the fault of a word.
+pub(crate) fn refusal_kind(why: Refusal) -> SyntaxKind
+    ensures { result ≡ refusal_kind why }
+{
+    match why {
+        Refusal::Unexpected => SyntaxKind::Unexpected,
+        Refusal::TooDeep => SyntaxKind::TooDeep,
+    }
+}
+
+/// The fault of bytes that are no word.
+pub(crate) fn lex_fault(fault: LexFault) -> ParseFault
+    ensures { result ≡ lex_fault fault }
+{
+    let (place, kind): (Place, SyntaxKind) = match fault {
+        LexFault::BadByte(place) => (place, SyntaxKind::BadByte),
+        LexFault::OpenString(place) => (place, SyntaxKind::OpenString),
+        LexFault::BigNumber(place) => (place, SyntaxKind::BigNumber),
+    };
+    ParseFault::At {
+        line: place.line,
+        col: place.col,
+        kind,
+    }
+}

@@ -1,0 +1,28 @@
+//! The configuration language.
+#![tactic(auto)]
+
+mod blocks;
+mod change;
+mod fault;
+mod items;
+mod leaves;
+mod metrics;
+mod parsing;
+mod print_blocks;
+mod print_items;
+mod print_metrics;
+mod print_statements;
+mod printing;
+mod refusal;
+mod seen;
+mod shipped_parts;
+mod shipping;
+mod statements;
+#[cfg(test)]
+mod tests;
+mod words;
+
+pub use fault::{ParseFault, SyntaxKind};
+pub use parsing::{one_meaning, parse};
+pub use printing::print;
+pub use shipping::shipped;

@@ -1,0 +1,45 @@
+//! From a configuration to its canonical text.
+
+ghost use Rattle.std.specs.Prelude.{◌≡◌, ◌++◌, OnOk, IfOk};
+ghost use Rattle.mdl_parse.specs.PrintParts.{item_text, items_text};
+
+use crate::print_items::{add_include, add_phase, add_sync, add_wish};
+use crate::print_metrics::{add_constraint, add_hypothesis, add_metric, add_search};
+use mdl_ast::{Conf, Item};
+use pn_types::NoMemory;
+use std::alloc::Global;
+
+/// Adds an item.
+fn add_item(alloc: Global, out: &mut Vec<u8>, item: &Item) -> Result<(), NoMemory>
+    ensures { OnOk result (out.new.items ≡ out.old.items ++ item_text item.now) }
+{
+    match item {
+        Item::Include(include) => add_include(out, include),
+        Item::Sync(sync) => add_sync(out, sync),
+        Item::Metric(metric) => add_metric(alloc, out, metric),
+        Item::Constraint(constraint) => add_constraint(alloc, out, constraint),
+        Item::Hypothesis(hypothesis) => add_hypothesis(alloc, out, hypothesis),
+        Item::Search(search) => add_search(alloc, out, search),
+        Item::Phase(phase) => add_phase(alloc, out, phase),
+        Item::Wish(wish) => add_wish(alloc, out, wish),
+    }
+}
+
+/// The items, one behind the other.
+fn items(alloc: Global, items: &[Item]) -> Result<Vec<u8>, NoMemory>
+    ensures { IfOk result (λ text. text.items ≡ items_text items.now) }
+{
+    let mut out = Vec::new(alloc);
+    for item in items {
+        add_item(alloc, &mut out, item)?;
+    }
+    Ok(out)
+}
+
+/// The canonical text of a configuration: one item, field, insertion or closing brace on a line, with two spaces for each
+/// level, and one space between words where the grammar's text doesn't leave it out.
+pub fn print(alloc: Global, conf: &Conf) -> Result<Vec<u8>, NoMemory>
+    ensures { IfOk result (λ text. text.items ≡ items_text conf.now.items) }
+{
+    items(alloc, conf.items.as_slice())
+}

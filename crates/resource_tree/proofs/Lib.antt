@@ -1,0 +1,14 @@
+pub mod Scans
+pub mod Reached
+pub mod Faults
+pub mod Entries
+pub mod ObjectNodes
+pub mod ModuleNodes
+pub mod PathNumbers
+pub mod Ranges
+pub mod PartNames
+pub mod Parts
+pub mod Copies
+pub mod Canonical
+pub mod InTree
+pub mod Named

@@ -1,0 +1,22 @@
+use Rattle.std.proofs.Common.{◌≡◌, sym, subst, length, List, ℕ}
+use Rattle.resource_tree.specs.Names.{IsNamed}
+use Rattle.resource_tree.specs.Resources.{CodeNodes, ObjectNode, HasMembersBelow, code_of, objects_of}
+use Rattle.resource_tree.proofs.InTree.{members_of}
+use Rattle.resource_tree.proofs.Named.{tree_named}
+use Rattle.resource_tree.proofs.tree.Tree.build.Goals as goal
+
+pub invariant_of-result : goal.invariant_of-result
+invariant_of-result c = record {
+  harts = c.requires.harts;
+  members = subst (λ (code : CodeNodes). HasMembersBelow (length code.paths) code.modules) (sym c.in_ok-of.ensures) (members_of c.args.procs.now);
+}
+
+same : (code built : CodeNodes) (objects listed : List ObjectNode) (harts : ℕ) → code ≡ built → objects ≡ listed → IsNamed (record { code = built; objects = listed; harts = harts }) → IsNamed (record { code = code; objects = objects; harts = harts })
+same code built objects listed harts e f n =
+    subst (λ (os : List ObjectNode). IsNamed (record { code = code; objects = os; harts = harts })) (sym f)
+    (subst (λ (x : CodeNodes). IsNamed (record { code = x; objects = listed; harts = harts })) (sym e) n)
+
+pub returns-clause-named : goal.returns-clause-named
+returns-clause-named c named =
+    same c.in_ok-of.field-0 (code_of c.args.procs.now) c.in_ok-of-2.field-0 (objects_of c.args.prefixes.now c.args.objects.now) c.args.harts c.in_ok-of.ensures c.in_ok-of-2.ensures
+    (tree_named c.args.procs.now c.args.objects.now c.args.harts c.args.prefixes.now named)

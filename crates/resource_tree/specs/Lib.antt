@@ -1,0 +1,6 @@
+pub mod CodeMaps
+pub mod Names
+pub mod Resources
+pub mod Foci
+pub mod FocusTexts
+pub mod Scanning

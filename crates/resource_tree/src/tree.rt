@@ -1,0 +1,84 @@
+//! The tree of a program's resources.
+
+ghost use Rattle.std.specs.Prelude.{◌≡◌, ◌<◌, ◌≤◌, ◌^◌, IfOk, IfSome, OnOk, length, slice_get};
+ghost use Rattle.std.specs.Option.{option_and_then};
+ghost use Rattle.resource_tree.specs.Resources.{tree_of};
+ghost use Rattle.resource_tree.specs.Names.{AreNamed, IsNamed};
+ghost use Rattle.resource_tree.specs.Foci.{address_of, harts_of};
+
+use crate::code::CodeTree;
+use crate::objects::Objects;
+use pn_types::{Focus, NoMemory, Proc, Symbol, Text};
+use std::alloc::Global;
+use std::marker::Model;
+
+/// The tree of a program's resources: its modules and procedures, its harts, and its objects.
+#[derive(Drop)]
+pub struct Tree {
+    pub(crate) code: CodeTree,
+    pub(crate) objects: Objects,
+    pub(crate) harts: u32,
+}
+
+impl Model for Tree {
+    ghost use Rattle.resource_tree.specs.Resources.{Resources, IsBounded};
+
+    ghost Value = { Resources };
+
+    ghost view = { λ t. record { code = t.code; objects = t.objects; harts = t.harts } };
+
+    ghost invariant = { λ t. IsBounded (record { code = t.code; objects = t.objects; harts = t.harts }) };
+}
+
+impl Tree {
+    /// The tree of these procedures, object symbols and harts. Modules stand in the order of their first procedures,
+    /// and the procedures of each in the order given. The objects are those symbols that have a good name which begins
+    /// with one of the prefixes, in the order given, the first of each name.
+    pub fn build(
+        alloc: Global,
+        procs: &[Proc],
+        objects: &[Symbol],
+        harts: u32,
+        prefixes: &[Text],
+    ) -> Result<Tree, NoMemory>
+        requires harts { harts ≤ 16 }
+        requires procs { length procs.now < 2 ^ 32 }
+        requires objects { length objects.now < 2 ^ 32 }
+        ensures tree { IfOk result (λ tree. tree ≡ tree_of procs.now objects.now harts prefixes.now) }
+        ensures named { AreNamed procs.now → IfOk result IsNamed }
+    {
+        Ok(Tree {
+            code: CodeTree::of(alloc, procs)?,
+            objects: Objects::of(alloc, objects, prefixes)?,
+            harts,
+        })
+    }
+
+    /// An equal tree.
+    pub fn copy(&self) -> Result<Tree, NoMemory>
+        ensures { IfOk result (λ copy. copy ≡ self.now) }
+    {
+        Ok(Tree {
+            code: self.code.copy()?,
+            objects: self.objects.copy()?,
+            harts: self.harts,
+        })
+    }
+
+    /// The first hart that the focus selects, and how many it selects.
+    pub fn harts(&self, focus: &Focus) -> (u32, u32)
+        ensures { result ≡ harts_of self.now.harts focus.now.hart }
+    {
+        match focus.hart {
+            None => (0, self.harts),
+            Some(hart) => (hart.get(), 1),
+        }
+    }
+
+    /// The address of the object that the focus selects. None exactly where it selects none.
+    pub fn object_at(&self, focus: &Focus) -> Option<u64>
+        ensures { result ≡ address_of self.now.objects focus.now.object }
+    {
+        self.objects.at(focus.object? as usize)
+    }
+}

@@ -1,0 +1,20 @@
+#!/usr/bin/env bash
+# Makes the ELF file of each example anew, runs it, and compares both with what stands here. The program is
+# ../crates/paradyn/out/paradyn, or what PARADYN names.
+set -u
+cd "$(dirname "$0")"
+paradyn=${PARADYN:-../crates/paradyn/out/paradyn}
+made=$(mktemp)
+trap 'rm -f "$made"' EXIT
+failed=0
+check() {
+  name=$1
+  shift
+  "$paradyn" asm "$name.s" >"$made" && cmp "$made" "$name.elf" || failed=1
+  "$paradyn" run "$name.elf" empty.conf "$@" >"$made" && cmp "$made" "$name.report" || failed=1
+}
+check crc
+check tickets --harts 4
+check rounds --harts 4 --quantum 25
+[ "$failed" = 0 ] && echo "all examples print what they should"
+exit "$failed"
