@@ -1,11 +1,19 @@
 //! The form of focus texts.
 
 ghost use Rattle.std.specs.Prelude.{◌≡◌, ◌<◌, IsTrue, MatchOption, length, slice_get};
+ghost use Rattle.pn_types.specs.GoodNames.{is_name_byte};
 ghost use Rattle.resource_tree.specs.FocusTexts.{IsFocusText, IsFaultAt};
 ghost use Rattle.resource_tree.specs.Scanning.{after, behind_name, in_hierarchy, is_byte, is_whole};
 
 use crate::hierarchy::{Axes, axis_name, depth};
-use pn_types::{Axis, is_name_byte};
+use pn_types::{Axis, is_good_name};
+
+/// Whether a byte can stand in a good name.
+fn is_name_byte(byte: u8) -> bool
+    ensures { result ≡ is_name_byte byte }
+{
+    is_good_name(&[byte])
+}
 
 /// The greatest length of a name.
 const NAME_LIMIT: usize = 200;
