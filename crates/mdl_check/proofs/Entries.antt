@@ -1,0 +1,23 @@
+-- One more item with its focus.
+use Rattle.std.proofs.Common.{◌≡◌, ℕ, ◌+◌, ◌<◌, Option, List, [], ◌∷◌, ◌++◌, length, map, take, get_or, sym, ap, ◌∙◌, refl}
+use Rattle.std.proofs.lemmas.List.{take_more, map-append}
+use Rattle.pn_types.specs.declared.focus.Focus.{Focus}
+use Rattle.resource_tree.specs.Resources.{Resources}
+use Rattle.mdl_check.specs.Spots.{Spot, Entry, entry}
+use Rattle.mdl_check.specs.Checking.{HasFocus, HaveFoci, AreEntries, spot_of}
+
+have_more : (t : Resources) (es : List Entry) (e : Entry) → HaveFoci t es → HasFocus t e.item e.focus → HaveFoci t (es ++ (e ∷ []))
+have_more t [] e hs h = (h, tt)
+have_more t (x ∷ es) e hs h = (hs.0, have_more t es e hs.1 h)
+
+-- the next item
+pub one_more : (t : Resources) (places : List Spot) (i : ℕ) (s : Spot) (focus : Option Focus) (es : List Entry) → i < length places → s ≡ get_or places i s
+    → AreEntries t (take i places) es → HasFocus t s.item focus → AreEntries t (take (i + 1) places) (es ++ (entry s.line s.item focus ∷ []))
+one_more t places i s focus es lt is so_far h = record {
+  places_are =
+      map-append spot_of es (entry s.line s.item focus ∷ [])
+      ∙ ap (λ (ps : List Spot). ps ++ (s ∷ [])) so_far.places_are
+      ∙ ap (λ (p : Spot). take i places ++ (p ∷ [])) is
+      ∙ sym (take_more places i s lt);
+  foci = have_more t es (entry s.line s.item focus) so_far.foci h;
+}

@@ -1,0 +1,123 @@
+-- The first faulty item, and what a faultless configuration is.
+use Rattle.std.specs.Prelude.{ℕ, ◌≡◌, ◌++◌, Option, Some, None, option_and_then, Result, Ok, Err, List, [], ◌∷◌, map, flat_map, codes}
+use Rattle.pn_types.specs.declared.focus.Focus.{Focus}
+use Rattle.mdl_ast.specs.declared.items.Item.{Item}
+use Rattle.mdl_ast.specs.declared.items.Item.TheVariants.{Include, Sync, Metric, Constraint, Hypothesis, Search, Phase, Wish}
+use Rattle.mdl_ast.specs.declared.metric.Metric.{Metric as TheMetric}
+use Rattle.mdl_ast.specs.declared.metric.Constraint.{Constraint as TheConstraint}
+use Rattle.mdl_ast.specs.declared.items.Hypothesis.{Hypothesis as TheHypothesis}
+use Rattle.mdl_ast.specs.declared.items.SearchDecl.{SearchDecl}
+use Rattle.mdl_ast.specs.declared.items.PhaseDecl.{PhaseDecl}
+use Rattle.mdl_ast.specs.declared.items.Wish.{Wish as TheWish}
+use Rattle.resource_tree.specs.Resources.{Resources}
+use Rattle.resource_tree.specs.FocusTexts.{Part, AreParts, parts_text}
+use Rattle.resource_tree.specs.Foci.{focus_of}
+use Rattle.mdl_check.specs.Spots.{Spot, Entry, spot, spots}
+use Rattle.mdl_check.specs.Names.{metric_number}
+use Rattle.mdl_check.specs.Rules.{fault_of}
+use Rattle.mdl_check.specs.declared.fault.CheckKind.{CheckKind}
+use Rattle.mdl_check.specs.declared.fault.CheckFault.{CheckFault}
+use Rattle.mdl_check.specs.declared.fault.CheckFault.TheVariants.{NoMemory, At}
+use Rattle.mdl_check.specs.declared.checked.Checked.{Checked}
+use Rattle.mdl_check.specs.declared.checked.CheckedWish.{CheckedWish}
+
+-- ---- the items with their foci
+
+-- what a text selects in a tree: the focus of its parts, or nothing
+abbrev pub Selects : Resources → List ℕ → Option Focus → Type 0
+Selects t text (Some f) = (parts : List Part) × AreParts parts × (text ≡ parts_text parts) × (focus_of t parts ≡ Ok f)
+Selects t text None = (parts : List Part) → AreParts parts → text ≡ parts_text parts → (f : Focus) → focus_of t parts ≡ Ok f → ⊥
+
+-- a wish has the focus that its text selects, and nothing else has one
+abbrev pub HasFocus : Resources → Item → Option Focus → Type 0
+HasFocus t (Wish w) focus = Selects t w.focus focus
+HasFocus t item focus = focus ≡ None
+
+abbrev pub spot_of : Entry → Spot
+spot_of e = spot e.line e.item
+
+abbrev pub HaveFoci : Resources → List Entry → Type 0
+HaveFoci t [] = Unit {0}
+HaveFoci t (e ∷ es) = HasFocus t e.item e.focus × HaveFoci t es
+
+-- the items at these places, with their foci
+pub record AreEntries (t : Resources) (places : List Spot) (es : List Entry) : Type 0 where
+  pub places_are : map spot_of es ≡ places
+  pub foci : HaveFoci t es
+
+-- ---- the first fault
+
+-- the line of the first faulty item of a list and what is wrong with it, given all items and those before the list
+abbrev pub fault_from : List Entry → List Entry → List Entry → Option (ℕ × CheckKind)
+fault_from all before [] = None
+fault_from all before (e ∷ es) = elim (fault_of all before e) [
+  | None ↦ fault_from all (before ++ (e ∷ [])) es
+  | Some kind ↦ Some (e.line, kind)
+]
+
+abbrev pub first_fault : List Entry → Option (ℕ × CheckKind)
+first_fault all = fault_from all [] all
+
+-- ---- the items of a faultless configuration
+
+abbrev pub metric_of : Item → List TheMetric
+metric_of (Metric m) = m ∷ []
+metric_of item = []
+
+abbrev pub constraint_of : Item → List TheConstraint
+constraint_of (Constraint c) = c ∷ []
+constraint_of item = []
+
+abbrev pub hypothesis_of : Item → List TheHypothesis
+hypothesis_of (Hypothesis h) = h ∷ []
+hypothesis_of item = []
+
+abbrev pub phase_of : Item → List PhaseDecl
+phase_of (Phase p) = p ∷ []
+phase_of item = []
+
+-- the search that an item is, or else the one before
+abbrev pub search_behind : Option SearchDecl → Item → Option SearchDecl
+search_behind before (Search s) = Some s
+search_behind before item = before
+
+abbrev pub search_in : Option SearchDecl → List Entry → Option SearchDecl
+search_in before [] = before
+search_in before (e ∷ es) = search_in (search_behind before e.item) es
+
+abbrev pub wish_with : TheWish → Option ℕ → Option Focus → List CheckedWish
+wish_with w None focus = []
+wish_with w (Some metric) None = []
+wish_with w (Some metric) (Some focus) = record { at = w.at; show = w.show; metric = metric; focus = focus } ∷ []
+
+abbrev pub wish_of : List Entry → Item → Option Focus → List CheckedWish
+wish_of all (Wish w) focus = wish_with w (metric_number all w.metric) focus
+wish_of all item focus = []
+
+abbrev pub checked_of : List Entry → Checked
+checked_of all = record {
+  metrics = flat_map (λ e. metric_of e.item) all;
+  constraints = flat_map (λ e. constraint_of e.item) all;
+  hypotheses = flat_map (λ e. hypothesis_of e.item) all;
+  search = search_in None all;
+  phases = flat_map (λ e. phase_of e.item) all;
+  wishes = flat_map (λ e. wish_of all e.item e.focus) all;
+}
+
+-- ---- the answers
+
+-- a faultless configuration is checked, and of a faulty one the first fault is told; memory may run out in any
+abbrev pub IsAnswer : Resources → List Item → List Item → Result Checked CheckFault → Type 0
+IsAnswer t shipped items (Ok checked) =
+    (es : List Entry) × AreEntries t (spots shipped items) es × (first_fault es ≡ None) × (checked ≡ checked_of es)
+IsAnswer t shipped items (Err NoMemory) = Unit {0}
+IsAnswer t shipped items (Err (At line kind)) =
+    (es : List Entry) × AreEntries t (spots shipped items) es × (first_fault es ≡ Some (line, kind))
+
+-- the names of the items that are a `sync`
+abbrev pub sync_of : Item → List (List ℕ)
+sync_of (Sync s) = s.name ∷ []
+sync_of item = []
+
+abbrev pub prefixes_of : List Item → List Item → List (List ℕ)
+prefixes_of shipped items = flat_map (λ place. sync_of place.item) (spots shipped items)

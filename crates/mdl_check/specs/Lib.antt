@@ -1,0 +1,5 @@
+pub mod Spots
+pub mod Names
+pub mod Statements
+pub mod Rules
+pub mod Checking

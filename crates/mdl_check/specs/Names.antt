@@ -1,0 +1,59 @@
+-- What items are named, and which items names lead to.
+use Rattle.std.specs.Prelude.{ℕ, ◌+◌, ◌==◌, ◌&&◌, if◌then◌else◌, Bool, true, false, Option, Some, None, List, [], ◌∷◌, position}
+use Rattle.std.specs.List.{list_any}
+use Rattle.std.specs.Str.{bytes_eq}
+use Rattle.mdl_ast.specs.declared.items.Item.{Item}
+use Rattle.mdl_ast.specs.declared.items.Item.TheVariants.{Include, Sync, Metric, Constraint, Hypothesis, Search, Phase, Wish}
+use Rattle.mdl_ast.specs.declared.metric.Constraint.{Constraint as TheConstraint}
+use Rattle.mdl_check.specs.Spots.{Entry}
+use Rattle.mdl_check.specs.declared.names.Table.{Table}
+use Rattle.mdl_check.specs.declared.names.Table.TheVariants as table
+
+-- the name that an item has in a table: metrics and constraints share one
+abbrev pub name_in : Table → Item → Option (List ℕ)
+name_in table.Variables (Metric m) = Some m.name
+name_in table.Variables (Constraint c) = Some c.name
+name_in table.Variables item = None
+name_in table.Hypotheses (Hypothesis h) = Some h.name
+name_in table.Hypotheses item = None
+name_in table.Phases (Phase p) = Some p.name
+name_in table.Phases item = None
+
+-- there is a name, and it is this one
+abbrev pub is_named : List ℕ → Option (List ℕ) → Bool
+is_named name None = false
+is_named name (Some own) = bytes_eq name own
+
+-- one of the items has the name
+abbrev pub stands : Table → List ℕ → List Entry → Bool
+stands t name es = list_any (λ e. is_named name (name_in t e.item)) es
+
+-- the constraint, if the item is one of this name
+abbrev pub constraint_in : List ℕ → Item → Option TheConstraint
+constraint_in name (Constraint c) = if bytes_eq name c.name then Some c else None
+constraint_in name item = None
+
+-- the first constraint of this name
+abbrev pub constraint_named : List Entry → List ℕ → Option TheConstraint
+constraint_named [] name = None
+constraint_named (e ∷ es) name = elim (constraint_in name e.item) [ Some c ↦ Some c | None ↦ constraint_named es name ]
+
+-- what an item is to a search for a metric: the metric of this name, another metric, or none
+abbrev pub metric_name : Item → Option (List ℕ)
+metric_name (Metric m) = Some m.name
+metric_name item = None
+
+-- the number of the first metric of this name, where k is the first metric's number
+abbrev pub number_from : ℕ → List Entry → List ℕ → Option ℕ
+number_from k [] name = None
+number_from k (e ∷ es) name = elim (metric_name e.item) [
+  | None ↦ number_from k es name
+  | Some own ↦ if bytes_eq name own then Some k else number_from (k + 1) es name
+]
+
+abbrev pub metric_number : List Entry → List ℕ → Option ℕ
+metric_number es name = number_from 0 es name
+
+-- the place of the first hypothesis of this name
+abbrev pub hypothesis_place : List Entry → List ℕ → Option ℕ
+hypothesis_place es name = position (λ e. is_named name (name_in table.Hypotheses e.item)) es

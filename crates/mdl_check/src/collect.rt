@@ -1,0 +1,174 @@
+//! The items of a faultless configuration, by their kinds.
+
+ghost use Rattle.std.specs.Prelude.{◌≡◌, ◌++◌, IfOk, OnOk, flat_map};
+ghost use Rattle.mdl_check.specs.Names.{metric_number};
+ghost use Rattle.mdl_check.specs.Checking.{metric_of, constraint_of, hypothesis_of, phase_of, search_behind, search_in, wish_of, checked_of};
+
+use crate::checked::{Checked, CheckedWish};
+use crate::copies;
+use crate::entry::Entry;
+use crate::names::metric_number;
+use mdl_ast::{Constraint, Hypothesis, Item, Metric, PhaseDecl, SearchDecl};
+use pn_types::{Focus, NoMemory, Seq};
+use std::alloc::{AllocError, Global};
+
+fn add_metric(alloc: Global, metrics: &mut Vec<Metric>, item: &Item) -> Result<(), NoMemory>
+    ensures { OnOk result (metrics.new.items ≡ metrics.old.items ++ metric_of item.now) }
+{
+    if let Item::Metric(metric) = item {
+        metrics.push(copies::metric(alloc, metric)?)?;
+    }
+    Ok(())
+}
+
+fn metrics(alloc: Global, all: &[Entry<'_>]) -> Result<Seq<Metric>, NoMemory>
+    ensures { IfOk result (λ metrics. metrics ≡ flat_map (λ e. metric_of e.item) all.now) }
+{
+    let mut metrics = Vec::new(alloc);
+    for entry in all {
+        add_metric(alloc, &mut metrics, entry.item())?;
+    }
+    Ok(Seq::from_vec(metrics))
+}
+
+fn add_constraint(
+    alloc: Global,
+    constraints: &mut Vec<Constraint>,
+    item: &Item,
+) -> Result<(), NoMemory>
+    ensures { OnOk result (constraints.new.items ≡ constraints.old.items ++ constraint_of item.now) }
+{
+    if let Item::Constraint(constraint) = item {
+        constraints.push(copies::constraint(alloc, constraint)?)?;
+    }
+    Ok(())
+}
+
+fn constraints(alloc: Global, all: &[Entry<'_>]) -> Result<Seq<Constraint>, NoMemory>
+    ensures { IfOk result (λ constraints. constraints ≡ flat_map (λ e. constraint_of e.item) all.now) }
+{
+    let mut constraints = Vec::new(alloc);
+    for entry in all {
+        add_constraint(alloc, &mut constraints, entry.item())?;
+    }
+    Ok(Seq::from_vec(constraints))
+}
+
+fn add_hypothesis(
+    alloc: Global,
+    hypotheses: &mut Vec<Hypothesis>,
+    item: &Item,
+) -> Result<(), NoMemory>
+    ensures { OnOk result (hypotheses.new.items ≡ hypotheses.old.items ++ hypothesis_of item.now) }
+{
+    if let Item::Hypothesis(hypothesis) = item {
+        hypotheses.push(copies::hypothesis(alloc, hypothesis)?)?;
+    }
+    Ok(())
+}
+
+fn hypotheses(alloc: Global, all: &[Entry<'_>]) -> Result<Seq<Hypothesis>, NoMemory>
+    ensures { IfOk result (λ hypotheses. hypotheses ≡ flat_map (λ e. hypothesis_of e.item) all.now) }
+{
+    let mut hypotheses = Vec::new(alloc);
+    for entry in all {
+        add_hypothesis(alloc, &mut hypotheses, entry.item())?;
+    }
+    Ok(Seq::from_vec(hypotheses))
+}
+
+fn add_phase(alloc: Global, phases: &mut Vec<PhaseDecl>, item: &Item) -> Result<(), NoMemory>
+    ensures { OnOk result (phases.new.items ≡ phases.old.items ++ phase_of item.now) }
+{
+    if let Item::Phase(phase) = item {
+        phases.push(copies::phase(alloc, phase)?)?;
+    }
+    Ok(())
+}
+
+fn phases(alloc: Global, all: &[Entry<'_>]) -> Result<Seq<PhaseDecl>, NoMemory>
+    ensures { IfOk result (λ phases. phases ≡ flat_map (λ e. phase_of e.item) all.now) }
+{
+    let mut phases = Vec::new(alloc);
+    for entry in all {
+        add_phase(alloc, &mut phases, entry.item())?;
+    }
+    Ok(Seq::from_vec(phases))
+}
+
+/// The search that an item is, or else the one before.
+fn search_behind(before: Option<SearchDecl>, item: &Item) -> Option<SearchDecl>
+    ensures { result ≡ search_behind before item.now }
+{
+    match item {
+        Item::Search(search) => Some(*search),
+        _ => before,
+    }
+}
+
+fn search(all: &[Entry<'_>]) -> Option<SearchDecl>
+    ensures { result ≡ search_in None all.now }
+{
+    let mut search = None;
+    for entry in all {
+        search = search_behind(search, entry.item());
+    }
+    search
+}
+
+/// A number of 32 bits. So many items as would need more have no room in memory.
+fn number(place: usize) -> Result<u32, NoMemory>
+    ensures { IfOk result (λ number. number ≡ place) }
+{
+    u32::try_from(place).map_err(|_| AllocError)
+}
+
+fn add_wish(
+    all: &[Entry<'_>],
+    wishes: &mut Vec<CheckedWish>,
+    item: &Item,
+    focus: Option<Focus>,
+) -> Result<(), NoMemory>
+    ensures { OnOk result (wishes.new.items ≡ wishes.old.items ++ wish_of all.now item.now focus) }
+{
+    let Item::Wish(wish) = item else {
+        return Ok(());
+    };
+    let Some(place) = metric_number(all, wish.metric.bytes()) else {
+        return Ok(());
+    };
+    let Some(focus) = focus else {
+        return Ok(());
+    };
+    wishes.push(CheckedWish {
+        at: u64::from(wish.at),
+        show: wish.show,
+        metric: number(place)?,
+        focus,
+    })?;
+    Ok(())
+}
+
+fn wishes(alloc: Global, all: &[Entry<'_>]) -> Result<Seq<CheckedWish>, NoMemory>
+    ensures { IfOk result (λ wishes. wishes ≡ flat_map (λ e. wish_of all.now e.item e.focus) all.now) }
+{
+    let mut wishes = Vec::new(alloc);
+    for entry in all {
+        add_wish(all, &mut wishes, entry.item(), entry.focus())?;
+    }
+    Ok(Seq::from_vec(wishes))
+}
+
+/// The items by their kinds.
+pub(crate) fn checked(alloc: Global, all: &[Entry<'_>]) -> Result<Checked, NoMemory>
+    ensures { IfOk result (λ checked. checked ≡ checked_of all.now) }
+{
+    Ok(Checked {
+        metrics: metrics(alloc, all)?,
+        constraints: constraints(alloc, all)?,
+        hypotheses: hypotheses(alloc, all)?,
+        search: search(all),
+        phases: phases(alloc, all)?,
+        wishes: wishes(alloc, all)?,
+    })
+}

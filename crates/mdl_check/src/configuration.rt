@@ -1,0 +1,68 @@
+//! The check.
+
+ghost use Rattle.std.specs.Prelude.{◌≡◌, ◌++◌, IfOk, OnOk};
+ghost use Rattle.mdl_check.specs.Checking.{IsAnswer, sync_of, prefixes_of};
+
+use crate::ancestors::parents_of;
+use crate::checked::Checked;
+use crate::collect::checked;
+use crate::copies::text;
+use crate::fault::CheckFault;
+use crate::judge::first_fault;
+use crate::places::{entries, spots};
+use mdl_ast::{Conf, Item};
+use pn_types::{NoMemory, Text};
+use resource_tree::Tree;
+use std::alloc::Global;
+
+/// Checks a configuration against the tree of a program's resources, where `include metrics` stands for the shipped
+/// items that are no hypotheses, and `include hypotheses` for the others. An included item has the line of its include.
+///
+/// The items stand in the order of the text, those of an include behind it. The fault that is told is that of the first
+/// faulty item, and of an item the first of these:
+///
+/// - `TwiceNamed`: a metric or constraint, a hypothesis, or a phase has the name of one before it, where `global` is a
+///   phase; a second `search`; a repeated include; a metric with two constraints of one axis; a wish at tick 0 that
+///   shows a metric at a focus at which one before it does so.
+/// - `UnknownName`: a constraint, metric or parent that doesn't stand in the configuration; an axis that isn't one of
+///   the three; a variable other than the metric's own, the counter constraint's own, or `$metric` in a replacement.
+/// - `WrongKind`: a constraint of no axis; a counter that is started or stopped, or a timer that is used otherwise,
+///   where that of `$metric` is a fault of each metric that takes the replacement; `$value` outside a constraint of
+///   `/SyncObject`; `$arg` above 7; a window of 0; a phase whose tick isn't above that of the phase before it, or above
+///   0; `at 0 drop`.
+/// - `CyclicParent`: a hypothesis that is its own ancestor.
+/// - `BadFocus`: a wish whose focus selects nothing in the tree.
+///
+/// A name leads to the first item that has it.
+pub fn check(alloc: Global, conf: &Conf, shipped: &Conf, tree: &Tree) -> Result<Checked, CheckFault>
+    ensures { IsAnswer tree.now shipped.now.items conf.now.items result }
+{
+    let places = spots(alloc, shipped.items.as_slice(), conf.items.as_slice())?;
+    let all = entries(alloc, tree, &places)?;
+    let parents = parents_of(alloc, &all)?;
+    if let Some((line, kind)) = first_fault(&all, &parents) {
+        return Err(CheckFault::At { line, kind });
+    }
+    Ok(checked(alloc, &all)?)
+}
+
+fn add_prefix(alloc: Global, prefixes: &mut Vec<Text>, item: &Item) -> Result<(), NoMemory>
+    ensures { OnOk result (prefixes.new.items ≡ prefixes.old.items ++ sync_of item.now) }
+{
+    if let Item::Sync(sync) = item {
+        prefixes.push(text(alloc, &sync.name)?)?;
+    }
+    Ok(())
+}
+
+/// The names of the `sync` items in the order of the text, those of an include behind it. Objects whose names begin with
+/// one of these are locks and the like.
+pub fn prefixes(alloc: Global, conf: &Conf, shipped: &Conf) -> Result<Vec<Text>, NoMemory>
+    ensures { IfOk result (λ prefixes. prefixes.items ≡ prefixes_of shipped.now.items conf.now.items) }
+{
+    let mut prefixes = Vec::new(alloc);
+    for place in &spots(alloc, shipped.items.as_slice(), conf.items.as_slice())? {
+        add_prefix(alloc, &mut prefixes, place.item())?;
+    }
+    Ok(prefixes)
+}

@@ -1,0 +1,212 @@
+//! Copies of the parts of items.
+
+ghost use Rattle.std.specs.Prelude.{◌≡◌, IfOk};
+
+use mdl_ast::{
+    Action, Block, Condition, Constraint, Hypothesis, Insertion, LeftName, Metric, PhaseDecl, Set,
+    Statement, VarName,
+};
+use pn_types::{NoMemory, Seq, Text};
+use std::alloc::Global;
+
+/// A copy of a text.
+pub(crate) fn text(alloc: Global, text: &Text) -> Result<Text, NoMemory>
+    ensures { IfOk result (λ copy. copy ≡ text.now) }
+{
+    Ok(Text::from_vec(Vec::from_slice(alloc, text.bytes())?))
+}
+
+fn texts(alloc: Global, texts: &Seq<Text>) -> Result<Seq<Text>, NoMemory>
+    ensures { IfOk result (λ copy. copy ≡ texts.now) }
+{
+    let mut copies = Vec::new(alloc);
+    for one in texts.as_slice() {
+        copies.push(text(alloc, one)?)?;
+    }
+    Ok(Seq::from_vec(copies))
+}
+
+fn variable(alloc: Global, variable: &VarName) -> Result<VarName, NoMemory>
+    ensures { IfOk result (λ copy. copy ≡ variable.now) }
+{
+    match variable {
+        VarName::Named(name) => Ok(VarName::Named(text(alloc, name)?)),
+        VarName::TheMetric => Ok(VarName::TheMetric),
+    }
+}
+
+fn left(alloc: Global, left: &LeftName) -> Result<LeftName, NoMemory>
+    ensures { IfOk result (λ copy. copy ≡ left.now) }
+{
+    match left {
+        LeftName::Variable(name) => Ok(LeftName::Variable(variable(alloc, name)?)),
+        LeftName::Argument(number) => Ok(LeftName::Argument(*number)),
+    }
+}
+
+fn condition(alloc: Global, condition: &Condition) -> Result<Condition, NoMemory>
+    ensures { IfOk result (λ copy. copy ≡ condition.now) }
+{
+    Ok(Condition {
+        left: left(alloc, &condition.left)?,
+        cmp: condition.cmp,
+        right: condition.right,
+    })
+}
+
+fn conditions(alloc: Global, conditions: &Seq<Condition>) -> Result<Seq<Condition>, NoMemory>
+    ensures { IfOk result (λ copy. copy ≡ conditions.now) }
+{
+    let mut copies = Vec::new(alloc);
+    for one in conditions.as_slice() {
+        copies.push(condition(alloc, one)?)?;
+    }
+    Ok(Seq::from_vec(copies))
+}
+
+fn action(alloc: Global, action: &Action) -> Result<Action, NoMemory>
+    ensures { IfOk result (λ copy. copy ≡ action.now) }
+{
+    match action {
+        Action::Up(name) => Ok(Action::Up(variable(alloc, name)?)),
+        Action::Down(name) => Ok(Action::Down(variable(alloc, name)?)),
+        Action::Put(name, number) => Ok(Action::Put(variable(alloc, name)?, *number)),
+        Action::Start(name) => Ok(Action::Start(variable(alloc, name)?)),
+        Action::Stop(name) => Ok(Action::Stop(variable(alloc, name)?)),
+    }
+}
+
+fn statement(alloc: Global, statement: &Statement) -> Result<Statement, NoMemory>
+    ensures { IfOk result (λ copy. copy ≡ statement.now) }
+{
+    Ok(Statement {
+        line: statement.line,
+        conds: conditions(alloc, &statement.conds)?,
+        act: action(alloc, &statement.act)?,
+    })
+}
+
+fn statements(alloc: Global, statements: &Seq<Statement>) -> Result<Seq<Statement>, NoMemory>
+    ensures { IfOk result (λ copy. copy ≡ statements.now) }
+{
+    let mut copies = Vec::new(alloc);
+    for one in statements.as_slice() {
+        copies.push(statement(alloc, one)?)?;
+    }
+    Ok(Seq::from_vec(copies))
+}
+
+fn insertion(alloc: Global, insertion: &Insertion) -> Result<Insertion, NoMemory>
+    ensures { IfOk result (λ copy. copy ≡ insertion.now) }
+{
+    Ok(Insertion {
+        line: insertion.line,
+        prepend: insertion.prepend,
+        kind: insertion.kind,
+        constrained: insertion.constrained,
+        stmts: statements(alloc, &insertion.stmts)?,
+    })
+}
+
+fn insertions(alloc: Global, insertions: &Seq<Insertion>) -> Result<Seq<Insertion>, NoMemory>
+    ensures { IfOk result (λ copy. copy ≡ insertions.now) }
+{
+    let mut copies = Vec::new(alloc);
+    for one in insertions.as_slice() {
+        copies.push(insertion(alloc, one)?)?;
+    }
+    Ok(Seq::from_vec(copies))
+}
+
+fn set(alloc: Global, set: &Set) -> Result<Set, NoMemory>
+    ensures { IfOk result (λ copy. copy ≡ set.now) }
+{
+    match set {
+        Set::Focus => Ok(Set::Focus),
+        Set::All => Ok(Set::All),
+        Set::Names(names) => Ok(Set::Names(texts(alloc, names)?)),
+    }
+}
+
+fn block(alloc: Global, block: &Block) -> Result<Block, NoMemory>
+    ensures { IfOk result (λ copy. copy ≡ block.now) }
+{
+    Ok(Block {
+        line: block.line,
+        set: set(alloc, &block.set)?,
+        insertions: insertions(alloc, &block.insertions)?,
+    })
+}
+
+fn blocks(alloc: Global, blocks: &Seq<Block>) -> Result<Seq<Block>, NoMemory>
+    ensures { IfOk result (λ copy. copy ≡ blocks.now) }
+{
+    let mut copies = Vec::new(alloc);
+    for one in blocks.as_slice() {
+        copies.push(block(alloc, one)?)?;
+    }
+    Ok(Seq::from_vec(copies))
+}
+
+/// A copy of a metric.
+pub(crate) fn metric(alloc: Global, metric: &Metric) -> Result<Metric, NoMemory>
+    ensures { IfOk result (λ copy. copy ≡ metric.now) }
+{
+    Ok(Metric {
+        line: metric.line,
+        name: text(alloc, &metric.name)?,
+        units: text(alloc, &metric.units)?,
+        constraints: texts(alloc, &metric.constraints)?,
+        timer: metric.timer,
+        initially: metric.initially,
+        blocks: blocks(alloc, &metric.blocks)?,
+    })
+}
+
+/// A copy of a constraint.
+pub(crate) fn constraint(alloc: Global, constraint: &Constraint) -> Result<Constraint, NoMemory>
+    ensures { IfOk result (λ copy. copy ≡ constraint.now) }
+{
+    Ok(Constraint {
+        line: constraint.line,
+        name: text(alloc, &constraint.name)?,
+        path: text(alloc, &constraint.path)?,
+        replace: constraint.replace,
+        initially: constraint.initially,
+        blocks: blocks(alloc, &constraint.blocks)?,
+    })
+}
+
+fn parent(alloc: Global, parent: &Option<Text>) -> Result<Option<Text>, NoMemory>
+    ensures { IfOk result (λ copy. copy ≡ parent.now) }
+{
+    match parent {
+        Some(name) => Ok(Some(text(alloc, name)?)),
+        None => Ok(None),
+    }
+}
+
+/// A copy of a hypothesis.
+pub(crate) fn hypothesis(alloc: Global, hypothesis: &Hypothesis) -> Result<Hypothesis, NoMemory>
+    ensures { IfOk result (λ copy. copy ≡ hypothesis.now) }
+{
+    Ok(Hypothesis {
+        line: hypothesis.line,
+        name: text(alloc, &hypothesis.name)?,
+        parent: parent(alloc, &hypothesis.parent)?,
+        metric: text(alloc, &hypothesis.metric)?,
+        threshold: hypothesis.threshold,
+        axes: texts(alloc, &hypothesis.axes)?,
+    })
+}
+
+/// A copy of a phase.
+pub(crate) fn phase(alloc: Global, phase: &PhaseDecl) -> Result<PhaseDecl, NoMemory>
+    ensures { IfOk result (λ copy. copy ≡ phase.now) }
+{
+    Ok(PhaseDecl {
+        line: phase.line,
+        name: text(alloc, &phase.name)?,
+        at: phase.at,
+    })
+}
