@@ -13,8 +13,6 @@ mod names;
 mod places;
 mod rules;
 mod same;
-#[cfg(test)]
-mod tests;
 mod uses;
 
 pub use checked::{Checked, CheckedWish};
