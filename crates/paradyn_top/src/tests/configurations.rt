@@ -51,20 +51,31 @@ fn faulty_configurations_have_their_line(rt: HostRuntime) -> Result<(), Fail> {
     Ok(())
 }
 
+/// So many question marks, which no configuration has.
+fn marks(alloc: Global, count: u32) -> Result<Vec<u8>, AllocError> {
+    let mut marks = Vec::new(alloc);
+    for _ in 0..count {
+        marks.push(b'?')?;
+    }
+    Ok(marks)
+}
+
 #[test]
 fn long_configurations_are_refused(rt: HostRuntime) -> Result<(), Fail> {
     let alloc = rt.alloc();
-    let conf = vec![in alloc; b' '; 1_048_576]?;
-    let (status, out) = run(alloc, program(alloc, EXIT)?, &conf)?;
-    assert_eq!(rt; (status, out.bytes()), (0, EXIT_REPORT));
-    let conf = vec![in alloc; b'?'; 1_048_577]?;
-    let (status, out) = run(alloc, program(alloc, EXIT)?, &conf)?;
-    assert_eq!(rt;
-        (status, out.bytes()),
+    let cases: [(u32, &[u8]); 2] = [
         (
-            5,
-            b"paradyn: bad configuration: line 0 column 0: too long\n".as_slice()
-        )
-    );
+            1_048_576,
+            b"paradyn: bad configuration: line 1 column 1: bad byte\n",
+        ),
+        (
+            1_048_577,
+            b"paradyn: bad configuration: line 0 column 0: too long\n",
+        ),
+    ];
+    for (count, line) in cases {
+        let (status, out) = run(alloc, program(alloc, EXIT)?, &marks(alloc, count)?)?;
+        assert_eq!(rt; (status, out.bytes()), (5, line));
+    }
     Ok(())
 }
