@@ -1,5 +1,5 @@
 -- The readers of an item of any kind, and of all items.
-use Rattle.std.proofs.Common.{◌≡◌, ℕ, suc, ◌+◌, ◌≤◌, ◌<◌, Bool, true, false, List, [], ◌∷◌, ◌++◌, length, Result, Ok, Err, refl, sym, ap, ◌∙◌, arith, codes, ◌⊎◌, inl, inr}
+use Rattle.std.proofs.Common.{◌≡◌, ℕ, suc, ◌≤◌, true, false, List, refl, arith, codes, ◌⊎◌, inl, inr}
 use Rattle.std.specs.List.{flat_map}
 use Rattle.std.proofs.lemmas.Bool.{cases_lt}
 use Rattle.mdl_ast.specs.declared.items.Item.{Item}
@@ -12,17 +12,17 @@ use Rattle.mdl_ast.specs.declared.items.PhaseDecl.{PhaseDecl}
 use Rattle.mdl_ast.specs.declared.items.Wish.{Wish}
 use Rattle.mdl_ast.specs.declared.metric.Metric.{Metric}
 use Rattle.mdl_ast.specs.declared.metric.Constraint.{Constraint}
-use Rattle.mdl_parse.specs.Spots.{Spot, Mark, starts}
+use Rattle.mdl_parse.specs.Spots.{Spot}
 use Rattle.mdl_parse.specs.Picks.{is_keyword, is_any}
-use Rattle.mdl_parse.specs.Steps.{Read, many_at}
+use Rattle.mdl_parse.specs.Steps.{Read}
 use Rattle.mdl_parse.specs.Items.{metric_at, constraint_at, hypothesis_at, include_at, sync_at, search_at, phase_at, wish_at, as_item, item_at, items_at}
-use Rattle.mdl_parse.specs.ItemGrammar.{metric_marks, constraint_marks, include_words, sync_words, search_words, phase_words, wish_words, item_marks}
+use Rattle.mdl_parse.specs.ItemGrammar.{item_marks}
 use Rattle.mdl_parse.specs.Shapes.{BlocksShaped, ItemShaped}
 use Rattle.mdl_parse.proofs.Rules.{StartsAs}
 use Rattle.mdl_parse.proofs.Readers.{Reads, closed, any}
-use Rattle.mdl_parse.proofs.Repeats.{either_at, either_ok, either_reads, many_reads, all_ok, always}
+use Rattle.mdl_parse.proofs.Repeats.{either_at, either_reads, many_reads, all_ok, always}
 use Rattle.mdl_parse.proofs.Combine.{made, renamed}
-use Rattle.mdl_parse.proofs.ItemRules.{metric_reads, constraint_reads, hypothesis_reads, hypothesis_marks, include_reads, sync_reads, search_reads, phase_reads, wish_reads}
+use Rattle.mdl_parse.proofs.ItemRules.{metric_reads, constraint_reads, hypothesis_reads, include_reads, sync_reads, search_reads, phase_reads, wish_reads}
 
 -- the kinds of items, numbered in the order in which they are tried
 abbrev item_kind : Item → ℕ

@@ -1,11 +1,10 @@
 -- The readers of insertions and blocks.
-use Rattle.std.proofs.Common.{◌≡◌, ℕ, zero, suc, ◌+◌, ◌<◌, ◌≤◌, Bool, true, false, List, [], ◌∷◌, ◌++◌, length, map, Option, Some, None, Result, Ok, Err, refl, sym, ap, subst, ◌∙◌, arith, codes, cond, ◌⊎◌, inl, inr}
+use Rattle.std.proofs.Common.{◌≡◌, ℕ, Bool, true, false, List, [], ◌∷◌, ◌++◌, Option, Some, None, Ok, refl, sym, ap, ◌∙◌, codes, cond, ◌⊎◌, inl, inr}
 use Rattle.std.specs.Prelude.{is_some}
-use Rattle.std.specs.List.{flat_map, join_by, AllByRecursion}
-use Rattle.std.proofs.lemmas.List.{append_assoc, append-nil}
+use Rattle.std.specs.List.{flat_map}
+use Rattle.std.proofs.lemmas.List.{append_assoc}
 use Rattle.pn_text.specs.Words.{Word, NameWord, SignWord}
 use Rattle.pn_text.specs.declared.token.Sign.TheVariants.{OpenBracket, CloseBracket, OpenBrace, CloseBrace, OpenCode, CloseCode, Comma}
-use Rattle.mdl_ast.specs.declared.action.VarName.{VarName}
 use Rattle.mdl_ast.specs.declared.action.VarName.TheVariants.{Named, TheMetric}
 use Rattle.mdl_ast.specs.declared.action.Condition.{Condition}
 use Rattle.mdl_ast.specs.declared.action.Action.{Action}
@@ -15,18 +14,17 @@ use Rattle.mdl_ast.specs.declared.block.Set.{Set}
 use Rattle.mdl_ast.specs.declared.block.Set.TheVariants as set
 use Rattle.mdl_ast.specs.declared.block.EventKind.{EventKind}
 use Rattle.mdl_ast.specs.declared.block.Insertion.{Insertion}
-use Rattle.mdl_ast.specs.declared.block.Block.{Block}
-use Rattle.mdl_parse.specs.Spots.{Spot, Mark, Starts, Goes, mark_word, goes, starts, IsWord}
+use Rattle.mdl_parse.specs.Spots.{Spot, Mark, Starts, Goes, goes, IsWord}
 use Rattle.mdl_parse.specs.Picks.{is_keyword, is_sign, is_var, is_insertion}
-use Rattle.mdl_parse.specs.Steps.{Read, ◌>>=◌, is_first, line_at, option_at, many_at}
-use Rattle.mdl_parse.specs.Readers.{keyword_at, sign_at, name_at, choice_at, event_at, whole_at}
+use Rattle.mdl_parse.specs.Steps.{◌>>=◌, is_first, option_at, many_at}
+use Rattle.mdl_parse.specs.Readers.{keyword_at, whole_at}
 use Rattle.mdl_parse.specs.Parts.{statement_at, flag_at, insertion_at, another_at, names_at, named_at, set_at, block_at, blocks_at}
-use Rattle.mdl_parse.specs.Grammar.{keyword, var_word, condition_words, action_words, statement_marks, flag_words, event_name, insertion_marks, names_words, set_words, block_marks, blocks_marks}
+use Rattle.mdl_parse.specs.Grammar.{keyword, statement_marks, flag_words, event_name, insertion_marks, names_words, set_words, block_marks, blocks_marks}
 use Rattle.mdl_parse.specs.Shapes.{StatementShaped, InsertionShaped, HasNames, SetShaped, BlockShaped, BlocksShaped}
 use Rattle.mdl_parse.proofs.Rules.{StartsAs, never}
-use Rattle.mdl_parse.proofs.Readers.{Reads, closed, any, plainly, one as one_word, pair_at, pair_marks, pair_ok, pair_on}
+use Rattle.mdl_parse.proofs.Readers.{Reads, closed, any, plainly, one as one_word, pair_ok}
 use Rattle.mdl_parse.proofs.Repeats.{option_reads, option_on, option_ok, option_marks, either_reads, many_reads, all_ok, always}
-use Rattle.mdl_parse.proofs.Bounded.{lined_at, lined_marks, lined_ok, lined_on, lined_reads, on_line}
+use Rattle.mdl_parse.proofs.Bounded.{lined_reads}
 use Rattle.mdl_parse.proofs.Combine.{both, both_open, bind_assoc, bind_id, made, renamed}
 use Rattle.mdl_parse.proofs.LeafRules.{keyword_reads, sign_reads, start_reads, name_reads, choice_reads, choice_word, event_reads, whole_reads, IsWhole, whole_word, keyword-is}
 use Rattle.mdl_parse.proofs.StatementRules.{statement_reads, goes-append, goes-flat_map}

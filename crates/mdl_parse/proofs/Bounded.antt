@@ -1,15 +1,14 @@
 -- Readers of at most so many parts, and of values that hold the line of their first word.
-use Rattle.std.proofs.Common.{◌≡◌, ℕ, zero, suc, ◌+◌, ◌<◌, ◌≤◌, Bool, true, false, List, [], ◌∷◌, ◌++◌, length, Option, Some, None, Result, Ok, Err, refl, sym, ap, subst, ◌∙◌, arith, inl, inr, ◌⊎◌, if◌then◌else◌, cond}
+use Rattle.std.proofs.Common.{◌≡◌, ℕ, zero, suc, ◌≤◌, Bool, true, false, List, [], ◌∷◌, ◌++◌, length, Ok, Err, refl, sym, ap, subst, ◌∙◌, arith, inl, inr}
 use Rattle.std.specs.List.{flat_map}
 use Rattle.std.proofs.lemmas.List.{append_assoc, append-nil}
 use Rattle.pn_text.specs.Words.{Word}
-use Rattle.mdl_parse.specs.Spots.{IsWord}
-use Rattle.mdl_parse.specs.Spots.{Spot, AreWords, Mark, Starts, Goes, mark_word, Fits, Spells}
+use Rattle.mdl_parse.specs.Spots.{Spot, Mark, Starts, Goes, mark_word, Spells}
 use Rattle.mdl_parse.specs.Steps.{Stop, Read, ◌>>=◌, stop, is_first, line_at, bounded_at}
 use Rattle.mdl_parse.specs.declared.refusal.Refusal.{Refusal}
 use Rattle.mdl_parse.specs.declared.refusal.Refusal.TheVariants.{Unexpected, TooDeep}
-use Rattle.mdl_parse.proofs.Rules.{AreMarks, spots_of, Spells-append, Parted, Spells-parted, Misses, Misses-never, StartsAs, is_first-spelled, first-Misses, bind_ok, bind_err, bind_same, ok_is, err_is, Misses-first, fits_word}
-use Rattle.mdl_parse.proofs.Readers.{Reads, Reads_, Fails, Completed, completed, Reaches, Reaches-le, closed, any}
+use Rattle.mdl_parse.proofs.Rules.{AreMarks, Spells-append, Spells-parted, Misses, Misses-never, StartsAs, is_first-spelled, first-Misses, bind_ok, bind_err, bind_same, ok_is, err_is, Misses-first}
+use Rattle.mdl_parse.proofs.Readers.{Reads, Reads_, Fails, Completed, Reaches, Reaches-le, closed, any}
 use Rattle.mdl_parse.proofs.Repeats.{always, first_again}
 
 -- ---- at most so many parts

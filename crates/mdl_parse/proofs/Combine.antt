@@ -1,12 +1,10 @@
 -- The rules for readers, in the form in which the grammar's rules are put together.
-use Rattle.std.proofs.Common.{◌≡◌, ℕ, ◌≤◌, Bool, true, false, List, [], ◌∷◌, ◌++◌, Option, Some, None, Result, Ok, Err, refl, sym, ap, ◌∙◌, arith, ◌⊎◌, if◌then◌else◌}
-use Rattle.std.specs.List.{flat_map}
+use Rattle.std.proofs.Common.{◌≡◌, ℕ, ◌≤◌, Bool, false, List, Option, Some, Ok, Err, refl, ◌∙◌}
 use Rattle.pn_text.specs.Words.{Word}
 use Rattle.mdl_parse.specs.Spots.{Spot, Mark, IsWord}
-use Rattle.mdl_parse.specs.Steps.{Read, ◌>>=◌, leaf_at, option_at, many_at}
-use Rattle.mdl_parse.proofs.Rules.{StartsAs, Misses, never}
+use Rattle.mdl_parse.specs.Steps.{Read, ◌>>=◌, leaf_at}
+use Rattle.mdl_parse.proofs.Rules.{StartsAs}
 use Rattle.mdl_parse.proofs.Readers.{Reads, pair_at, pair_marks, pair_ok, pair_on, pair_reads, apart_closed, apart_first, closed, any, one, leaf_reads, made_reads}
-use Rattle.mdl_parse.proofs.Repeats.{option_marks, option_ok, option_on, option_reads, either_at, either_ok, either_reads, many_reads, all_ok, always}
 
 -- one after the other
 pub both : {A B : Type 0} {r1 : ℕ → List Spot → Read A} {m1 : A → List Mark} {ok1 : ℕ → A → Type 0} {r2 : ℕ → List Spot → Read B} {m2 : B → List Mark} {ok2 : ℕ → B → Type 0} {on2 : B → Word → Bool} →

@@ -1,5 +1,5 @@
 -- What the readers answer is what the text means.
-use Rattle.std.proofs.Common.{◌≡◌, ℕ, suc, ◌+◌, ◌<◌, ◌≤◌, Bool, true, false, List, [], ◌∷◌, ◌++◌, length, Option, Some, None, Result, Ok, Err, refl, sym, ap, subst, ◌∙◌, arith, ◌⊎◌, inl, inr}
+use Rattle.std.proofs.Common.{◌≡◌, ℕ, ◌+◌, ◌≤◌, List, [], ◌∷◌, ◌++◌, Some, None, Ok, Err, refl, sym, ap, subst, ◌∙◌, arith, inl, inr}
 use Rattle.std.specs.List.{flat_map}
 use Rattle.std.proofs.lemmas.List.{append_assoc, append-nil}
 use Rattle.std.proofs.lemmas.Bool.{cases_lt}
@@ -9,16 +9,16 @@ use Rattle.mdl_ast.specs.declared.items.Item.{Item}
 use Rattle.mdl_parse.specs.declared.refusal.Refusal.{Refusal}
 use Rattle.mdl_parse.specs.declared.refusal.Refusal.TheVariants.{Unexpected, TooDeep}
 use Rattle.mdl_parse.specs.declared.fault.ParseFault.{ParseFault}
-use Rattle.mdl_parse.specs.Spots.{Spot, AreWords, Spells, text_spots}
-use Rattle.mdl_parse.specs.Steps.{Stop, Read, stop}
+use Rattle.mdl_parse.specs.Spots.{Spot, Spells, text_spots}
+use Rattle.mdl_parse.specs.Steps.{stop}
 use Rattle.mdl_parse.specs.Picks.{is_any}
 use Rattle.mdl_parse.specs.Items.{items_at}
-use Rattle.mdl_parse.specs.ItemGrammar.{item_marks, conf_marks}
-use Rattle.mdl_parse.specs.Shapes.{ItemShaped, IsShaped}
+use Rattle.mdl_parse.specs.ItemGrammar.{item_marks}
+use Rattle.mdl_parse.specs.Shapes.{ItemShaped}
 use Rattle.mdl_parse.specs.Meaning.{most_conditions, AreOf, Begin, IsConf, CantFollow, refusal_kind, IsFault, AtWord, AtBytes, AtLast, Faults}
 use Rattle.mdl_parse.specs.Ends.{lex_fault, fault_in, unread_in}
 use Rattle.mdl_parse.proofs.Rules.{Misses}
-use Rattle.mdl_parse.proofs.Readers.{Completed, Fails, Reads, Reaches}
+use Rattle.mdl_parse.proofs.Readers.{Completed, Fails}
 use Rattle.mdl_parse.proofs.Repeats.{all_ok}
 use Rattle.mdl_parse.proofs.AllItems.{items_reads}
 

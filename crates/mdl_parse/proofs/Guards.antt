@@ -1,11 +1,10 @@
 -- A reader that is never begun at certain words.
-use Rattle.std.proofs.Common.{◌≡◌, ℕ, zero, suc, ◌≤◌, Bool, true, false, List, [], ◌∷◌, ◌++◌, Result, Ok, Err, refl, sym, ap, subst, ◌∙◌, arith, if◌then◌else◌}
+use Rattle.std.proofs.Common.{◌≡◌, ℕ, suc, Bool, true, false, List, [], ◌∷◌, ◌++◌, Ok, Err, refl, sym, ap, subst, ◌∙◌, if◌then◌else◌}
 use Rattle.pn_text.specs.Words.{Word}
-use Rattle.mdl_parse.specs.Spots.{Spot, Mark, mark_word, Spells}
+use Rattle.mdl_parse.specs.Spots.{Spot, Mark, Spells}
 use Rattle.mdl_parse.specs.Steps.{Stop, Read, stop, is_first}
-use Rattle.mdl_parse.specs.declared.refusal.Refusal.{Refusal}
-use Rattle.mdl_parse.specs.declared.refusal.Refusal.TheVariants.{Unexpected, TooDeep}
-use Rattle.mdl_parse.proofs.Rules.{AreMarks, spots_of, spots_spell, spots_are_words, Misses, StartsAs, is_first-spelled, fits_word, err_is}
+use Rattle.mdl_parse.specs.declared.refusal.Refusal.TheVariants.{Unexpected}
+use Rattle.mdl_parse.proofs.Rules.{AreMarks, spots_of, spots_spell, spots_are_words, StartsAs, is_first-spelled, fits_word, err_is}
 use Rattle.mdl_parse.proofs.Readers.{Reads, Reads_, Fails, Completed}
 use Rattle.mdl_parse.proofs.Repeats.{first_again}
 

@@ -1,8 +1,8 @@
 -- A token in view and those behind it.
-use Rattle.std.proofs.Common.{◌≡◌, ℕ, ◌<◌, ◌≤◌, Option, Some, None, List, [], ◌∷◌, length, map, refl, sym, ap, subst, ◌∙◌, arith}
+use Rattle.std.proofs.Common.{◌≡◌, ℕ, ◌≤◌, Option, Some, None, List, [], ◌∷◌, length, map, sym, ap, subst, ◌∙◌, arith}
 use Rattle.pn_text.specs.Scans.{Scan, AreSpans}
 use Rattle.pn_text.specs.declared.token.Token.{Token}
-use Rattle.mdl_parse.specs.Spots.{Spot, token_spot}
+use Rattle.mdl_parse.specs.Spots.{token_spot}
 use Rattle.mdl_parse.specs.Steps.{behind}
 use Rattle.mdl_parse.specs.Gives.{tokens_ahead, HasEnded, StandIn, in_view}
 

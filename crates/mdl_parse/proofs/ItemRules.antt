@@ -1,36 +1,25 @@
 -- The readers of the items of a configuration.
-use Rattle.std.proofs.Common.{◌≡◌, ℕ, ◌≤◌, Bool, true, false, List, [], ◌∷◌, ◌++◌, map, Option, Some, None, Result, Ok, Err, refl, sym, ap, subst, ◌∙◌, arith, codes, cond, ◌⊎◌, inl, inr}
-use Rattle.std.specs.List.{flat_map, AllByRecursion}
-use Rattle.std.proofs.lemmas.List.{append_assoc, append-nil}
-use Rattle.pn_text.specs.Words.{Word, NameWord, NumberWord, QuotedWord, FocusPath, SignWord}
-use Rattle.pn_text.specs.declared.token.Sign.TheVariants.{OpenBrace, CloseBrace, Semicolon, Comma}
-use Rattle.mdl_ast.specs.declared.items.Item.{Item}
-use Rattle.mdl_ast.specs.declared.items.Item.TheVariants as item
-use Rattle.mdl_ast.specs.declared.items.Include.{Include}
-use Rattle.mdl_ast.specs.declared.items.SyncDecl.{SyncDecl}
+use Rattle.std.proofs.Common.{◌≡◌, ℕ, Bool, true, false, List, [], ◌∷◌, ◌++◌, Option, Some, None, Ok, refl, sym, ap, ◌∙◌, codes, cond}
+use Rattle.std.specs.List.{flat_map}
+use Rattle.pn_text.specs.Words.{Word, NameWord, NumberWord, QuotedWord, SignWord}
+use Rattle.pn_text.specs.declared.token.Sign.TheVariants.{OpenBrace, CloseBrace, Semicolon}
 use Rattle.mdl_ast.specs.declared.items.Hypothesis.{Hypothesis}
-use Rattle.mdl_ast.specs.declared.items.SearchDecl.{SearchDecl}
-use Rattle.mdl_ast.specs.declared.items.PhaseDecl.{PhaseDecl}
-use Rattle.mdl_ast.specs.declared.items.Wish.{Wish}
 use Rattle.mdl_ast.specs.declared.block.Block.{Block}
-use Rattle.mdl_ast.specs.declared.metric.Metric.{Metric}
-use Rattle.mdl_ast.specs.declared.metric.Constraint.{Constraint}
-use Rattle.mdl_parse.specs.Spots.{Spot, Mark, Starts, Goes, mark_word, goes, starts, IsWord}
-use Rattle.mdl_parse.specs.Picks.{is_keyword, is_sign, is_any}
-use Rattle.mdl_parse.specs.Steps.{Read, ◌>>=◌, is_first, option_at, many_at}
-use Rattle.mdl_parse.specs.Readers.{keyword_at, sign_at, start_at, name_at, number_at, quoted_at, path_at, choice_at}
-use Rattle.mdl_parse.specs.Parts.{names_at, blocks_at}
-use Rattle.mdl_parse.specs.Items.{initial_at, initially_at, reference_at, references_at, units_at, base_at, metric_at, constraint_at, named_field_at, number_field_at, parent_at, axis_names_at, axes_at, hypothesis_at, include_at, sync_at, search_at, phase_at, wish_at, as_item, item_at, items_at}
+use Rattle.mdl_parse.specs.Spots.{Spot, Mark, Starts, Goes, goes, starts, IsWord}
+use Rattle.mdl_parse.specs.Picks.{is_keyword}
+use Rattle.mdl_parse.specs.Steps.{Read, ◌>>=◌, is_first, option_at}
+use Rattle.mdl_parse.specs.Readers.{keyword_at, sign_at, name_at, number_at, quoted_at}
+use Rattle.mdl_parse.specs.Items.{initial_at, initially_at, reference_at, references_at, units_at, base_at, metric_at, constraint_at, named_field_at, number_field_at, parent_at, axis_names_at, axes_at, hypothesis_at, include_at, sync_at, search_at, phase_at, wish_at}
 use Rattle.mdl_parse.specs.Grammar.{keyword, names_words, blocks_marks}
-use Rattle.mdl_parse.specs.ItemGrammar.{reference_words, initially_words, metric_head, metric_marks, constraint_head, constraint_marks, parent_words, axes_words, hypothesis_words, include_words, sync_words, search_words, phase_words, wish_words, item_marks}
-use Rattle.mdl_parse.specs.Shapes.{HasNames, BlocksShaped, ItemShaped}
+use Rattle.mdl_parse.specs.ItemGrammar.{reference_words, initially_words, metric_marks, constraint_marks, parent_words, axes_words, hypothesis_words, include_words, sync_words, search_words, phase_words, wish_words}
+use Rattle.mdl_parse.specs.Shapes.{HasNames, BlocksShaped}
 use Rattle.mdl_parse.proofs.Rules.{StartsAs, never}
-use Rattle.mdl_parse.proofs.Readers.{Reads, closed, any, plainly, one as one_word, pair_at, pair_marks, pair_ok, pair_on}
-use Rattle.mdl_parse.proofs.Repeats.{option_reads, option_on, option_ok, option_marks, either_reads, either_ok, either_at, many_reads, all_ok, always}
-use Rattle.mdl_parse.proofs.Combine.{both, both_open, bind_assoc, bind_id, made, renamed}
-use Rattle.mdl_parse.proofs.LeafRules.{keyword_reads, sign_reads, start_reads, name_reads, number_reads, quoted_reads, path_reads, choice_reads, choice_word, keyword-is}
+use Rattle.mdl_parse.proofs.Readers.{Reads, closed, any, plainly, one as one_word}
+use Rattle.mdl_parse.proofs.Repeats.{option_reads, option_on, option_ok, option_marks, many_reads, all_ok, always}
+use Rattle.mdl_parse.proofs.Combine.{both, both_open, bind_assoc, bind_id, made}
+use Rattle.mdl_parse.proofs.LeafRules.{keyword_reads, sign_reads, start_reads, name_reads, number_reads, quoted_reads, path_reads, choice_reads, choice_word}
 use Rattle.mdl_parse.proofs.StatementRules.{goes-append, goes-flat_map}
-use Rattle.mdl_parse.proofs.BlockRules.{blocks_reads, names_reads, names_marks, goes_behind, all_any}
+use Rattle.mdl_parse.proofs.BlockRules.{blocks_reads, names_reads, goes_behind, all_any}
 
 -- ---- fields
 

@@ -1,5 +1,5 @@
 -- The readers of single words.
-use Rattle.std.proofs.Common.{◌≡◌, ℕ, ◌≤◌, Bool, true, false, List, [], ◌∷◌, ◌++◌, Option, Some, None, Result, Ok, Err, refl, sym, ap, ◌∙◌, arith, codes, cond, ◌⊎◌, inl, inr, get_or, nat_eq, subst, eq-eqb}
+use Rattle.std.proofs.Common.{◌≡◌, ℕ, Bool, true, false, List, [], ◌∷◌, Some, None, Ok, refl, sym, ap, ◌∙◌, codes, cond, ◌⊎◌, inl, inr, get_or, subst, eq-eqb}
 use Rattle.std.specs.Prelude.{bytes_eq}
 use Rattle.std.proofs.lemmas.Slice.Eq.{bytes_eq-Decides}
 use Rattle.std.proofs.lemmas.Bool.{eqb-true}
@@ -8,8 +8,8 @@ use Rattle.pn_types.specs.declared.compare.Cmp.TheVariants.{Eq, Ne, Lt, Le, Gt, 
 use Rattle.pn_text.specs.Words.{Word, NameWord, NumberWord, QuotedWord, FocusPath, DollarFocus, DollarAll, DollarMetric, DollarValue, DollarArg, SignWord}
 use Rattle.pn_text.specs.declared.token.Sign.{Sign}
 use Rattle.pn_text.specs.declared.token.Sign.TheVariants.{OpenBrace, CloseBrace, OpenBracket, CloseBracket, OpenParen, CloseParen, OpenCode, CloseCode, Semicolon, Comma, PlusPlus, MinusMinus, Assign, Equal, NotEqual, Less, LessEqual, Greater, GreaterEqual}
-use Rattle.mdl_parse.specs.Spots.{Spot, Mark, Starts, Goes, IsWord}
-use Rattle.mdl_parse.specs.Steps.{Read, ◌>>=◌, line_at, leaf_at}
+use Rattle.mdl_parse.specs.Spots.{Starts, IsWord}
+use Rattle.mdl_parse.specs.Steps.{line_at}
 use Rattle.mdl_ast.specs.declared.action.VarName.{VarName}
 use Rattle.mdl_ast.specs.declared.action.VarName.TheVariants.{Named, TheMetric}
 use Rattle.mdl_ast.specs.declared.action.RightSide.{RightSide}

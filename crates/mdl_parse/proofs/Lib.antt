@@ -17,3 +17,11 @@ pub mod Unique
 pub mod Chains
 pub mod PrintLemmas
 pub mod BlockTexts
+pub mod Relining
+pub mod RelinedItems
+pub mod LinePieces
+pub mod LineWords
+pub mod LineTexts
+pub mod ItemTexts
+pub mod SameLines
+pub mod PrintedAgain

@@ -1,5 +1,5 @@
 -- The loop over names between commas, and that over conditions.
-use Rattle.std.proofs.Common.{◌≡◌, ℕ, zero, suc, ◌+◌, ◌-◌, ◌<◌, ◌≤◌, ◌≢◌, Bool, true, false, List, [], ◌∷◌, ◌++◌, length, Result, Ok, Err, refl, sym, ap, subst, ◌∙◌, arith, length-append}
+use Rattle.std.proofs.Common.{◌≡◌, ℕ, suc, ◌-◌, ◌≤◌, ◌≢◌, Bool, true, false, List, [], ◌∷◌, ◌++◌, length, Ok, Err, refl, sym, ap, subst, ◌∙◌, arith, length-append}
 use Rattle.pn_text.specs.declared.token.Sign.TheVariants.{Comma}
 use Rattle.mdl_ast.specs.declared.action.Condition.{Condition}
 use Rattle.mdl_parse.specs.declared.refusal.Stop.{Stop as Answered}
@@ -7,7 +7,7 @@ use Rattle.mdl_parse.specs.declared.refusal.Stop.TheVariants.{NoMemory, Refused}
 use Rattle.mdl_parse.specs.declared.refusal.Refusal.TheVariants.{TooDeep}
 use Rattle.mdl_parse.specs.Spots.{Spot}
 use Rattle.mdl_parse.specs.Picks.{is_sign, is_if}
-use Rattle.mdl_parse.specs.Steps.{Stop, Read, ◌>>=◌, stop, is_first, many_at, bounded_at}
+use Rattle.mdl_parse.specs.Steps.{Read, ◌>>=◌, stop, is_first, many_at}
 use Rattle.mdl_parse.specs.Readers.{name_at}
 use Rattle.mdl_parse.specs.Parts.{another_at, names_at, condition_at, conditions_at}
 use Rattle.mdl_parse.specs.Gives.{Stops}

@@ -1,15 +1,14 @@
 -- The texts of lines.
-use Rattle.std.proofs.Common.{◌≡◌, ℕ, zero, suc, ◌+◌, Bool, true, false, List, [], ◌∷◌, ◌++◌, length, map, drop, Option, Some, None, refl, sym, ap, subst, ◌∙◌, arith, codes, cond}
+use Rattle.std.proofs.Common.{◌≡◌, ℕ, false, List, [], ◌∷◌, ◌++◌, refl, sym, ap, ◌∙◌, codes}
 use Rattle.std.specs.List.{flat_map}
 use Rattle.std.specs.Fmt.{decimal}
-use Rattle.std.proofs.lemmas.List.{append_assoc, append-nil}
+use Rattle.std.proofs.lemmas.List.{append_assoc}
 use Rattle.pn_types.specs.declared.compare.Cmp.{Cmp}
 use Rattle.pn_types.specs.declared.compare.Cmp.TheVariants.{Eq, Ne, Lt, Le, Gt, Ge}
-use Rattle.pn_text.specs.Words.{Word, NameWord, NumberWord, DollarArg, DollarMetric, DollarValue, SignWord}
-use Rattle.pn_text.specs.Writing.{word_text, stand_apart}
+use Rattle.pn_text.specs.Words.{Word, SignWord}
+use Rattle.pn_text.specs.Writing.{word_text}
 use Rattle.pn_text.specs.Signs.{sign_text}
-use Rattle.pn_text.specs.declared.token.Sign.TheVariants.{OpenBracket, CloseBracket, OpenParen, CloseParen, Semicolon, Assign, PlusPlus, MinusMinus, Comma, OpenCode, CloseCode, OpenBrace}
-use Rattle.mdl_ast.specs.declared.action.VarName.{VarName}
+use Rattle.pn_text.specs.declared.token.Sign.TheVariants.{OpenParen, CloseParen}
 use Rattle.mdl_ast.specs.declared.action.VarName.TheVariants.{Named, TheMetric}
 use Rattle.mdl_ast.specs.declared.action.LeftName.{LeftName}
 use Rattle.mdl_ast.specs.declared.action.LeftName.TheVariants.{Variable, Argument}
@@ -18,7 +17,7 @@ use Rattle.mdl_ast.specs.declared.action.RightSide.TheVariants.{Number, Value}
 use Rattle.mdl_ast.specs.declared.action.Condition.{Condition}
 use Rattle.mdl_ast.specs.declared.action.Action.{Action}
 use Rattle.mdl_ast.specs.declared.action.Action.TheVariants as act
-use Rattle.mdl_parse.specs.Grammar.{keyword, var_word, left_words, cmp_sign, right_word, condition_words, action_words, statement_words}
+use Rattle.mdl_parse.specs.Grammar.{keyword, var_word, left_words, cmp_sign, right_word, condition_words, action_words}
 use Rattle.mdl_parse.specs.Printing.{gap, behind_word, words_text, is_opening}
 
 -- ---- lines of two parts

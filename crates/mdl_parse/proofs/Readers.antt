@@ -1,13 +1,13 @@
 -- What a reader keeps, and how that carries over to readers made of others.
-use Rattle.std.proofs.Common.{◌≡◌, ℕ, zero, suc, ◌+◌, ◌<◌, ◌≤◌, Bool, true, false, List, [], ◌∷◌, ◌++◌, length, Option, Some, None, Result, Ok, Err, refl, sym, ap, subst, ◌∙◌, arith, inl, inr, ◌⊎◌, if◌then◌else◌, cond}
-use Rattle.std.proofs.lemmas.List.{append_assoc, append-nil, length-append}
+use Rattle.std.proofs.Common.{◌≡◌, ℕ, suc, ◌≤◌, Bool, false, List, [], ◌∷◌, ◌++◌, Option, Some, None, Ok, Err, refl, sym, ap, subst, ◌∙◌, arith, inl, inr}
+use Rattle.std.proofs.lemmas.List.{append_assoc, append-nil}
 use Rattle.pn_text.specs.Words.{Word}
 use Rattle.mdl_parse.specs.Spots.{IsWord}
-use Rattle.mdl_parse.specs.Spots.{Spot, AreWords, Mark, Starts, Goes, mark_word, Fits, Spells}
-use Rattle.mdl_parse.specs.Steps.{Stop, Read, ◌>>=◌, stop, taken, leaf_at, is_first}
+use Rattle.mdl_parse.specs.Spots.{Spot, AreWords, Mark, Goes, Spells}
+use Rattle.mdl_parse.specs.Steps.{Stop, Read, ◌>>=◌, stop, taken, leaf_at}
 use Rattle.mdl_parse.specs.declared.refusal.Refusal.{Refusal}
 use Rattle.mdl_parse.specs.declared.refusal.Refusal.TheVariants.{Unexpected, TooDeep}
-use Rattle.mdl_parse.proofs.Rules.{AreMarks, spots_of, spots_spell, spots_are_words, AreWords-append, AreMarks-append, Spells-append, Parted, Spells-parted, Misses, never, Misses-never, Misses-same, StartsAs, is_first-spelled, first-Misses, bind_ok, bind_err, bind_same, ok_is, err_is, Misses-first}
+use Rattle.mdl_parse.proofs.Rules.{AreMarks, spots_of, spots_spell, spots_are_words, AreWords-append, AreMarks-append, Spells-append, Spells-parted, Misses, never, Misses-never, Misses-same, StartsAs, is_first-spelled, bind_ok, bind_err, bind_same, ok_is, err_is, Misses-first}
 
 -- a value that these words can be completed to
 pub record Completed {A : Type 0} (marks : A → List Mark) (ok : ℕ → A → Type 0) (n : ℕ) (used : List Spot) : Type 0 where

@@ -1,15 +1,12 @@
 -- Readers of parts that may be there, once or many times, and of one of two forms.
-use Rattle.std.proofs.Common.{◌≡◌, ℕ, zero, suc, ◌+◌, ◌<◌, ◌≤◌, Bool, true, false, List, [], ◌∷◌, ◌++◌, length, Option, Some, None, Result, Ok, Err, refl, sym, ap, subst, ◌∙◌, arith, inl, inr, ◌⊎◌, if◌then◌else◌, cond}
+use Rattle.std.proofs.Common.{◌≡◌, ℕ, zero, suc, ◌<◌, ◌≤◌, Bool, true, false, List, [], ◌∷◌, ◌++◌, length, Option, Some, None, Ok, Err, refl, sym, ap, subst, ◌∙◌, arith, inl, inr, ◌⊎◌, if◌then◌else◌}
 use Rattle.std.specs.List.{flat_map, AllByRecursion}
-use Rattle.std.proofs.lemmas.List.{append_assoc, append-nil, length-append}
+use Rattle.std.proofs.lemmas.List.{append_assoc, append-nil}
 use Rattle.pn_text.specs.Words.{Word}
-use Rattle.mdl_parse.specs.Spots.{IsWord}
-use Rattle.mdl_parse.specs.Spots.{Spot, AreWords, Mark, Starts, Goes, mark_word, Fits, Spells}
-use Rattle.mdl_parse.specs.Steps.{Stop, Read, ◌>>=◌, stop, is_first, option_at, many_in, many_at, bounded_at}
-use Rattle.mdl_parse.specs.declared.refusal.Refusal.{Refusal}
-use Rattle.mdl_parse.specs.declared.refusal.Refusal.TheVariants.{Unexpected, TooDeep}
-use Rattle.mdl_parse.proofs.Rules.{AreMarks, spots_of, spots_spell, spots_are_words, AreWords-append, AreMarks-append, Spells-append, Parted, Spells-parted, Misses, never, Misses-never, Misses-same, StartsAs, is_first-spelled, first-Misses, bind_ok, bind_err, bind_same, ok_is, err_is, Misses-first, longer}
-use Rattle.mdl_parse.proofs.Readers.{Reads, Reads_, Fails, Completed, completed, Reaches, Reaches-le, closed}
+use Rattle.mdl_parse.specs.Spots.{Spot, Mark, Spells}
+use Rattle.mdl_parse.specs.Steps.{Stop, Read, ◌>>=◌, stop, is_first, option_at, many_in, many_at}
+use Rattle.mdl_parse.proofs.Rules.{Spells-append, Spells-parted, Misses, never, Misses-never, StartsAs, is_first-spelled, first-Misses, bind_ok, bind_err, bind_same, ok_is, Misses-first, longer}
+use Rattle.mdl_parse.proofs.Readers.{Reads, Reads_, Fails, Completed, completed, Reaches-le, closed}
 
 -- ---- a part that may be there
 

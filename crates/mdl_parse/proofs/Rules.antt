@@ -1,12 +1,10 @@
 -- Readers of words, and what they keep: each reads exactly the words that its value is spelled by.
-use Rattle.std.proofs.Common.{◌≡◌, ℕ, zero, suc, ◌+◌, ◌<◌, ◌≤◌, Bool, true, false, List, [], ◌∷◌, ◌++◌, length, map, Option, Some, None, Result, Ok, Err, refl, sym, ap, subst, ◌∙◌, arith, inl, inr, ◌⊎◌, if◌then◌else◌, cond}
-use Rattle.std.proofs.lemmas.List.{append_assoc, append-nil, length-append}
+use Rattle.std.proofs.Common.{◌≡◌, ◌<◌, Bool, false, List, [], ◌∷◌, ◌++◌, length, map, Ok, Err, refl, sym, ap, subst, ◌∙◌, arith, inl, inr, ◌⊎◌}
+use Rattle.std.proofs.lemmas.List.{length-append}
 use Rattle.pn_text.specs.Words.{Word}
 use Rattle.mdl_parse.specs.Spots.{IsWord}
 use Rattle.mdl_parse.specs.Spots.{Spot, AreWords, Mark, Starts, Goes, mark_word, Fits, Spells}
-use Rattle.mdl_parse.specs.Steps.{Stop, Read, ◌>>=◌, stop, taken, leaf_at, is_first, option_at, many_in, many_at}
-use Rattle.mdl_parse.specs.declared.refusal.Refusal.{Refusal}
-use Rattle.mdl_parse.specs.declared.refusal.Refusal.TheVariants.{Unexpected, TooDeep}
+use Rattle.mdl_parse.specs.Steps.{Stop, Read, ◌>>=◌, is_first}
 
 -- ---- words of texts and trees
 

@@ -1,10 +1,9 @@
 -- The readers of conditions and statements.
-use Rattle.std.proofs.Common.{◌≡◌, ℕ, zero, suc, ◌+◌, ◌<◌, ◌≤◌, Bool, true, false, List, [], ◌∷◌, ◌++◌, length, map, Option, Some, None, Result, Ok, Err, refl, sym, ap, subst, ◌∙◌, arith, codes, cond, ◌⊎◌, inl, inr}
+use Rattle.std.proofs.Common.{◌≡◌, ℕ, Bool, true, false, List, [], ◌∷◌, ◌++◌, Ok, Err, refl, ap, ◌∙◌, arith, codes, cond, ◌⊎◌, inl, inr}
 use Rattle.std.specs.List.{flat_map}
-use Rattle.std.proofs.lemmas.List.{append_assoc, append-nil}
 use Rattle.pn_types.specs.declared.compare.Cmp.{Cmp}
 use Rattle.pn_types.specs.declared.compare.Cmp.TheVariants.{Eq}
-use Rattle.pn_text.specs.Words.{Word, NameWord, NumberWord, DollarArg, DollarMetric, SignWord}
+use Rattle.pn_text.specs.Words.{Word, NumberWord, DollarMetric, SignWord}
 use Rattle.pn_text.specs.declared.token.Sign.TheVariants.{OpenBracket, CloseBracket, OpenParen, CloseParen, Semicolon, Assign, PlusPlus, MinusMinus}
 use Rattle.mdl_ast.specs.declared.action.VarName.{VarName}
 use Rattle.mdl_ast.specs.declared.action.VarName.TheVariants.{Named, TheMetric}
@@ -15,23 +14,22 @@ use Rattle.mdl_ast.specs.declared.action.RightSide.TheVariants.{Value}
 use Rattle.mdl_ast.specs.declared.action.Condition.{Condition}
 use Rattle.mdl_ast.specs.declared.action.Action.{Action}
 use Rattle.mdl_ast.specs.declared.action.Action.TheVariants as act
-use Rattle.mdl_ast.specs.declared.action.Statement.{Statement}
 use Rattle.mdl_parse.specs.declared.change.Change.{Change}
 use Rattle.mdl_parse.specs.declared.change.Change.TheVariants.{Up, Down, Put}
 use Rattle.mdl_parse.specs.Actions.{changed, timed}
-use Rattle.mdl_parse.specs.Spots.{Spot, AreWords, Mark, Starts, Goes, mark_word, goes, starts, IsWord, Spells}
-use Rattle.mdl_parse.specs.Picks.{is_keyword, is_sign, is_arg, is_var, is_if, is_timing}
-use Rattle.mdl_parse.specs.Steps.{Read, ◌>>=◌, stop, is_first, line_at, bounded_at}
+use Rattle.mdl_parse.specs.Spots.{Spot, Mark, Goes, goes, starts}
+use Rattle.mdl_parse.specs.Picks.{is_sign, is_arg, is_if, is_timing}
+use Rattle.mdl_parse.specs.Steps.{Read, ◌>>=◌, stop, is_first}
 use Rattle.mdl_parse.specs.declared.refusal.Refusal.TheVariants.{Unexpected}
-use Rattle.mdl_parse.specs.Readers.{keyword_at, sign_at, arg_at, number_at, choice_at, step_at, var_at, cmp_at, right_at}
+use Rattle.mdl_parse.specs.Readers.{step_at}
 use Rattle.mdl_parse.specs.Parts.{argument_at, variable_at, left_at, condition_at, conditions_at, put_at, change_at, changed_at, timed_at, action_at, statement_at}
-use Rattle.mdl_parse.specs.Grammar.{keyword, var_word, left_words, right_word, cmp_sign, condition_words, action_words, statement_words, statement_marks}
-use Rattle.mdl_parse.specs.Shapes.{BeginsStatement, ActionShaped, StatementShaped}
+use Rattle.mdl_parse.specs.Grammar.{keyword, var_word, left_words, right_word, cmp_sign, condition_words, action_words, statement_marks}
+use Rattle.mdl_parse.specs.Shapes.{ActionShaped, StatementShaped}
 use Rattle.mdl_parse.proofs.Rules.{StartsAs, spots_of, spots_spell, spots_are_words, first-Misses}
 use Rattle.mdl_parse.proofs.Readers.{Reads, Completed, closed, any, plainly, one as one_word, pair_at, pair_marks, pair_ok, pair_on}
 use Rattle.mdl_parse.proofs.Guards.{guard_at, guard_ok, guard_reads, IsSome}
 use Rattle.mdl_parse.proofs.Repeats.{either_reads, always}
-use Rattle.mdl_parse.proofs.Bounded.{bounded_reads, few, lined_at, lined_marks, lined_ok, lined_on, lined_reads, IsUnlined, on_line}
+use Rattle.mdl_parse.proofs.Bounded.{bounded_reads, few, lined_at, lined_reads, IsUnlined, on_line}
 use Rattle.mdl_parse.proofs.Combine.{both, both_open, bind_assoc, bind_id, made, renamed}
 use Rattle.mdl_parse.proofs.LeafRules.{keyword_reads, sign_reads, arg_reads, number_reads, choice_reads, choice_word, var_reads, right_reads, cmp_reads, step_reads, IsStep, step_word, is_keyword-true}
 

@@ -1,5 +1,5 @@
 -- A text has one meaning.
-use Rattle.std.proofs.Common.{◌≡◌, ℕ, Bool, true, false, List, [], ◌∷◌, ◌++◌, map, Result, Ok, refl, sym, ap, subst, ◌∙◌, arith}
+use Rattle.std.proofs.Common.{◌≡◌, ℕ, true, List, [], ◌∷◌, ◌++◌, map, sym, ap, subst, ◌∙◌, arith}
 use Rattle.std.specs.List.{list_all}
 use Rattle.std.proofs.lemmas.Bool.{and_parts}
 use Rattle.std.proofs.lemmas.List.{append_assoc}
@@ -13,7 +13,6 @@ use Rattle.mdl_parse.specs.declared.refusal.Refusal.{Refusal}
 use Rattle.mdl_parse.specs.declared.refusal.Refusal.TheVariants.{Unexpected, TooDeep}
 use Rattle.mdl_parse.specs.declared.fault.SyntaxKind.{SyntaxKind}
 use Rattle.mdl_parse.specs.Spots.{Spot, AreWords, text_spots, token_spot}
-use Rattle.mdl_parse.specs.Items.{items_at}
 use Rattle.mdl_parse.specs.Meaning.{most_conditions, AreOf, Begin, IsConf, CantFollow, IsFault, AtWord, AtBytes, AtLast}
 use Rattle.mdl_parse.proofs.Rules.{ok_is}
 use Rattle.mdl_parse.proofs.Exact.{read_again}

@@ -1,5 +1,5 @@
 -- Where reading stops: at a word, at something that is no word, or at the end.
-use Rattle.std.specs.Prelude.{ℕ, Option, Some, None, List, [], ◌∷◌}
+use Rattle.std.specs.Prelude.{Option, Some, None, List, [], ◌∷◌}
 use Rattle.pn_text.specs.Scans.{Ending, AtEnd, AtFault, fault_place}
 use Rattle.pn_text.specs.declared.token.LexFault.{LexFault}
 use Rattle.mdl_parse.specs.declared.refusal.Refusal.{Refusal}

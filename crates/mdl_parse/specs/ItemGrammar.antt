@@ -1,5 +1,5 @@
 -- The grammar of the items of a configuration, and of the whole.
-use Rattle.std.specs.Prelude.{ℕ, Bool, List, [], ◌∷◌, ◌++◌, Option, Some, None, codes, if◌then◌else◌, map}
+use Rattle.std.specs.Prelude.{ℕ, List, [], ◌∷◌, ◌++◌, Option, Some, None, codes, if◌then◌else◌, map}
 use Rattle.std.specs.List.{flat_map}
 use Rattle.pn_text.specs.Words.{Word, NameWord, NumberWord, QuotedWord, FocusPath, SignWord}
 use Rattle.pn_text.specs.declared.token.Sign.TheVariants.{OpenBrace, CloseBrace, Semicolon}

@@ -1,7 +1,6 @@
 -- Readers of the items of a configuration.
-use Rattle.std.specs.Prelude.{ℕ, Bool, List, [], ◌∷◌, Option, Some, None, Ok, codes, if◌then◌else◌}
+use Rattle.std.specs.Prelude.{ℕ, Bool, List, [], Option, Ok, codes, if◌then◌else◌}
 use Rattle.pn_text.specs.declared.token.Sign.TheVariants.{OpenBrace, CloseBrace, Semicolon}
-use Rattle.mdl_ast.specs.declared.items.Conf.{Conf}
 use Rattle.mdl_ast.specs.declared.items.Item.{Item}
 use Rattle.mdl_ast.specs.declared.items.Item.TheVariants as item
 use Rattle.mdl_ast.specs.declared.items.Include.{Include}

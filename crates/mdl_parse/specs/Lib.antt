@@ -13,4 +13,5 @@ pub mod Meaning
 pub mod Ends
 pub mod Printing
 pub mod PrintParts
+pub mod ButLines
 pub mod Shipped

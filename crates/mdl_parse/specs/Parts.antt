@@ -1,5 +1,5 @@
 -- Readers of the parts of the grammar, from the smallest up to the whole. `n` is the most conditions that a statement has.
-use Rattle.std.specs.Prelude.{ℕ, Bool, true, false, List, [], ◌∷◌, Option, Some, None, Ok, codes, if◌then◌else◌}
+use Rattle.std.specs.Prelude.{ℕ, Bool, true, false, List, ◌∷◌, Ok, codes, if◌then◌else◌}
 use Rattle.pn_text.specs.declared.token.Sign.TheVariants.{OpenBrace, CloseBrace, OpenBracket, CloseBracket, OpenParen, CloseParen, OpenCode, CloseCode, Semicolon, Comma, Assign}
 use Rattle.mdl_ast.specs.declared.action.LeftName.{LeftName}
 use Rattle.mdl_ast.specs.declared.action.LeftName.TheVariants.{Variable, Argument}
@@ -15,7 +15,7 @@ use Rattle.mdl_parse.specs.declared.change.Change.TheVariants.{Put}
 use Rattle.mdl_parse.specs.Actions.{changed, timed}
 use Rattle.mdl_parse.specs.Spots.{Spot}
 use Rattle.mdl_parse.specs.Picks.{is_keyword, is_sign, is_arg, is_var, is_if, is_timing, is_insertion}
-use Rattle.mdl_parse.specs.Steps.{Read, ◌>>=◌, line_at, is_first, option_at, many_at, bounded_at}
+use Rattle.mdl_parse.specs.Steps.{Read, ◌>>=◌, line_at, is_first, many_at, bounded_at}
 use Rattle.mdl_parse.specs.Readers.{keyword_at, sign_at, arg_at, start_at, name_at, number_at, choice_at, step_at, event_at, var_at, cmp_at, right_at, whole_at}
 
 -- ---- conditions

@@ -1,10 +1,10 @@
 -- The canonical text of a configuration.
-use Rattle.std.specs.Prelude.{ℕ, zero, suc, ◌+◌, ◌&&◌, ◌||◌, Bool, true, false, List, [], ◌∷◌, ◌++◌, map, Option, Some, None, bytes_eq, codes, if◌then◌else◌}
+use Rattle.std.specs.Prelude.{ℕ, zero, suc, ◌+◌, ◌&&◌, ◌||◌, Bool, true, false, List, [], ◌∷◌, ◌++◌, map, bytes_eq, codes, if◌then◌else◌}
 use Rattle.std.specs.List.{flat_map}
-use Rattle.pn_text.specs.Words.{Word, NameWord, NumberWord, QuotedWord, FocusPath, DollarFocus, DollarAll, DollarMetric, DollarValue, DollarArg, SignWord}
+use Rattle.pn_text.specs.Words.{Word, NameWord, NumberWord, QuotedWord, DollarArg, SignWord}
 use Rattle.pn_text.specs.Writing.{word_text, stand_apart}
 use Rattle.pn_text.specs.declared.token.Sign.{Sign}
-use Rattle.pn_text.specs.declared.token.Sign.TheVariants.{OpenBrace, CloseBrace, OpenBracket, CloseBracket, OpenParen, CloseParen, OpenCode, CloseCode, Semicolon, Comma, PlusPlus, MinusMinus}
+use Rattle.pn_text.specs.declared.token.Sign.TheVariants.{OpenBrace, CloseBrace, OpenBracket, CloseBracket, OpenParen, CloseParen, CloseCode, Semicolon, Comma, PlusPlus, MinusMinus}
 use Rattle.mdl_ast.specs.declared.block.Insertion.{Insertion}
 use Rattle.mdl_ast.specs.declared.block.Block.{Block}
 use Rattle.mdl_ast.specs.declared.metric.Metric.{Metric}

@@ -1,7 +1,6 @@
 -- Readers of single words.
-use Rattle.std.specs.Prelude.{ℕ, Bool, List, Option, Ok}
+use Rattle.std.specs.Prelude.{ℕ, Bool, List, Ok}
 use Rattle.pn_types.specs.declared.compare.Cmp.{Cmp}
-use Rattle.pn_text.specs.Words.{Word}
 use Rattle.pn_text.specs.declared.token.Sign.{Sign}
 use Rattle.mdl_ast.specs.declared.action.VarName.{VarName}
 use Rattle.mdl_ast.specs.declared.action.RightSide.{RightSide}

@@ -24,5 +24,5 @@ mod words;
 
 pub use fault::{ParseFault, SyntaxKind};
 pub use parsing::{one_meaning, parse};
-pub use printing::print;
+pub use printing::{print, printed_again};
 pub use shipping::shipped;

@@ -1,7 +1,10 @@
 //! From a configuration to its canonical text.
 
 ghost use Rattle.std.specs.Prelude.{◌≡◌, ◌++◌, OnOk, IfOk};
+ghost use Rattle.mdl_ast.specs.declared.items.Conf.{Conf};
+ghost use Rattle.mdl_parse.specs.ButLines.{IsSpelled, SpellsAgain};
 ghost use Rattle.mdl_parse.specs.PrintParts.{item_text, items_text};
+ghost use Rattle.mdl_parse.specs.Printing.{conf_text};
 
 use crate::print_items::{add_include, add_phase, add_sync, add_wish};
 use crate::print_metrics::{add_constraint, add_hypothesis, add_metric, add_search};
@@ -38,8 +41,15 @@ fn items(alloc: Global, items: &[Item]) -> Result<Vec<u8>, NoMemory>
 
 /// The canonical text of a configuration: one item, field, insertion or closing brace on a line, with two spaces for each
 /// level, and one space between words where the grammar's text doesn't leave it out.
+#[tactic(auto, using(crate::proofs::ItemTexts::printed))]
 pub fn print(alloc: Global, conf: &Conf) -> Result<Vec<u8>, NoMemory>
-    ensures { IfOk result (λ text. text.items ≡ items_text conf.now.items) }
+    ensures { IfOk result (λ text. text.items ≡ conf_text conf.now) }
 {
     items(alloc, conf.items.as_slice())
 }
+
+/// The canonical text of a configuration that some text spells, but for its lines, spells it again, but for its lines.
+#[tactic(auto, using(crate::proofs::PrintedAgain::printed_again))]
+pub fn printed_again()
+    ensures { (c : Conf) → IsSpelled c → SpellsAgain (conf_text c) c }
+{}

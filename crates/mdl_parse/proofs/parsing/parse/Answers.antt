@@ -1,4 +1,4 @@
-use Rattle.std.proofs.Common.{◌≡◌, sym, ap, subst, ◌∙◌}
+use Rattle.std.proofs.Common.{sym, ap, subst, ◌∙◌}
 use Rattle.mdl_parse.specs.declared.refusal.Stop.{Stop}
 use Rattle.mdl_parse.specs.Spots.{Ahead}
 use Rattle.mdl_parse.specs.Items.{items_at}

@@ -1,6 +1,5 @@
 use Rattle.std.proofs.Common.{◌∙◌, refl, ap, ℕ, List, [], ◌∷◌, ◌++◌}
 use Rattle.std.proofs.lemmas.Result.{err_from_is_err_and}
-use Rattle.mdl_parse.specs.Steps.{many_at}
 use Rattle.pn_text.specs.declared.token.Sign.TheVariants.{Comma}
 use Rattle.mdl_parse.specs.Picks.{is_sign}
 use Rattle.mdl_parse.specs.Parts.{another_at, names_at}
