@@ -82,6 +82,7 @@ pub fn points(alloc: Global, image: &Image, procs: &[Proc]) -> Result<Vec<Point>
     requires { AreProcsOf image.now procs.now }
     ensures points { IfOk result (λ points. points.items ≡ points_of image.now procs.now) }
     ensures ascending { IfOk result (λ points. IsStrictlyIncreasing (map (λ q. q.at) points.items)) }
+    ensures few { IfOk result (λ points. length points.items ≤ image.now.text_at + image.now.text_len) }
 {
     let text = image.text_bytes();
     let mut points = Vec::new(alloc);

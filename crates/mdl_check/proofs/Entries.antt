@@ -1,10 +1,12 @@
 -- One more item with its focus.
-use Rattle.std.proofs.Common.{◌≡◌, ℕ, ◌+◌, ◌<◌, Option, List, [], ◌∷◌, ◌++◌, length, map, take, get_or, sym, ap, ◌∙◌, refl}
-use Rattle.std.proofs.lemmas.List.{take_more, map-append}
+use Rattle.std.proofs.Common.{◌≡◌, ℕ, ◌+◌, ◌<◌, ◌≤◌, suc, arith, flat_map, Option, List, [], ◌∷◌, ◌++◌, length, map, take, get_or, sym, ap, ◌∙◌, refl}
+use Rattle.std.proofs.lemmas.List.{take_more, map-append, length-append}
+use Rattle.mdl_ast.specs.declared.items.Item.{Item}
+use Rattle.mdl_ast.specs.declared.items.Item.TheVariants.{Include, Sync, Metric, Constraint, Hypothesis, Search, Phase, Wish}
 use Rattle.pn_types.specs.declared.focus.Focus.{Focus}
 use Rattle.resource_tree.specs.Resources.{Resources}
 use Rattle.mdl_check.specs.Spots.{Spot, Entry, entry}
-use Rattle.mdl_check.specs.Checking.{HasFocus, HaveFoci, AreEntries, spot_of}
+use Rattle.mdl_check.specs.Checking.{HasFocus, HaveFoci, AreEntries, spot_of, metric_of}
 
 have_more : (t : Resources) (es : List Entry) (e : Entry) → HaveFoci t es → HasFocus t e.item e.focus → HaveFoci t (es ++ (e ∷ []))
 have_more t [] e hs h = (h, tt)
@@ -21,3 +23,27 @@ one_more t places i s focus es lt is so_far h = record {
       ∙ sym (take_more places i s lt);
   foci = have_more t es (entry s.line s.item focus) so_far.foci h;
 }
+
+-- ---- how many
+
+pub entries_length : (t : Resources) (places : List Spot) (es : List Entry) → AreEntries t places es → length es ≡ length places
+entries_length t places es are = mapped es ∙ ap length are.places_are
+  where
+    mapped : (es : List Entry) → length es ≡ length (map spot_of es)
+    mapped [] = refl
+    mapped (e ∷ es) = ap suc (mapped es)
+
+at_most_one : (item : Item) → length (metric_of item) ≤ 1
+at_most_one (Include i) = omega arith
+at_most_one (Sync s) = omega arith
+at_most_one (Metric m) = omega arith
+at_most_one (Constraint c) = omega arith
+at_most_one (Hypothesis h) = omega arith
+at_most_one (Search s) = omega arith
+at_most_one (Phase p) = omega arith
+at_most_one (Wish w) = omega arith
+
+-- there are no more metrics than items
+pub few_metrics : (es : List Entry) → length (flat_map (λ e. metric_of e.item) es) ≤ length es
+few_metrics [] = omega arith
+few_metrics (e ∷ es) = omega (arith, few_metrics es, at_most_one e.item, length-append (metric_of e.item) (flat_map (λ e. metric_of e.item) es))

@@ -1,2 +1,3 @@
 mod Steps
 mod Entries
+pub mod Few

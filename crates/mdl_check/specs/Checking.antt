@@ -1,8 +1,8 @@
 -- The first faulty item, and what a faultless configuration is.
-use Rattle.std.specs.Prelude.{ℕ, ◌≡◌, ◌++◌, Option, Some, None, option_and_then, Result, Ok, Err, List, [], ◌∷◌, map, flat_map, codes}
+use Rattle.std.specs.Prelude.{ℕ, ◌≡◌, ◌++◌, Option, Some, None, Result, Ok, Err, List, [], ◌∷◌, map, flat_map}
 use Rattle.pn_types.specs.declared.focus.Focus.{Focus}
 use Rattle.mdl_ast.specs.declared.items.Item.{Item}
-use Rattle.mdl_ast.specs.declared.items.Item.TheVariants.{Include, Sync, Metric, Constraint, Hypothesis, Search, Phase, Wish}
+use Rattle.mdl_ast.specs.declared.items.Item.TheVariants.{Sync, Metric, Constraint, Hypothesis, Search, Phase, Wish}
 use Rattle.mdl_ast.specs.declared.metric.Metric.{Metric as TheMetric}
 use Rattle.mdl_ast.specs.declared.metric.Constraint.{Constraint as TheConstraint}
 use Rattle.mdl_ast.specs.declared.items.Hypothesis.{Hypothesis as TheHypothesis}

@@ -1,5 +1,5 @@
 -- What can be wrong with an item.
-use Rattle.std.specs.Prelude.{ℕ, zero, suc, ◌==◌, ◌&&◌, ◌||◌, not, nat_lt, nat_le, if◌then◌else◌, Bool, true, false, Option, Some, None, is_some, option_and_then, List, [], ◌∷◌, length, map, fold, count_by, slice_get, codes}
+use Rattle.std.specs.Prelude.{ℕ, zero, suc, ◌==◌, ◌&&◌, ◌||◌, not, nat_lt, nat_le, if◌then◌else◌, Bool, true, false, Option, Some, None, is_some, option_and_then, List, length, map, fold, count_by, slice_get, codes}
 use Rattle.std.specs.List.{list_any, list_all}
 use Rattle.std.specs.Str.{bytes_eq}
 use Rattle.pn_types.specs.declared.focus.CodePart.{CodePart}
@@ -9,7 +9,7 @@ use Rattle.mdl_ast.specs.declared.items.Item.{Item}
 use Rattle.mdl_ast.specs.declared.items.Item.TheVariants.{Include, Sync, Metric, Constraint, Hypothesis, Search, Phase, Wish}
 use Rattle.mdl_ast.specs.declared.metric.Constraint.{Constraint as TheConstraint}
 use Rattle.mdl_check.specs.Spots.{Entry}
-use Rattle.mdl_check.specs.Names.{name_in, is_named, stands, constraint_named, metric_number, hypothesis_place}
+use Rattle.mdl_check.specs.Names.{stands, constraint_named, metric_number, hypothesis_place}
 use Rattle.mdl_check.specs.Statements.{have}
 use Rattle.mdl_check.specs.declared.names.Table.TheVariants as table
 use Rattle.mdl_check.specs.declared.uses.Use.{Use}

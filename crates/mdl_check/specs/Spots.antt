@@ -1,5 +1,5 @@
 -- The items in their order, those of an include in its place.
-use Rattle.std.specs.Prelude.{ℕ, ◌≡◌, not, Bool, true, false, if◌then◌else◌, Option, Some, None, List, [], ◌∷◌, map, filter, flat_map}
+use Rattle.std.specs.Prelude.{ℕ, not, Bool, true, false, if◌then◌else◌, Option, List, [], ◌∷◌, map, filter, flat_map}
 use Rattle.mdl_ast.specs.declared.items.Item.{Item}
 use Rattle.mdl_ast.specs.declared.items.Item.TheVariants.{Include, Sync, Metric, Constraint, Hypothesis, Search, Phase, Wish}
 use Rattle.pn_types.specs.declared.focus.Focus.{Focus}

@@ -1,12 +1,12 @@
 -- What statements use.
-use Rattle.std.specs.Prelude.{ℕ, ◌&&◌, ◌||◌, not, nat_lt, Bool, true, false, Option, Some, None, is_none, List}
+use Rattle.std.specs.Prelude.{ℕ, ◌&&◌, ◌||◌, not, nat_lt, Bool, true, false, Option, is_none, List}
 use Rattle.std.specs.List.{list_any}
 use Rattle.mdl_ast.specs.declared.action.VarName.{VarName}
 use Rattle.mdl_ast.specs.declared.action.VarName.TheVariants.{Named, TheMetric}
 use Rattle.mdl_ast.specs.declared.action.LeftName.{LeftName}
 use Rattle.mdl_ast.specs.declared.action.LeftName.TheVariants.{Variable, Argument}
 use Rattle.mdl_ast.specs.declared.action.RightSide.{RightSide}
-use Rattle.mdl_ast.specs.declared.action.RightSide.TheVariants.{Number, Value}
+use Rattle.mdl_ast.specs.declared.action.RightSide.TheVariants.{Value}
 use Rattle.mdl_ast.specs.declared.action.Condition.{Condition}
 use Rattle.mdl_ast.specs.declared.action.Action.{Action}
 use Rattle.mdl_ast.specs.declared.action.Action.TheVariants.{Up, Down, Put, Start, Stop}

@@ -1,6 +1,6 @@
 //! The items of a faultless configuration, by their kinds.
 
-ghost use Rattle.std.specs.Prelude.{◌≡◌, ◌++◌, IfOk, OnOk, flat_map};
+ghost use Rattle.std.specs.Prelude.{◌≡◌, ◌<◌, ◌^◌, ◌++◌, IfOk, OnOk, flat_map, length};
 ghost use Rattle.mdl_check.specs.Names.{metric_number};
 ghost use Rattle.mdl_check.specs.Checking.{metric_of, constraint_of, hypothesis_of, phase_of, search_behind, search_in, wish_of, checked_of};
 
@@ -10,7 +10,7 @@ use crate::entry::Entry;
 use crate::names::metric_number;
 use mdl_ast::{Constraint, Hypothesis, Item, Metric, PhaseDecl, SearchDecl};
 use pn_types::{Focus, NoMemory, Seq};
-use std::alloc::{AllocError, Global};
+use std::alloc::Global;
 
 fn add_metric(alloc: Global, metrics: &mut Vec<Metric>, item: &Item) -> Result<(), NoMemory>
     ensures { OnOk result (metrics.new.items ≡ metrics.old.items ++ metric_of item.now) }
@@ -116,25 +116,19 @@ fn search(all: &[Entry<'_>]) -> Option<SearchDecl>
     search
 }
 
-/// A number of 32 bits. So many items as would need more have no room in memory.
-fn number(place: usize) -> Result<u32, NoMemory>
-    ensures { IfOk result (λ number. number ≡ place) }
-{
-    u32::try_from(place).map_err(|_| AllocError)
-}
-
 fn add_wish(
     all: &[Entry<'_>],
     wishes: &mut Vec<CheckedWish>,
     item: &Item,
     focus: Option<Focus>,
 ) -> Result<(), NoMemory>
+    requires { length all.now < 2 ^ 32 }
     ensures { OnOk result (wishes.new.items ≡ wishes.old.items ++ wish_of all.now item.now focus) }
 {
     let Item::Wish(wish) = item else {
         return Ok(());
     };
-    let Some(place) = metric_number(all, wish.metric.bytes()) else {
+    let Some(number) = metric_number(all, wish.metric.bytes()) else {
         return Ok(());
     };
     let Some(focus) = focus else {
@@ -143,13 +137,14 @@ fn add_wish(
     wishes.push(CheckedWish {
         at: u64::from(wish.at),
         show: wish.show,
-        metric: number(place)?,
+        metric: number as u32,
         focus,
     })?;
     Ok(())
 }
 
 fn wishes(alloc: Global, all: &[Entry<'_>]) -> Result<Seq<CheckedWish>, NoMemory>
+    requires { length all.now < 2 ^ 32 }
     ensures { IfOk result (λ wishes. wishes ≡ flat_map (λ e. wish_of all.now e.item e.focus) all.now) }
 {
     let mut wishes = Vec::new(alloc);
@@ -159,8 +154,9 @@ fn wishes(alloc: Global, all: &[Entry<'_>]) -> Result<Seq<CheckedWish>, NoMemory
     Ok(Seq::from_vec(wishes))
 }
 
-/// The items by their kinds.
+/// The items by their kinds, of which there are fewer than 2^32.
 pub(crate) fn checked(alloc: Global, all: &[Entry<'_>]) -> Result<Checked, NoMemory>
+    requires { length all.now < 2 ^ 32 }
     ensures { IfOk result (λ checked. checked ≡ checked_of all.now) }
 {
     Ok(Checked {

@@ -1,6 +1,7 @@
 //! The check.
 
-ghost use Rattle.std.specs.Prelude.{◌≡◌, ◌++◌, IfOk, OnOk};
+ghost use Rattle.std.specs.Prelude.{◌≡◌, ◌<◌, ◌^◌, ◌++◌, IfOk, OnOk, length};
+ghost use Rattle.mdl_check.specs.Spots.{spots};
 ghost use Rattle.mdl_check.specs.Checking.{IsAnswer, sync_of, prefixes_of};
 
 use crate::ancestors::parents_of;
@@ -33,9 +34,12 @@ use std::alloc::Global;
 /// - `CyclicParent`: a hypothesis that is its own ancestor.
 /// - `BadFocus`: a wish whose focus selects nothing in the tree.
 ///
-/// A name leads to the first item that has it.
+/// A name leads to the first item that has it. With those of the includes there are fewer than 2^32 items.
 pub fn check(alloc: Global, conf: &Conf, shipped: &Conf, tree: &Tree) -> Result<Checked, CheckFault>
-    ensures { IsAnswer tree.now shipped.now.items conf.now.items result }
+    requires { length (spots shipped.now.items conf.now.items) < 2 ^ 32 }
+    ensures answer { IsAnswer tree.now shipped.now.items conf.now.items result }
+    // A number of 32 bits counts the metrics.
+    ensures few { IfOk result (λ checked. length checked.metrics < 2 ^ 32) }
 {
     let places = spots(alloc, shipped.items.as_slice(), conf.items.as_slice())?;
     let all = entries(alloc, tree, &places)?;

@@ -13,6 +13,8 @@ mod names;
 mod places;
 mod rules;
 mod same;
+#[cfg(test)]
+mod tests;
 mod uses;
 
 pub use checked::{Checked, CheckedWish};

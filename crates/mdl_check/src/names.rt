@@ -1,6 +1,6 @@
 //! What items are named, and which items names lead to.
 
-ghost use Rattle.std.specs.Prelude.{◌≡◌, Some, map};
+ghost use Rattle.std.specs.Prelude.{◌≡◌, ◌<◌, IfSome, Some, length, map};
 ghost use Rattle.std.specs.Option.{option_map};
 ghost use Rattle.mdl_check.specs.Names.{name_in, is_named, stands, constraint_in, constraint_named, metric_name, metric_number, hypothesis_place};
 
@@ -106,7 +106,8 @@ fn metric_name(item: &Item) -> Option<&[u8]>
 
 /// The number of the first metric of this name.
 pub(crate) fn metric_number(entries: &[Entry<'_>], name: &[u8]) -> Option<usize>
-    ensures { result ≡ metric_number entries.now name.now }
+    ensures number { result ≡ metric_number entries.now name.now }
+    ensures below { IfSome result (λ number. number < length entries.now) }
 {
     let mut number = 0;
     for entry in entries {

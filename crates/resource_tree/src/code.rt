@@ -5,6 +5,7 @@ ghost use Rattle.std.specs.Option.{option_map, option_and_then};
 ghost use Rattle.std.specs.Str.{bytes_eq};
 ghost use Rattle.resource_tree.specs.Resources.{add_to, code_of, module_node, path_of};
 ghost use Rattle.resource_tree.specs.CodeMaps.{with_number};
+ghost use Rattle.resource_tree.specs.Foci.{procs_of_module};
 
 use indexmap::IndexMap;
 use pn_types::{NoMemory, Proc};
@@ -132,6 +133,16 @@ impl CodeTree {
     {
         let (name, _) = self.modules.get_index(number)?;
         Some(name.as_slice())
+    }
+
+    /// The numbers of the procedures of a module. Empty where there is no such module.
+    pub(crate) fn members(&self, number: usize) -> &[u32]
+        ensures { result.now ≡ procs_of_module self.now number }
+    {
+        match self.modules.get_index(number) {
+            Some((_, members)) => members.as_slice(),
+            None => &[],
+        }
     }
 
     /// The number of the procedure at a place of a module.

@@ -4,7 +4,7 @@ ghost use Rattle.std.specs.Prelude.{◌≡◌, ◌<◌, ◌≤◌, ◌^◌, IfOk
 ghost use Rattle.std.specs.Option.{option_and_then};
 ghost use Rattle.resource_tree.specs.Resources.{tree_of};
 ghost use Rattle.resource_tree.specs.Names.{AreNamed, IsNamed};
-ghost use Rattle.resource_tree.specs.Foci.{address_of, harts_of};
+ghost use Rattle.resource_tree.specs.Foci.{address_of, harts_of, procs_of_module};
 
 use crate::code::CodeTree;
 use crate::objects::Objects;
@@ -73,6 +73,13 @@ impl Tree {
             None => (0, self.harts),
             Some(hart) => (hart.get(), 1),
         }
+    }
+
+    /// The numbers of the procedures of a module, in the order of the tree. Empty where there is no such module.
+    pub fn procs_of_module(&self, module_no: u32) -> &[u32]
+        ensures { result.now ≡ procs_of_module self.now.code module_no }
+    {
+        self.code.members(module_no as usize)
     }
 
     /// The address of the object that the focus selects. None exactly where it selects none.

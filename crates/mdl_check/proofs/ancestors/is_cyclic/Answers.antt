@@ -1,5 +1,4 @@
-use Rattle.std.proofs.Common.{◌≡◌, suc, ◌+◌, ◌-◌, length, arith, sym, ◌∙◌}
-use Rattle.mdl_check.specs.Rules.{leads_to}
+use Rattle.std.proofs.Common.{◌≡◌, suc, ◌+◌, ◌-◌, length, arith}
 use Rattle.mdl_check.proofs.Steps.{one_step}
 use Rattle.mdl_check.proofs.ancestors.is_cyclic.Goals as goal
 

@@ -1,4 +1,4 @@
-use Rattle.std.proofs.Common.{◌≡◌, ◌+◌, List, [], ◌∷◌, ◌++◌, take, ap, sym, ◌∙◌, subst}
+use Rattle.std.proofs.Common.{◌≡◌, ◌+◌, [], ◌∷◌, ◌++◌, take, ap, sym, ◌∙◌, subst}
 use Rattle.mdl_check.specs.Spots.{Entry, entry}
 use Rattle.mdl_check.specs.Checking.{AreEntries, HasFocus}
 use Rattle.mdl_check.proofs.Entries.{one_more}

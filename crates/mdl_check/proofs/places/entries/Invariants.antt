@@ -1,4 +1,4 @@
-use Rattle.std.proofs.Common.{◌≡◌, take}
+use Rattle.std.proofs.Common.{take}
 use Rattle.mdl_check.specs.Checking.{AreEntries}
 use Rattle.mdl_check.proofs.places.entries.Given as goal
 

@@ -1,4 +1,4 @@
-use Rattle.std.proofs.Common.{◌≡◌, Ok, Err, sym, inl, inr}
+use Rattle.std.proofs.Common.{sym, inl, inr}
 use Rattle.mdl_check.proofs.places.selected.Goals as goal
 
 pub returns-in-Ok : goal.returns-in-Ok

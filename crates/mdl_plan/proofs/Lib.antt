@@ -1,0 +1,11 @@
+mod Elements
+mod PieceOrder
+mod NameNumbers
+mod Marks
+mod PieceNumbers
+mod Selected
+mod SiteList
+mod Numbered
+mod PointStmts
+mod Outcomes
+pub mod Limits

@@ -1,0 +1,50 @@
+-- The sites of points, one after another.
+use Rattle.std.proofs.Common.{◌≡◌, ℕ, ◌+◌, ◌<◌, Option, Some, None, List, [], ◌∷◌, ◌++◌, length, map, take, drop, get_or, sym, ap, ◌∙◌}
+use Rattle.std.specs.List.{filter, find}
+use Rattle.std.specs.Option.{option_map, option_or}
+use Rattle.std.proofs.lemmas.List.{take_more, drop_more, map-append, take-append-drop}
+use Rattle.std.proofs.lemmas.List.Elements.{filter-append}
+use Rattle.std.proofs.lemmas.List.Folds.{find-append}
+use Rattle.pn_types.specs.declared.code.Point.{Point}
+use Rattle.pn_types.specs.declared.plan.Site.{Site}
+use Rattle.mdl_plan.specs.Pieces.{Piece}
+use Rattle.mdl_plan.specs.Plans.{is_crowded}
+use Rattle.mdl_plan.specs.Statements.{Terms}
+use Rattle.mdl_plan.specs.Tables.{Refuses, has_numbers, site_with, sites_with}
+use Rattle.mdl_plan.specs.declared.fault.PlanFault.{PlanFault}
+use Rattle.mdl_plan.specs.declared.fault.PlanFault.TheVariants.{NoMemory, NoConstraint, TooManySites, TooManyStmts}
+use Rattle.mdl_plan.specs.declared.table.Table.{Table}
+
+module _ (terms : Terms) (pieces : List Piece) (t : Table) where
+  both : (a b : List Point) → sites_with terms pieces t (a ++ b) ≡ sites_with terms pieces t a ++ sites_with terms pieces t b
+  both a b = ap (map (site_with terms pieces t)) (filter-append (has_numbers t) a b) ∙ map-append (site_with terms pieces t) (filter (has_numbers t) a) (filter (has_numbers t) b)
+
+  -- one more point
+  pub sites_more : (points : List Point) (i : ℕ) (d : Point) → i < length points
+      → sites_with terms pieces t (take i points) ++ sites_with terms pieces t (get_or points i d ∷ []) ≡ sites_with terms pieces t (take (i + 1) points)
+  sites_more points i d lt = sym (both (take i points) (get_or points i d ∷ [])) ∙ ap (sites_with terms pieces t) (sym (take_more points i d lt))
+
+  -- the sites before a point, of the point and behind it
+  pub sites_around : (points : List Point) (i : ℕ) (d : Point) → i < length points
+      → sites_with terms pieces t (take i points) ++ (sites_with terms pieces t (get_or points i d ∷ []) ++ sites_with terms pieces t (drop (i + 1) points)) ≡ sites_with terms pieces t points
+  sites_around points i d lt =
+      ap (λ (l : List Site). sites_with terms pieces t (take i points) ++ l) (sym (both (get_or points i d ∷ []) (drop (i + 1) points)))
+      ∙ sym (both (take i points) (get_or points i d ∷ drop (i + 1) points))
+      ∙ ap (sites_with terms pieces t) (ap (λ (l : List Point). take i points ++ l) (sym (drop_more points i d lt)) ∙ take-append-drop i points)
+
+-- none of two lists has too many
+pub few_both : (a b : List Site) → find is_crowded a ≡ None → find is_crowded b ≡ None → find is_crowded (a ++ b) ≡ None
+few_both a b h k = find-append is_crowded a b ∙ ap (λ (o : Option Site). option_or o (find is_crowded b)) h ∙ k
+
+-- what refuses some sites refuses them where others stand around them, if none before them has too many
+pub refuses_all : (fault : PlanFault) (a b c : List Site) → find is_crowded a ≡ None → Refuses fault b → Refuses fault (a ++ (b ++ c))
+refuses_all NoMemory a b c h k = tt
+refuses_all (NoConstraint axis) a b c h k = k
+refuses_all (TooManySites n) a b c h k = k
+refuses_all (TooManyStmts at) a b c h k =
+    ap (option_map (λ s. s.at)) (find-append is_crowded a (b ++ c) ∙ ap (λ (o : Option Site). option_or o (find is_crowded (b ++ c))) h ∙ find-append is_crowded b c)
+    ∙ by (find is_crowded b) k
+  where
+    by : (o : Option Site) → option_map (λ s. s.at) o ≡ Some at → option_map (λ s. s.at) (option_or o (find is_crowded c)) ≡ Some at
+    by None e = cc
+    by (Some s) e = e

@@ -1,0 +1,9 @@
+pub mod Active
+pub mod Pieces
+pub mod Statements
+pub mod Choosing
+pub mod Plans
+pub mod Busy
+pub mod Selecting
+pub mod Numbers
+pub mod Tables

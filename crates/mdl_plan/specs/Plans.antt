@@ -1,0 +1,116 @@
+-- The plan of a metric at a focus.
+use Rattle.std.specs.Prelude.{ℕ, ◌≤◌, ◌≡◌, ◌%◌, ◌^◌, nat_lt, Bool, false, if◌then◌else◌, Option, Some, None, unwrap_or, Result, Ok, Err, List, [], ◌∷◌, length, map, flat_map, slice_get}
+use Rattle.std.specs.List.{filter, find, All}
+use Rattle.pn_types.specs.declared.code.Point.{Point}
+use Rattle.pn_types.specs.declared.code.Proc.{Proc}
+use Rattle.pn_types.specs.declared.focus.CodePart.{CodePart}
+use Rattle.pn_types.specs.declared.focus.Focus.{Focus}
+use Rattle.pn_types.specs.declared.plan.Plan.{Plan}
+use Rattle.pn_types.specs.declared.plan.Site.{Site}
+use Rattle.pn_types.specs.declared.plan.Stmt.{Stmt}
+use Rattle.pn_types.specs.declared.plan.Var.{Var}
+use Rattle.mdl_ast.specs.declared.block.EventKind.{EventKind}
+use Rattle.mdl_ast.specs.declared.metric.Metric.{Metric}
+use Rattle.mdl_ast.specs.declared.metric.Constraint.{Constraint}
+use Rattle.resource_tree.specs.Resources.{Resources, CodeNodes}
+use Rattle.resource_tree.specs.Foci.{address_of}
+use Rattle.mdl_plan.specs.Active.{Active, active_of}
+use Rattle.mdl_plan.specs.Pieces.{Piece, pieces, replacement, counters, base_initially}
+use Rattle.mdl_plan.specs.Statements.{Terms, stmts_of, guards}
+use Rattle.mdl_plan.specs.Choosing.{is_chosen, kinds_of}
+use Rattle.mdl_plan.specs.declared.fault.PlanFault.{PlanFault}
+use Rattle.mdl_plan.specs.declared.fault.PlanFault.TheVariants.{NoMemory, NoConstraint, TooManySites, TooManyStmts}
+
+-- ---- variables
+
+-- what isn't written is 0
+abbrev pub at_first : Option ℕ → ℕ
+at_first initially = unwrap_or initially 0
+
+abbrev pub base_var : Metric → Active → Var
+base_var m a = record { name = m.name; timer = m.timer; initially = at_first (base_initially m (replacement a)) }
+
+abbrev pub counter_var : Constraint → Var
+counter_var c = record { name = c.name; timer = false; initially = at_first c.initially }
+
+-- the metric's own variable, and then those of the active counters
+abbrev pub vars_of : Metric → Active → List Var
+vars_of m a = base_var m a ∷ map counter_var (counters a)
+
+-- ---- sites
+
+-- what is planned: the part of the code that the focus selects, the insertions, and what their statements have in common
+pub record Scene : Type 0 where
+  pub code : CodeNodes
+  pub focus : CodePart
+  pub procs : List Proc
+  pub pieces : List Piece
+  pub terms : Terms
+
+-- the statements for the points of a kind of procedure number q
+abbrev pub stmts_for : Scene → ℕ → Option Proc → EventKind → List Stmt
+stmts_for s q None kind = []
+stmts_for s q (Some p) kind = flat_map (stmts_of s.terms) (filter (is_chosen s.code s.focus kind q p) s.pieces)
+
+-- the statements at a point, kind by kind
+abbrev pub stmts_at : Scene → Point → List Stmt
+stmts_at s p = flat_map (stmts_for s p.proc_no (slice_get s.procs p.proc_no)) (kinds_of p)
+
+abbrev pub site_at : Scene → Point → Site
+site_at s p = record { at = p.at; stmts = stmts_at s p }
+
+abbrev pub has_stmts : Site → Bool
+has_stmts site = nat_lt 0 (length site.stmts)
+
+-- the points at which at least one statement stands
+abbrev pub sites_of : Scene → List Point → List Site
+sites_of s points = filter has_stmts (map (site_at s) points)
+
+-- ---- the plan
+
+abbrev pub most_sites : ℕ
+most_sites = 4096
+
+abbrev pub most_stmts : ℕ
+most_stmts = 32
+
+abbrev pub is_crowded : Site → Bool
+is_crowded site = nat_lt most_stmts (length site.stmts)
+
+-- the sites, unless one of them has too many statements
+abbrev pub or_crowded : List Var → List Site → Option Site → Result Plan PlanFault
+or_crowded vars sites None = Ok (record { vars = vars; sites = sites })
+or_crowded vars sites (Some site) = Err (TooManyStmts site.at)
+
+abbrev pub plan_with : List Var → List Site → Result Plan PlanFault
+plan_with vars sites =
+    if nat_lt most_sites (length sites) then Err (TooManySites (length sites))
+    else or_crowded vars sites (find is_crowded sites)
+
+-- the terms of a metric's statements at a focus
+abbrev pub terms_of : Resources → Focus → Active → Terms
+terms_of t f a = record { guards = guards 1 (counters a); value = unwrap_or (address_of t.objects f.object) 0 % 2 ^ 32 }
+
+abbrev pub scene_of : Resources → Focus → List Proc → Metric → Active → Scene
+scene_of t f procs m a = record { code = t.code; focus = f.code; procs = procs; pieces = pieces m a; terms = terms_of t f a }
+
+abbrev pub plan_at : Resources → Focus → List Proc → List Point → Metric → Result Active PlanFault → Result Plan PlanFault
+plan_at t f procs points m (Err e) = Err e
+plan_at t f procs points m (Ok a) = plan_with (vars_of m a) (sites_of (scene_of t f procs m a) points)
+
+-- The plan of a metric at a focus, or why there is none.
+abbrev pub plan_of : List Constraint → Metric → Focus → Resources → List Proc → List Point → Result Plan PlanFault
+plan_of cs m f t procs points = plan_at t f procs points m (active_of cs m f)
+
+-- the answer is what is due, unless memory is wanting
+abbrev pub Answers : Result Plan PlanFault → Result Plan PlanFault → Type 0
+Answers (Ok plan) due = due ≡ Ok plan
+Answers (Err NoMemory) due = Unit {0}
+Answers (Err (NoConstraint axis)) due = due ≡ Err (NoConstraint axis)
+Answers (Err (TooManySites n)) due = due ≡ Err (TooManySites n)
+Answers (Err (TooManyStmts at)) due = due ≡ Err (TooManyStmts at)
+
+-- at most so many sites, each with at most so many statements
+pub record IsLimited (plan : Plan) : Type 0 where
+  pub sites : length plan.sites ≤ most_sites
+  pub stmts : All (λ site. length site.stmts ≤ most_stmts) plan.sites

@@ -1,0 +1,35 @@
+-- The procedures that are selected.
+use Rattle.std.specs.Prelude.{ℕ, ◌≡◌, ◌<◌, ◌==◌, Bool, false, if◌then◌else◌, Some, List, [], ◌∷◌, slice_get}
+use Rattle.std.specs.List.{list_any}
+use Rattle.std.specs.Option.{option_map_or}
+use Rattle.std.specs.Str.{bytes_eq}
+use Rattle.pn_types.specs.declared.code.Proc.{Proc}
+use Rattle.pn_types.specs.declared.focus.CodePart.{CodePart}
+use Rattle.resource_tree.specs.Resources.{ModuleNode, CodeNodes}
+use Rattle.mdl_plan.specs.Choosing.{in_part}
+
+-- these numbers of procedures are those of the procedures that pass the test
+abbrev pub Selects : List Proc → (ℕ → Proc → Bool) → List ℕ → Type 0
+Selects procs test qs = (q : ℕ) (p : Proc) → slice_get procs q ≡ Some p → list_any (λ r. r == q) qs ≡ test q p
+
+-- what tells the procedures of a set: the modules, the part of the code that the focus selects, and the procedures
+pub record Scope : Type 0 where
+  pub code : CodeNodes
+  pub focus : CodePart
+  pub procs : List Proc
+
+abbrev pub scope : CodeNodes → CodePart → List Proc → Scope
+scope code focus procs = record { code = code; focus = focus; procs = procs }
+
+-- these numbers of procedures are those of a part of the code, where there are n procedures
+abbrev pub HasPart : CodeNodes → CodePart → ℕ → List ℕ → Type 0
+HasPart c part n qs = (q : ℕ) → q < n → list_any (λ r. r == q) qs ≡ in_part c part q
+
+-- the numbers that stand under a name
+abbrev pub numbers_named : List ℕ → List ModuleNode → List ℕ
+numbers_named name [] = []
+numbers_named name (n ∷ ns) = if bytes_eq name n.name then n.procs else numbers_named name ns
+
+-- under each name stand the numbers of the procedures that have it
+abbrev pub AreNames : List Proc → List ModuleNode → Type 0
+AreNames procs names = (name : List ℕ) (q : ℕ) → list_any (λ r. r == q) (numbers_named name names) ≡ option_map_or (λ p. bytes_eq name p.name) (slice_get procs q) false

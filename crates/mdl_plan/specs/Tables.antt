@@ -1,0 +1,71 @@
+-- The pieces that are chosen at points.
+use Rattle.std.specs.Prelude.{ℕ, ◌≡◌, ◌||◌, nat_lt, Some, Bool, if◌then◌else◌, List, [], ◌++◌, length, slice_index_or, map, flat_map}
+use Rattle.std.specs.List.{filter, find}
+use Rattle.std.specs.Option.{option_map}
+use Rattle.pn_types.specs.declared.code.Point.{Point}
+use Rattle.pn_types.specs.declared.plan.Site.{Site}
+use Rattle.pn_types.specs.declared.plan.Stmt.{Stmt}
+use Rattle.mdl_ast.specs.declared.block.EventKind.TheVariants.{Entry, After, Return, Call}
+use Rattle.mdl_plan.specs.Choosing.{is_chosen}
+use Rattle.mdl_plan.specs.Selecting.{Scope}
+use Rattle.mdl_plan.specs.Numbers.{AreNumbers, stmts_of_number}
+use Rattle.mdl_plan.specs.Pieces.{Piece}
+use Rattle.mdl_plan.specs.Statements.{Terms}
+use Rattle.mdl_plan.specs.Plans.{is_crowded}
+use Rattle.mdl_plan.specs.declared.fault.PlanFault.{PlanFault}
+use Rattle.mdl_plan.specs.declared.fault.PlanFault.TheVariants.{NoMemory, NoConstraint, TooManySites, TooManyStmts}
+use Rattle.mdl_plan.specs.declared.planner.Planner.{Planner}
+use Rattle.mdl_plan.specs.declared.table.Table.{Table}
+
+-- the table has the numbers of the pieces that are chosen
+pub record IsTable (s : Scope) (pieces : List Piece) (t : Table) : Type 0 where
+  pub entry : AreNumbers s.procs (is_chosen s.code s.focus Entry) pieces t.entry
+  pub after : AreNumbers s.procs (is_chosen s.code s.focus After) pieces t.after
+  pub ret : AreNumbers s.procs (is_chosen s.code s.focus Return) pieces t.ret
+  pub call : AreNumbers s.procs (is_chosen s.code s.focus Call) pieces t.call
+
+-- the numbers of a procedure, if they are wanted
+abbrev pub numbers_if : Bool → List (List ℕ) → ℕ → List ℕ
+numbers_if wanted lists q = if wanted then slice_index_or lists q [] else []
+
+-- there is one
+abbrev pub is_some_number : List ℕ → Bool
+is_some_number l = nat_lt 0 (length l)
+
+-- a piece is chosen at the point
+abbrev pub has_numbers : Table → Point → Bool
+has_numbers t p =
+    is_some_number (numbers_if p.entry t.entry p.proc_no)
+    || (is_some_number (numbers_if p.after t.after p.proc_no)
+    || (is_some_number (numbers_if p.ret t.ret p.proc_no)
+    || is_some_number (numbers_if p.call t.call p.proc_no)))
+
+-- the numbers of the pieces that are chosen at the point, kind by kind
+abbrev pub numbers_at : Table → Point → List ℕ
+numbers_at t p =
+    numbers_if p.entry t.entry p.proc_no
+    ++ (numbers_if p.after t.after p.proc_no
+    ++ (numbers_if p.ret t.ret p.proc_no
+    ++ numbers_if p.call t.call p.proc_no))
+
+-- the site of a point with the statements of its pieces
+abbrev pub site_with : Terms → List Piece → Table → Point → Site
+site_with terms pieces t p = record { at = p.at; stmts = flat_map (stmts_of_number terms pieces) (numbers_at t p) }
+
+-- the sites of the points at which a piece is chosen
+abbrev pub sites_with : Terms → List Piece → Table → List Point → List Site
+sites_with terms pieces t points = map (site_with terms pieces t) (filter (has_numbers t) points)
+
+-- why these sites are none of a plan, unless memory is wanting
+abbrev pub Refuses : PlanFault → List Site → Type 0
+Refuses NoMemory sites = Unit {0}
+Refuses (NoConstraint axis) sites = ⊥
+Refuses (TooManySites n) sites = ⊥
+Refuses (TooManyStmts at) sites = option_map (λ site. site.at) (find is_crowded sites) ≡ Some at
+
+-- what a planner adds for piece number i, and its sites
+abbrev pub stmts_in : Planner → ℕ → List Stmt
+stmts_in p i = stmts_of_number p.terms p.pieces.items i
+
+abbrev pub sites_in : Planner → List Point → List Site
+sites_in p points = sites_with p.terms p.pieces.items p.table points

@@ -1,0 +1,17 @@
+//! Plans: what measures a metric at a focus.
+#![tactic(auto)]
+
+mod active;
+mod fault;
+mod lists;
+mod names;
+mod pieces;
+mod planner;
+mod planning;
+mod scope;
+mod statements;
+mod table;
+mod variables;
+
+pub use fault::PlanFault;
+pub use planning::plan;

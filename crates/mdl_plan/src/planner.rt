@@ -1,0 +1,159 @@
+//! The sites of a plan.
+
+ghost use Rattle.std.specs.Prelude.{◌≡◌, ◌≤◌, ◌<◌, ◌^◌, ◌++◌, ◌∷◌, [], IfOk, IfErr, OnOk, None, length, map, flat_map};
+ghost use Rattle.std.specs.List.{filter, find};
+ghost use Rattle.mdl_plan.specs.Busy.{busy};
+ghost use Rattle.mdl_plan.specs.Selecting.{scope};
+ghost use Rattle.mdl_plan.specs.Pieces as spec;
+ghost use Rattle.mdl_plan.specs.Plans.{is_crowded, terms_of};
+ghost use Rattle.mdl_plan.specs.Tables.{has_numbers, numbers_at, sites_in, stmts_in, IsTable, Refuses};
+
+use crate::active::Active;
+use crate::fault::PlanFault;
+use crate::pieces::{Piece, pieces};
+use crate::scope::Scope;
+use crate::statements::Terms;
+use crate::table::{Table, numbers_if};
+use mdl_ast::{Constraint, Metric};
+use pn_types::{Focus, NoMemory, Point, Proc, Seq, Site, Stmt};
+use resource_tree::Tree;
+use std::alloc::Global;
+
+/// The most statements that a site can have.
+const MOST_STMTS: usize = 32;
+
+/// What tells the statements of a point: the insertions that have statements, which of them are chosen where, and what
+/// their statements have in common.
+#[derive(Drop)]
+pub(crate) struct Planner<'a> {
+    pieces: Vec<Piece<'a>>,
+    table: Table,
+    terms: Terms,
+}
+
+/// Adds the site with these statements at this address.
+fn add(sites: &mut Vec<Site>, at: u64, stmts: Vec<Stmt>) -> Result<(), NoMemory>
+    ensures { OnOk result (sites.new.items ≡ sites.old.items ++ record { at = at; stmts = stmts.items } ∷ []) }
+{
+    sites.push(Site {
+        at,
+        stmts: Seq::from_vec(stmts),
+    })?;
+    Ok(())
+}
+
+impl<'a> Planner<'a> {
+    /// The planner of a metric with its active constraints at a focus. The counters are the active ones.
+    pub(crate) fn of(
+        alloc: Global,
+        metric: &'a Metric,
+        active: &Active<'a>,
+        counters: &[&'a Constraint],
+        focus: &Focus,
+        tree: &Tree,
+        procs: &[Proc],
+    ) -> Result<Planner<'a>, NoMemory>
+        requires few { length counters.now ≤ 2 }
+        requires active { map (λ c. c.now) counters.now ≡ spec.counters active.now }
+        requires procs { length procs.now < 2 ^ 32 }
+        ensures pieces { IfOk result (λ s. s.pieces.items ≡ busy (spec.pieces metric.now active.now)) }
+        ensures table { IfOk result (λ s. IsTable (scope tree.now.code focus.now.code procs.now) s.pieces.items s.table) }
+        ensures terms { IfOk result (λ s. s.terms ≡ terms_of tree.now focus.now active.now) }
+    {
+        let pieces = pieces(alloc, metric, active, counters)?;
+        let scope = Scope::new(alloc, tree, focus.code, procs)?;
+        let table = Table::build(alloc, &scope, &pieces)?;
+        let terms = Terms::new(alloc, counters, tree.object_at(focus))?;
+        Ok(Planner {
+            pieces,
+            table,
+            terms,
+        })
+    }
+
+    /// At how many points a statement stands.
+    pub(crate) fn count(&self, points: &[Point]) -> u32
+        requires { length points.now < 2 ^ 32 }
+        ensures { result ≡ length (filter (has_numbers self.now.table) points.now) }
+    {
+        let mut count = 0;
+        for point in points {
+            if self.table.has_numbers(point) {
+                count += 1;
+            }
+        }
+        count
+    }
+
+    /// Adds the statements of the piece of this number.
+    fn add_piece(&self, alloc: Global, stmts: &mut Vec<Stmt>, number: usize) -> Result<(), NoMemory>
+        ensures { OnOk result (stmts.new.items ≡ stmts.old.items ++ stmts_in self.now number) }
+    {
+        match self.pieces.get(number) {
+            Some(piece) => self.terms.add_stmts(alloc, stmts, piece),
+            None => Ok(()),
+        }
+    }
+
+    /// Adds the statements of the pieces of these numbers.
+    fn add_pieces(
+        &self,
+        alloc: Global,
+        stmts: &mut Vec<Stmt>,
+        numbers: &[usize],
+    ) -> Result<(), NoMemory>
+        ensures { OnOk result (stmts.new.items ≡ stmts.old.items ++ flat_map (stmts_in self.now) numbers.now) }
+    {
+        for number in numbers {
+            self.add_piece(alloc, stmts, *number)?;
+        }
+        Ok(())
+    }
+
+    /// The statements at a point, kind by kind.
+    fn stmts_at(&self, alloc: Global, point: &Point) -> Result<Vec<Stmt>, NoMemory>
+        ensures { IfOk result (λ stmts. stmts.items ≡ flat_map (stmts_in self.now) (numbers_at self.now.table point.now)) }
+    {
+        let proc_no = point.proc_no;
+        let entry = numbers_if(point.entry, &self.table.entry, proc_no);
+        let after = numbers_if(point.after, &self.table.after, proc_no);
+        let ret = numbers_if(point.ret, &self.table.ret, proc_no);
+        let call = numbers_if(point.call, &self.table.call, proc_no);
+        let mut stmts = Vec::new(alloc);
+        self.add_pieces(alloc, &mut stmts, entry)?;
+        self.add_pieces(alloc, &mut stmts, after)?;
+        self.add_pieces(alloc, &mut stmts, ret)?;
+        self.add_pieces(alloc, &mut stmts, call)?;
+        Ok(stmts)
+    }
+
+    /// Adds the site of a point, if a statement stands there. A point with too many is refused.
+    fn add_site(&self, alloc: Global, sites: &mut Vec<Site>, point: &Point) -> Result<(), PlanFault>
+        ensures added { OnOk result (sites.new.items ≡ sites.old.items ++ sites_in self.now (point.now ∷ [])) }
+        ensures few { OnOk result (find is_crowded (sites_in self.now (point.now ∷ [])) ≡ None) }
+        ensures refused { IfErr result (λ fault. Refuses fault (sites_in self.now (point.now ∷ []))) }
+    {
+        if !self.table.has_numbers(point) {
+            return Ok(());
+        }
+        let stmts = self.stmts_at(alloc, point)?;
+        if stmts.len() > MOST_STMTS {
+            return Err(PlanFault::TooManyStmts(point.at));
+        }
+        add(sites, point.at, stmts)?;
+        Ok(())
+    }
+
+    /// The sites of the points. The first point with too many statements is refused.
+    pub(crate) fn sites(&self, alloc: Global, points: &[Point]) -> Result<Vec<Site>, PlanFault>
+        ensures all { IfOk result (λ sites. sites.items ≡ sites_in self.now points.now) }
+        ensures few { OnOk result (find is_crowded (sites_in self.now points.now) ≡ None) }
+        ensures refused { IfErr result (λ fault. Refuses fault (sites_in self.now points.now)) }
+    {
+        let mut sites = Vec::new(alloc);
+        for point in points {
+            self.add_site(alloc, &mut sites, point)?;
+        }
+        Ok(sites)
+    }
+}

@@ -1,0 +1,83 @@
+//! The plan.
+
+ghost use Rattle.std.specs.Prelude.{◌≡◌, ◌<◌, ◌^◌, length, slice_get, Ok, Some};
+ghost use Rattle.mdl_ast.specs.declared.metric.Metric.{Metric};
+ghost use Rattle.mdl_plan.specs.Plans.{plan_at, plan_of, Answers};
+
+use crate::active::{Active, active_at};
+use crate::fault::PlanFault;
+use crate::planner::Planner;
+use crate::variables::vars;
+use mdl_ast::Metric;
+use mdl_check::Checked;
+use pn_types::{Focus, Plan, Point, Proc, Seq};
+use resource_tree::Tree;
+use std::alloc::Global;
+
+/// The most sites that a plan can have.
+const MOST_SITES: u32 = 4096;
+
+/// The plan of a metric at a focus that makes these constraints active.
+fn planned(
+    alloc: Global,
+    metric: &Metric,
+    active: &Active<'_>,
+    focus: &Focus,
+    tree: &Tree,
+    procs: &[Proc],
+    points: &[Point],
+) -> Result<Plan, PlanFault>
+    requires procs { length procs.now < 2 ^ 32 }
+    requires points { length points.now < 2 ^ 32 }
+    ensures { Answers result (plan_at tree.now focus.now procs.now points.now metric.now (Ok active.now)) }
+{
+    let counters = active.counters(alloc)?;
+    let planner = Planner::of(alloc, metric, active, &counters, focus, tree, procs)?;
+    let sites = planner.count(points);
+    if sites > MOST_SITES {
+        return Err(PlanFault::TooManySites(sites));
+    }
+    let sites = planner.sites(alloc, points)?;
+    let vars = vars(alloc, metric, active, &counters)?;
+    Ok(Plan {
+        vars: Seq::from_vec(vars),
+        sites: Seq::from_vec(sites),
+    })
+}
+
+/// The plan of a checked configuration's metric at a focus: its variables, and the statements that act on them at the
+/// points of a program.
+///
+/// The metric's own variable stands first, and then those of the active counter constraints. A focus below the root of
+/// the code or of the objects makes the metric's constraint for that hierarchy active. An active replacement's blocks
+/// stand in the place of the metric's own, and so does what it is at first; the object's goes before the code's. What is
+/// constrained acts only where no active counter is 0.
+///
+/// The statements of a point stand kind by kind: entry, after, return, call. Of one kind those that are prepended come
+/// first, the counters' and then the base's, and then those that are appended, the base's and then the counters'.
+///
+/// - `NoConstraint`: the metric has no constraint for a hierarchy below whose root the focus is; the code's goes first.
+/// - `TooManySites`: more than 4,096 points have statements.
+/// - `TooManyStmts`: a point has more than 32.
+///
+/// The tree's procedures are `procs`, and the points are theirs, by address. The work is linear in the points, the
+/// procedures and what the insertions select.
+pub fn plan(
+    alloc: Global,
+    checked: &Checked,
+    metric: u32,
+    focus: &Focus,
+    tree: &Tree,
+    procs: &[Proc],
+    points: &[Point],
+) -> Result<Plan, PlanFault>
+    requires metric { metric < length checked.now.metrics }
+    requires procs { length procs.now < 2 ^ 32 }
+    requires points { length points.now < 2 ^ 32 }
+    ensures { (m : Metric) → slice_get checked.now.metrics metric ≡ Some m →
+        Answers result (plan_of checked.now.constraints m focus.now tree.now procs.now points.now) }
+{
+    let metric = &checked.metrics.as_slice()[metric as usize];
+    let active = active_at(checked.constraints.as_slice(), metric, focus)?;
+    planned(alloc, metric, &active, focus, tree, procs, points)
+}

@@ -1,0 +1,113 @@
+//! The pieces that are chosen at the points of each kind of each procedure.
+
+ghost use Rattle.std.specs.Prelude.{◌≡◌, ◌<◌, ◌^◌, [], IfOk, OnOk, if◌then◌else◌, length, slice_index_or};
+ghost use Rattle.mdl_plan.specs.Choosing.{is_chosen, is_kind};
+ghost use Rattle.mdl_plan.specs.Numbers.{Added, AreNumbers};
+ghost use Rattle.mdl_plan.specs.Tables.{has_numbers, numbers_if, IsTable};
+
+use crate::lists::Lists;
+use crate::pieces::Piece;
+use crate::scope::Scope;
+use mdl_ast::EventKind;
+use pn_types::{NoMemory, Point};
+use std::alloc::Global;
+
+/// The numbers of the pieces that are chosen for each procedure, by the kind of the points.
+#[derive(Drop)]
+pub(crate) struct Table {
+    /// At entries.
+    pub(crate) entry: Lists,
+    /// Behind calls.
+    pub(crate) after: Lists,
+    /// At returns.
+    pub(crate) ret: Lists,
+    /// At calls.
+    pub(crate) call: Lists,
+}
+
+/// Whether it is the same kind.
+fn is_kind(kind: EventKind, other: EventKind) -> bool
+    ensures { result ≡ is_kind kind other }
+{
+    match (kind, other) {
+        (EventKind::Entry, EventKind::Entry) => true,
+        (EventKind::After, EventKind::After) => true,
+        (EventKind::Return, EventKind::Return) => true,
+        (EventKind::Call, EventKind::Call) => true,
+        _ => false,
+    }
+}
+
+/// Adds the number of a piece to the lists of the procedures that it is for, if it is one for points of this kind.
+fn add(
+    alloc: Global,
+    lists: &mut Lists,
+    scope: &Scope<'_>,
+    kind: EventKind,
+    number: usize,
+    piece: &Piece<'_>,
+) -> Result<(), NoMemory>
+    requires { length scope.now.procs < 2 ^ 32 }
+    ensures { OnOk result (Added scope.now.procs (λ q p. is_chosen scope.now.code scope.now.focus kind q p piece.now) number lists.old lists.new) }
+{
+    if !is_kind(kind, piece.insertion().kind) {
+        return Ok(());
+    }
+    let selected = scope.selected(alloc, piece.set())?;
+    lists.mark_all(number, &selected)?;
+    Ok(())
+}
+
+/// The numbers of the pieces that are chosen at points of one kind.
+fn chosen(
+    alloc: Global,
+    scope: &Scope<'_>,
+    kind: EventKind,
+    pieces: &[Piece<'_>],
+) -> Result<Lists, NoMemory>
+    requires { length scope.now.procs < 2 ^ 32 }
+    ensures { IfOk result (AreNumbers scope.now.procs (is_chosen scope.now.code scope.now.focus kind) pieces.now) }
+{
+    let mut lists = Lists::empty(alloc, scope.len())?;
+    for (number, piece) in pieces.iter().enumerate() {
+        add(alloc, &mut lists, scope, kind, number, piece)?;
+    }
+    Ok(lists)
+}
+
+/// The numbers of a procedure, if they are wanted.
+pub(crate) fn numbers_if(wanted: bool, lists: &Lists, proc_no: u32) -> &[usize]
+    ensures { result.now ≡ numbers_if wanted lists.now proc_no }
+{
+    if wanted { lists.at(proc_no) } else { &[] }
+}
+
+impl Table {
+    /// The numbers of the pieces that are chosen, for all kinds.
+    pub(crate) fn build(
+        alloc: Global,
+        scope: &Scope<'_>,
+        pieces: &[Piece<'_>],
+    ) -> Result<Table, NoMemory>
+        requires { length scope.now.procs < 2 ^ 32 }
+        ensures { IfOk result (IsTable scope.now pieces.now) }
+    {
+        Ok(Table {
+            entry: chosen(alloc, scope, EventKind::Entry, pieces)?,
+            after: chosen(alloc, scope, EventKind::After, pieces)?,
+            ret: chosen(alloc, scope, EventKind::Return, pieces)?,
+            call: chosen(alloc, scope, EventKind::Call, pieces)?,
+        })
+    }
+
+    /// Whether a piece is chosen at the point.
+    pub(crate) fn has_numbers(&self, point: &Point) -> bool
+        ensures { result ≡ has_numbers self.now point.now }
+    {
+        let proc_no = point.proc_no;
+        !numbers_if(point.entry, &self.entry, proc_no).is_empty()
+            || !numbers_if(point.after, &self.after, proc_no).is_empty()
+            || !numbers_if(point.ret, &self.ret, proc_no).is_empty()
+            || !numbers_if(point.call, &self.call, proc_no).is_empty()
+    }
+}
