@@ -6,14 +6,19 @@ use Rattle.command_words.specs.Grammar.{Text, Form, Taken, taken_of}
 use Rattle.command_words.specs.Requests as request
 use Rattle.command_words.specs.Requests.{Given, given_in}
 use Rattle.command_words.specs.declared.requests.Request.{Request}
-use Rattle.command_words.specs.declared.requests.Request.TheVariants.{Run, Asm, Points, Later}
+use Rattle.command_words.specs.declared.requests.Request.TheVariants.{Run, Plan, Asm, Points, Later}
 use Rattle.command_words.specs.declared.requests.RunRequest.{RunRequest}
+use Rattle.command_words.specs.declared.requests.PlanRequest.{PlanRequest}
 
 abbrev pub asked_run : RunRequest → request.RunRequest
 asked_run r = record { program = r.program.now; conf = r.conf.now; settings = r.settings; log = option_map (λ s. s.now) r.log }
 
+abbrev pub asked_plan : PlanRequest → request.PlanRequest
+asked_plan p = record { program = p.program.now; conf = p.conf.now; metric = p.metric.now; focus = p.focus.now; harts = p.harts }
+
 abbrev pub asked : Request → request.Request
 asked (Run r) = request.run (asked_run r)
+asked (Plan p) = request.make_plan (asked_plan p)
 asked (Asm text) = request.assemble text.now
 asked (Points program) = request.list_points program.now
 asked Later = request.later

@@ -29,7 +29,7 @@ form_of Replay = record { places = codes "program" ∷ codes "conf" ∷ codes "r
 form_of Asm = record { places = codes "text" ∷ []; options = [] }
 form_of Points = record { places = codes "program" ∷ []; options = [] }
 form_of Plan = record { places = codes "program" ∷ codes "conf" ∷ codes "metric" ∷ codes "focus" ∷ []; options = codes "harts" ∷ [] }
-form_of Stress = record { places = codes "rows" ∷ codes "seed" ∷ []; options = [] }
+form_of Stress = record { places = codes "procs" ∷ codes "seed" ∷ []; options = [] }
 
 -- ---- values
 
@@ -81,8 +81,16 @@ pub record RunRequest : Type 0 where
   pub settings : Settings
   pub log : Option Text
 
+pub record PlanRequest : Type 0 where
+  pub program : Text
+  pub conf : Text
+  pub metric : Text
+  pub focus : Text
+  pub harts : ℕ
+
 pub data Request : Type 0 where
   run : RunRequest → Request
+  make_plan : PlanRequest → Request
   assemble : Text → Request
   list_points : Text → Request
   -- a command that isn't supported yet
@@ -95,12 +103,12 @@ abbrev pub live_request : Given → Option Request
 live_request given = option_and_then (λ settings. option_map (λ workers. later) (number_given given (codes "workers") 1 16 2)) (settings_of given)
 
 abbrev pub plan_request : Given → Option Request
-plan_request given = option_map (λ harts. later) (number_given given (codes "harts") 1 16 1)
+plan_request given = option_map (λ harts. make_plan (record { program = place_in given (codes "program"); conf = place_in given (codes "conf"); metric = place_in given (codes "metric"); focus = place_in given (codes "focus"); harts = harts })) (number_given given (codes "harts") 1 16 1)
 
 abbrev pub stress_request : Given → Option Request
 stress_request given =
-    option_and_then (λ rows. option_map (λ seed. later) (number_between 0 4294967295 (place_in given (codes "seed"))))
-    (number_between 1 200 (place_in given (codes "rows")))
+    option_and_then (λ procs. option_map (λ seed. later) (number_between 0 4294967295 (place_in given (codes "seed"))))
+    (number_between 1 200 (place_in given (codes "procs")))
 
 abbrev pub request_from : CommandName → Given → Option Request
 request_from Run given = run_request given
@@ -116,9 +124,10 @@ abbrev pub request_of : List Text → Option Request
 request_of [] = None
 request_of (word ∷ words) = option_and_then (λ name. option_and_then (λ taken. request_from name (given_in taken)) (taken_of (form_of name) words)) (command_named word)
 
--- the settings of a run are in their ranges
+-- the numbers of a request are in their ranges
 abbrev pub HasRanges : Request → Type 0
 HasRanges (run r) = AreInRange r.settings
+HasRanges (make_plan p) = (1 ≤ p.harts) × (p.harts ≤ 16)
 HasRanges (assemble text) = Unit {0}
 HasRanges (list_points program) = Unit {0}
 HasRanges later = Unit {0}

@@ -12,7 +12,7 @@ use Rattle.command_words.specs.declared.commands.CommandName.{CommandName}
 -- the names of all places and options
 abbrev pub all_names : List Text
 all_names =
-    codes "program" ∷ codes "conf" ∷ codes "record" ∷ codes "text" ∷ codes "metric" ∷ codes "focus" ∷ codes "rows" ∷ codes "harts" ∷ codes "seed"
+    codes "program" ∷ codes "conf" ∷ codes "record" ∷ codes "text" ∷ codes "metric" ∷ codes "focus" ∷ codes "procs" ∷ codes "harts" ∷ codes "seed"
     ∷ codes "workers" ∷ codes "quantum" ∷ codes "budget" ∷ codes "bins" ∷ codes "width" ∷ codes "log" ∷ []
 
 -- the number of a name

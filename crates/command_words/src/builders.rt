@@ -104,7 +104,7 @@ fn plan_command<'a>(alloc: Global) -> Result<Command<'a>, AllocError>
 fn stress_command<'a>(alloc: Global) -> Result<Command<'a>, AllocError>
     ensures { IfOk result (λ command. app_of command ≡ app_for CommandName.Stress) }
 {
-    let command = with_place(alloc, bare(alloc, "stress"), "rows")?;
+    let command = with_place(alloc, bare(alloc, "stress"), "procs")?;
     with_place(alloc, command, "seed")
 }
 

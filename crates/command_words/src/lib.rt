@@ -17,5 +17,5 @@ mod word_kind;
 pub use commands::CommandName;
 pub use logging::log_name;
 pub use matching::WordFault;
-pub use requests::{Request, RunRequest, read_request};
+pub use requests::{PlanRequest, Request, RunRequest, read_request};
 pub use settings::Settings;

@@ -1,4 +1,4 @@
-ghost use Rattle.std.specs.Prelude.{◌≡◌, ◌≤◌, List, MatchResult, IfOk, IfSome, Some, None, map, option_map, string_bytes};
+ghost use Rattle.std.specs.Prelude.{◌≡◌, ◌≤◌, List, MatchResult, IfOk, IfSome, Some, None, map, option_map, string_bytes, codes};
 ghost use Rattle.command_words.specs.Asked.{asked};
 ghost use Rattle.command_words.specs.Requests.{number_between, number_given, place_in, settings_of, run_request, live_request, plan_request, stress_request, request_from, request_of, AreInRange, HasRanges};
 
@@ -21,11 +21,28 @@ pub struct RunRequest<'a> {
     pub log: Option<&'a str>,
 }
 
+/// What `plan` is asked for.
+#[derive(Clone, Copy, Drop)]
+pub struct PlanRequest<'a> {
+    /// The name of the program's file.
+    pub program: &'a str,
+    /// The name of the configuration's file.
+    pub conf: &'a str,
+    /// The name of the metric.
+    pub metric: &'a str,
+    /// The text of the focus.
+    pub focus: &'a str,
+    /// The number of harts, from 1 to 16.
+    pub harts: u64,
+}
+
 /// What the words ask for.
 #[derive(Clone, Copy, Drop)]
 pub enum Request<'a> {
     /// To run a program.
     Run(RunRequest<'a>),
+    /// To show how a metric is measured at a focus.
+    Plan(PlanRequest<'a>),
     /// To assemble the text of this name.
     Asm(&'a str),
     /// To list the points of the program of this name.
@@ -69,11 +86,19 @@ fn number_given<'a, G: Given<'a>>(
     }
 }
 
+/// The number of harts.
+fn harts<'a, G: Given<'a>>(given: &G) -> Option<u64>
+    ensures number { result ≡ number_given (G.given given.now) (codes "harts") 1 16 1 }
+    ensures range { IfSome result (λ n. (1 ≤ n) × (n ≤ 16)) }
+{
+    number_given(given, "harts", 1, 16, 1)
+}
+
 fn settings<'a, G: Given<'a>>(given: &G) -> Option<Settings>
     ensures settings { result ≡ settings_of (G.given given.now) }
     ensures ranges { IfSome result AreInRange }
 {
-    let harts = number_given(given, "harts", 1, 16, 1)?;
+    let harts = harts(given)?;
     let seed = number_given(given, "seed", 0, 4_294_967_295, 0)?;
     let quantum = number_given(given, "quantum", 1, 10_000, 50)?;
     let budget = number_given(given, "budget", 1, 100_000_000, 1_000_000)?;
@@ -115,15 +140,21 @@ fn plan_request<'a, G: Given<'a>>(given: &G) -> Option<Request<'a>>
     ensures request { option_map asked result ≡ plan_request (G.given given.now) }
     ensures ranges { IfSome result (λ request. HasRanges (asked request)) }
 {
-    number_given(given, "harts", 1, 16, 1)?;
-    Some(Request::Later)
+    let harts = harts(given)?;
+    Some(Request::Plan(PlanRequest {
+        program: place(given, "program"),
+        conf: place(given, "conf"),
+        metric: place(given, "metric"),
+        focus: place(given, "focus"),
+        harts,
+    }))
 }
 
 fn stress_request<'a, G: Given<'a>>(given: &G) -> Option<Request<'a>>
     ensures request { option_map asked result ≡ stress_request (G.given given.now) }
     ensures ranges { IfSome result (λ request. HasRanges (asked request)) }
 {
-    number_between(place(given, "rows"), 1, 200)?;
+    number_between(place(given, "procs"), 1, 200)?;
     number_between(place(given, "seed"), 0, 4_294_967_295)?;
     Some(Request::Later)
 }

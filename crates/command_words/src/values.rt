@@ -17,7 +17,7 @@ fn slot_of(name: &str) -> Option<usize>
         "text" => Some(3),
         "metric" => Some(4),
         "focus" => Some(5),
-        "rows" => Some(6),
+        "procs" => Some(6),
         "harts" => Some(7),
         "seed" => Some(8),
         "workers" => Some(9),

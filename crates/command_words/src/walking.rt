@@ -39,7 +39,7 @@ fn place_name(command: CommandName, place: usize) -> Option<&'static str>
         (CommandName::Plan, 1) => Some("conf"),
         (CommandName::Plan, 2) => Some("metric"),
         (CommandName::Plan, 3) => Some("focus"),
-        (CommandName::Stress, 0) => Some("rows"),
+        (CommandName::Stress, 0) => Some("procs"),
         (CommandName::Stress, 1) => Some("seed"),
         _ => None,
     }
@@ -74,7 +74,7 @@ fn is_full(command: CommandName, values: &Values<'_>) -> bool
         CommandName::Asm => has("text"),
         CommandName::Points => has("program"),
         CommandName::Plan => has("program") && has("conf") && has("metric") && has("focus"),
-        CommandName::Stress => has("rows") && has("seed"),
+        CommandName::Stress => has("procs") && has("seed"),
     }
 }
 

@@ -1,5 +1,5 @@
 -- The images of programs can be counted.
-use Rattle.std.proofs.Common.{◌≡◌, ℕ, ◌≤◌, Ok, List, length, arith}
+use Rattle.std.proofs.Common.{◌≡◌, ℕ, ◌≤◌, ◌+◌, Ok, List, length, arith}
 use Rattle.pn_types.specs.declared.image.Image.{Image}
 use Rattle.code_points.specs.Procedures.{IsCountable}
 use Rattle.elf_form.specs.Meaning.{meaning_of}
@@ -20,3 +20,12 @@ text_countable text image short e =
     let few = small.symbols in
     let below = small.text in
     record { text = omega arith; symbols = omega arith }
+
+pub file_low : (image : Image) → IsAccepted image → image.text_at + image.text_len ≤ 1610612736
+file_low image accepted = text_below image accepted
+
+pub text_low : (text : List ℕ) (image : Image) → assembled text ≡ Ok image → image.text_at + image.text_len ≤ 1610612736
+text_low text image e =
+    let small = assembled_small text image e in
+    let below = small.text in
+    omega arith

@@ -1,3 +1,5 @@
 pub mod DueLemmas
 pub mod SizedTexts
 mod CountableImages
+pub mod FewItems
+mod PlanLemmas

@@ -1,38 +1,26 @@
 -- What the top call owes for words and files.
-use Rattle.std.specs.Prelude.{◌≡◌, ◌⊎◌, ℕ, IsOk, List, [], ◌∷◌, Option, None, Some, Result, Ok, Err}
+use Rattle.std.specs.Prelude.{◌≡◌, ◌⊎◌, ℕ, Bool, true, false, IsOk, List, Option, None, Some, Result, Ok, Err}
 use Rattle.pn_types.specs.declared.image.Image.{Image}
 use Rattle.report.specs.Points.{points_text}
 use Rattle.code_points.specs.Points.{points_of}
 use Rattle.code_points.specs.Procedures.{procedures_of, skipped_of}
-use Rattle.command_words.specs.Requests.{Request, RunRequest, run, assemble, list_points, later, request_of}
+use Rattle.command_words.specs.Requests.{Request, RunRequest, run, make_plan, assemble, list_points, later, request_of}
 use Rattle.command_words.specs.declared.settings.Settings.{Settings}
 use Rattle.plain_report.specs.Reports.{IsReport}
 use Rattle.plain_report.specs.declared.settings.RunSettings.{RunSettings}
 use Rattle.outside.specs.Causes.{Rose}
 use Rattle.outside.specs.Outside.{Holding, IsWhole}
-use Rattle.paradyn_top.specs.declared.faults.Fault.{Fault}
 use Rattle.mdl_ast.specs.declared.items.Conf.{Conf}
-use Rattle.mdl_ast.specs.declared.items.Item.{Item}
+use Rattle.mdl_check.specs.declared.checked.Checked.{Checked}
+use Rattle.resource_tree.specs.Resources.{Resources}
 use Rattle.paradyn_top.specs.declared.configuration.ConfFault.{ConfFault}
 use Rattle.paradyn_top.specs.declared.faults.Fault.TheVariants.{Usage, FileFault, BadProgram, BadConf, NotYet}
 use Rattle.paradyn_top.specs.declared.faults.ProgramFault.{ProgramFault}
-use Rattle.paradyn_top.specs.Faults.{fault_line, fault_status}
+use Rattle.paradyn_top.specs.Answers.{Answer, refusal, success}
+use Rattle.paradyn_top.specs.Checks.{resources_of, IsChecked, asks_instruments}
+use Rattle.paradyn_top.specs.Plans.{IsPlan}
 use Rattle.paradyn_top.specs.Programs.{image_of, file_of}
 use Rattle.paradyn_top.specs.Configurations.{MeansConf}
-
--- An answer: the status, the bytes for the output, and the bytes for the log.
-pub record Answer : Type 0 where
-  pub status : ℕ
-  pub out : List ℕ
-  pub log : List ℕ
-
--- a refusal: its line is the output, and the log gains nothing
-abbrev pub refusal : Fault → Answer
-refusal fault = record { status = fault_status fault; out = fault_line fault; log = [] }
-
--- a text that is the output at status 0
-abbrev pub success : List ℕ → Answer
-success text = record { status = 0; out = text; log = [] }
 
 -- ---- run
 
@@ -44,28 +32,50 @@ pub record IsReported (settings : Settings) (image : Image) (answer : Answer) : 
   pub report : IsReport image (run_settings settings) text
   pub answered : answer ≡ success text
 
--- items of a configuration aren't supported yet
-abbrev pub IsDueOf : Settings → Image → List Item → Answer → Type 0
-IsDueOf settings image [] answer = IsReported settings image answer
-IsDueOf settings image (item ∷ items) answer = answer ≡ refusal NotYet
+-- what needs instruments isn't supported yet
+abbrev pub IsRunWith : Settings → Image → Bool → Answer → Type 0
+IsRunWith settings image true answer = answer ≡ refusal NotYet
+IsRunWith settings image false answer = IsReported settings image answer
 
-abbrev pub IsDueAs : Settings → Image → Result Conf ConfFault → Answer → Type 0
-IsDueAs settings image (Err fault) answer = answer ≡ refusal (BadConf fault)
-IsDueAs settings image (Ok conf) answer = IsDueOf settings image conf.items answer
+abbrev pub IsRun : Settings → Image → Resources → Checked → Answer → Type 0
+IsRun settings image t checked answer = IsRunWith settings image (asks_instruments checked) answer
+
+-- ---- a program and a configuration
+
+-- what is due for a program, its resources, and a checked configuration
+abbrev pub Work : Type 1
+Work = Image → Resources → Checked → Answer → Type 0
+
+-- for what the check answers
+abbrev pub IsDueAfter : (Checked → Answer → Type 0) → Result Checked ConfFault → Answer → Type 0
+IsDueAfter work (Err fault) answer = answer ≡ refusal (BadConf fault)
+IsDueAfter work (Ok checked) answer = work checked answer
+
+-- for what the text of a configuration says
+abbrev pub IsDueAs : Work → ℕ → Image → Result Conf ConfFault → Answer → Type 0
+IsDueAs work harts image (Err fault) answer = answer ≡ refusal (BadConf fault)
+IsDueAs work harts image (Ok conf) answer =
+    (checked : Result Checked ConfFault) × IsChecked (resources_of image harts conf) conf checked
+    × IsDueAfter (work image (resources_of image harts conf)) checked answer
 
 -- for the text of a configuration
-abbrev pub IsDueWith : Settings → Image → List ℕ → Answer → Type 0
-IsDueWith settings image text answer = (read : Result Conf ConfFault) × MeansConf text read × IsDueAs settings image read answer
+abbrev pub IsDueWith : Work → ℕ → Image → List ℕ → Answer → Type 0
+IsDueWith work harts image text answer = (read : Result Conf ConfFault) × MeansConf text read × IsDueAs work harts image read answer
 
 -- for the image of a program, and the configuration of a name
-abbrev pub IsDueOn : Settings → Result Image ProgramFault → Holding → Answer → Type 0
-IsDueOn settings (Err fault) holding answer = answer ≡ refusal (BadProgram fault)
-IsDueOn settings (Ok image) holding answer = (text : List ℕ) × IsWhole holding text × IsDueWith settings image text answer
+abbrev pub IsDueOn : Work → ℕ → Result Image ProgramFault → Holding → Answer → Type 0
+IsDueOn work harts (Err fault) holding answer = answer ≡ refusal (BadProgram fault)
+IsDueOn work harts (Ok image) holding answer = (text : List ℕ) × IsWhole holding text × IsDueWith work harts image text answer
+
+-- for a program and a configuration of these names
+abbrev pub IsDueOf : Work → ℕ → List ℕ → List ℕ → (List ℕ → Holding) → Answer → Type 0
+IsDueOf work harts program conf holds answer =
+    (bytes : List ℕ) × IsWhole (holds program) bytes × IsDueOn work harts (image_of bytes) (holds conf) answer
 
 -- no log is written yet
 abbrev pub IsRunDue : RunRequest → Option (List ℕ) → (List ℕ → Holding) → Answer → Type 0
 IsRunDue r (Some log) holds answer = answer ≡ refusal NotYet
-IsRunDue r None holds answer = (bytes : List ℕ) × IsWhole (holds r.program) bytes × IsDueOn r.settings (image_of bytes) (holds r.conf) answer
+IsRunDue r None holds answer = IsDueOf (IsRun r.settings) r.settings.harts r.program r.conf holds answer
 
 -- ---- points
 
@@ -92,6 +102,7 @@ IsAsmDue name holds answer = (bytes : List ℕ) × IsWhole (holds name) bytes ×
 abbrev pub IsDueFor : Option Request → (List ℕ → Holding) → Answer → Type 0
 IsDueFor None holds answer = answer ≡ refusal Usage
 IsDueFor (Some (run r)) holds answer = IsRunDue r r.log holds answer
+IsDueFor (Some (make_plan p)) holds answer = IsDueOf (IsPlan p) p.harts p.program p.conf holds answer
 IsDueFor (Some (list_points name)) holds answer = IsPointsDue name holds answer
 IsDueFor (Some (assemble name)) holds answer = IsAsmDue name holds answer
 IsDueFor (Some later) holds answer = answer ≡ refusal NotYet
@@ -107,15 +118,19 @@ abbrev pub NamesFault : List ℕ → (List ℕ → ℕ) → (List ℕ → ℕ) �
 NamesFault name before now answer = Rose (before name) (now name) × (answer ≡ refusal (FileFault name))
 
 -- the program could not be read; or it was read and accepted, and then the configuration could not be read
+abbrev pub AreUnreadable : List ℕ → List ℕ → (List ℕ → Holding) → (List ℕ → ℕ) → (List ℕ → ℕ) → Answer → Type 0
+AreUnreadable program conf holds before now answer =
+    NamesFault program before now answer
+    ⊎ ((bytes : List ℕ) × IsWhole (holds program) bytes × IsOk (image_of bytes) × NamesFault conf before now answer)
+
 abbrev pub IsRunUnreadable : RunRequest → Option (List ℕ) → (List ℕ → Holding) → (List ℕ → ℕ) → (List ℕ → ℕ) → Answer → Type 0
 IsRunUnreadable r (Some log) holds before now answer = ⊥
-IsRunUnreadable r None holds before now answer =
-    NamesFault r.program before now answer
-    ⊎ ((bytes : List ℕ) × IsWhole (holds r.program) bytes × IsOk (image_of bytes) × NamesFault r.conf before now answer)
+IsRunUnreadable r None holds before now answer = AreUnreadable r.program r.conf holds before now answer
 
 abbrev pub IsUnreadableFor : Option Request → (List ℕ → Holding) → (List ℕ → ℕ) → (List ℕ → ℕ) → Answer → Type 0
 IsUnreadableFor None holds before now answer = ⊥
 IsUnreadableFor (Some (run r)) holds before now answer = IsRunUnreadable r r.log holds before now answer
+IsUnreadableFor (Some (make_plan p)) holds before now answer = AreUnreadable p.program p.conf holds before now answer
 IsUnreadableFor (Some (list_points name)) holds before now answer = NamesFault name before now answer
 IsUnreadableFor (Some (assemble name)) holds before now answer = NamesFault name before now answer
 IsUnreadableFor (Some later) holds before now answer = ⊥

@@ -1,13 +1,13 @@
 -- The lines of faults, and their statuses.
 use Rattle.std.specs.Prelude.{ℕ, List, ◌++◌, codes}
 use Rattle.std.specs.Fmt.{decimal}
-use Rattle.pn_types.specs.Texts.{address}
+use Rattle.pn_types.specs.Texts.{address, cause_text}
 use Rattle.elf_form.specs.declared.fault.ElfFault.{ElfFault}
 use Rattle.elf_form.specs.declared.fault.ElfFault.TheVariants as elf
 use Rattle.rv_asm.specs.declared.fault.AsmFault.{AsmFault}
 use Rattle.rv_asm.specs.declared.fault.AsmFault.TheVariants as asm
 use Rattle.paradyn_top.specs.declared.faults.Fault.{Fault}
-use Rattle.paradyn_top.specs.declared.faults.Fault.TheVariants.{Usage, FileFault, BadProgram, BadConf, NotYet}
+use Rattle.paradyn_top.specs.declared.faults.Fault.TheVariants.{Usage, FileFault, BadProgram, BadConf, BadPick, NotYet}
 use Rattle.paradyn_top.specs.Configurations.{kind_text}
 use Rattle.paradyn_top.specs.declared.configuration.ConfFault.{ConfFault}
 use Rattle.paradyn_top.specs.declared.faults.ProgramFault.{ProgramFault}
@@ -55,11 +55,16 @@ program_text TooLong = codes "too long"
 abbrev pub conf_text : ConfFault → List ℕ
 conf_text f = codes "line " ++ decimal f.line ++ codes " column " ++ decimal f.col ++ codes ": " ++ kind_text f.kind
 
+-- a metric at a focus
+abbrev pub pick_text : List ℕ → List ℕ → List ℕ
+pick_text metric focus = metric ++ (codes " " ++ focus)
+
 abbrev pub fault_line : Fault → List ℕ
 fault_line Usage = codes "paradyn: usage\n"
 fault_line (FileFault name) = codes "paradyn: cannot read " ++ name ++ codes "\n"
 fault_line (BadProgram fault) = codes "paradyn: bad program: " ++ program_text fault ++ codes "\n"
 fault_line (BadConf fault) = codes "paradyn: bad configuration: " ++ conf_text fault ++ codes "\n"
+fault_line (BadPick metric focus cause) = codes "paradyn: cannot measure " ++ (pick_text metric focus ++ (codes ": " ++ (cause_text cause ++ codes "\n")))
 fault_line NotYet = codes "paradyn: not yet\n"
 
 abbrev pub fault_status : Fault → ℕ
@@ -67,4 +72,5 @@ fault_status Usage = 2
 fault_status (FileFault name) = 3
 fault_status (BadProgram fault) = 4
 fault_status (BadConf fault) = 5
+fault_status (BadPick metric focus cause) = 6
 fault_status NotYet = 10

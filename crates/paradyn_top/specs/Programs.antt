@@ -1,6 +1,9 @@
 -- What the bytes of files stand for.
-use Rattle.std.specs.Prelude.{ℕ, ◌&&◌, nat_le, nat_lt, if◌then◌else◌, Bool, List, [], ◌∷◌, length, take, Result, Ok, Err}
+use Rattle.std.specs.Prelude.{ℕ, ◌≤◌, ◌+◌, ◌&&◌, nat_le, nat_lt, if◌then◌else◌, Bool, List, [], ◌∷◌, length, take, Result, Ok, Err}
+use Rattle.std.specs.List.{All}
 use Rattle.std.specs.Str.{bytes_eq}
+use Rattle.rv_mem.specs.Start.{IsSized}
+use Rattle.code_points.specs.Procedures.{IsCountable}
 use Rattle.pn_types.specs.declared.image.Image.{Image}
 use Rattle.elf_form.specs.Meaning.{meaning_of}
 use Rattle.elf_form.specs.declared.fault.ElfFault.{ElfFault}
@@ -36,3 +39,9 @@ text_file (Err fault) = Err (Asm fault)
 -- The ELF file of the bytes of an assembly text, or their first fault.
 abbrev pub file_of : List ℕ → Result (List ℕ) ProgramFault
 file_of bytes = if nat_lt 33554432 (length bytes) then Err TooLong else text_file (elf_of bytes)
+
+-- what the image of every program has: segments of their sizes, symbols that can be counted, and text below 0x60000000
+pub record IsProgram (image : Image) : Type 0 where
+  pub sized : All IsSized image.segments
+  pub countable : IsCountable image
+  pub low : image.text_at + image.text_len ≤ 1610612736

@@ -1,5 +1,5 @@
 -- The answer that a reply stands for.
-use Rattle.paradyn_top.specs.Due.{Answer}
+use Rattle.paradyn_top.specs.Answers.{Answer}
 use Rattle.paradyn_top.specs.declared.reply.Reply.{Reply}
 
 abbrev pub answer_of : Reply → Answer

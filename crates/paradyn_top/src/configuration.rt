@@ -1,9 +1,10 @@
 //! Configurations and their faults.
 
 ghost use Rattle.std.specs.Prelude.{◌≡◌, ◌≤◌, IfOk, length};
-ghost use Rattle.paradyn_top.specs.Configurations.{kind_of, kind_text, MeansConf};
+ghost use Rattle.paradyn_top.specs.Configurations.{kind_of, kind_text, check_kind, MeansConf};
 
 use mdl_ast::Conf;
+use mdl_check::CheckKind;
 use mdl_parse::{ParseFault, SyntaxKind, parse};
 use pn_types::NoMemory;
 use std::alloc::Global;
@@ -23,6 +24,16 @@ pub enum ConfKind {
     TooDeep,
     /// More than 1,048,576 bytes.
     TooLong,
+    /// A name that the configuration doesn't have, or a variable that isn't the item's own.
+    UnknownName,
+    /// A name or a demand that an item before it has already.
+    TwiceNamed,
+    /// What is named can't be used so, or a number is out of its range.
+    WrongKind,
+    /// A hypothesis that is its own ancestor.
+    CyclicParent,
+    /// A focus that selects nothing.
+    BadFocus,
 }
 
 impl ConfKind {
@@ -37,6 +48,11 @@ impl ConfKind {
             ConfKind::Unexpected => b"unexpected",
             ConfKind::TooDeep => b"nesting too deep",
             ConfKind::TooLong => b"too long",
+            ConfKind::UnknownName => b"unknown name",
+            ConfKind::TwiceNamed => b"named twice",
+            ConfKind::WrongKind => b"wrong kind",
+            ConfKind::CyclicParent => b"cyclic parent",
+            ConfKind::BadFocus => b"bad focus",
         }
     }
 }
@@ -70,10 +86,23 @@ fn kind_of(kind: SyntaxKind) -> ConfKind
     }
 }
 
+pub(crate) fn check_kind(kind: CheckKind) -> ConfKind
+    ensures { result ≡ check_kind kind }
+{
+    match kind {
+        CheckKind::UnknownName => ConfKind::UnknownName,
+        CheckKind::TwiceNamed => ConfKind::TwiceNamed,
+        CheckKind::WrongKind => ConfKind::WrongKind,
+        CheckKind::CyclicParent => ConfKind::CyclicParent,
+        CheckKind::BadFocus => ConfKind::BadFocus,
+    }
+}
+
 /// The configuration of a text, or its first fault.
 pub(crate) fn configuration(alloc: Global, text: &[u8]) -> Result<Result<Conf, ConfFault>, NoMemory>
     requires { length text.now ≤ 1048576 }
-    ensures { IfOk result (λ conf. MeansConf text.now conf) }
+    ensures conf { IfOk result (λ conf. MeansConf text.now conf) }
+    ensures few { IfOk result (λ conf. IfOk conf (λ c. length c.items ≤ 1048576)) }
 {
     match parse(alloc, text) {
         Ok(conf) => Ok(Ok(conf)),

@@ -1,11 +1,11 @@
 ghost use Rattle.std.specs.Prelude.{◌≡◌, ◌++◌, OnOk, IfOk};
 ghost use Rattle.std.specs.Fmt.{decimal};
 ghost use Rattle.pn_types.specs.Texts.{address};
-ghost use Rattle.paradyn_top.specs.Faults.{asm_text, conf_text, elf_text, program_text, fault_line, fault_status};
+ghost use Rattle.paradyn_top.specs.Faults.{asm_text, conf_text, elf_text, program_text, pick_text, fault_line, fault_status};
 
 use crate::configuration::ConfFault;
 use elf_form::ElfFault;
-use pn_types::{NoMemory, Text};
+use pn_types::{NoMemory, PickCause, Text};
 use rv_asm::AsmFault;
 use std::alloc::Global;
 
@@ -31,6 +31,8 @@ pub enum Fault {
     BadProgram(ProgramFault),
     /// The configuration is faulty.
     BadConf(ConfFault),
+    /// The metric of this name can't be measured at the focus of this text.
+    BadPick(Text, Text, PickCause),
     /// A part of the input isn't supported yet.
     NotYet,
 }
@@ -45,6 +47,7 @@ impl Fault {
             Fault::FileFault(_) => 3,
             Fault::BadProgram(_) => 4,
             Fault::BadConf(_) => 5,
+            Fault::BadPick(_, _, _) => 6,
             Fault::NotYet => 10,
         }
     }
@@ -165,6 +168,31 @@ fn bad_configuration(alloc: Global, fault: ConfFault) -> Result<Vec<u8>, NoMemor
     Ok(line)
 }
 
+/// Adds a metric at a focus.
+fn add_pick(line: &mut Vec<u8>, metric: &Text, focus: &Text) -> Result<(), NoMemory>
+    ensures { OnOk result (line.new.items ≡ line.old.items ++ pick_text metric.now focus.now) }
+{
+    line.extend_from_slice(metric.bytes())?;
+    line.extend_from_slice(b" ")?;
+    line.extend_from_slice(focus.bytes())
+}
+
+fn bad_pick(
+    alloc: Global,
+    metric: &Text,
+    focus: &Text,
+    cause: PickCause,
+) -> Result<Vec<u8>, NoMemory>
+    ensures { IfOk result (λ text. text.items ≡ fault_line (Fault.BadPick metric.now focus.now cause)) }
+{
+    let mut line = Vec::new(alloc);
+    line.extend_from_slice(b"paradyn: cannot measure ")?;
+    add_pick(&mut line, metric, focus)?;
+    let end = format!(in alloc; ": {cause}\n")?;
+    line.extend_from_slice(end.as_bytes())?;
+    Ok(line)
+}
+
 /// The line of a fault.
 pub fn faults_text(alloc: Global, fault: &Fault) -> Result<Vec<u8>, NoMemory>
     ensures { IfOk result (λ text. text.items ≡ fault_line fault.now) }
@@ -174,6 +202,7 @@ pub fn faults_text(alloc: Global, fault: &Fault) -> Result<Vec<u8>, NoMemory>
         Fault::FileFault(name) => Ok(unreadable(alloc, name)?),
         Fault::BadProgram(fault) => Ok(bad_program(alloc, *fault)?),
         Fault::BadConf(fault) => Ok(bad_configuration(alloc, *fault)?),
+        Fault::BadPick(metric, focus, cause) => Ok(bad_pick(alloc, metric, focus, *cause)?),
         Fault::NotYet => Ok(b"paradyn: not yet\n".to_vec(alloc)?),
     }
 }

@@ -2,15 +2,19 @@
 #![tactic(auto)]
 
 mod answering;
+mod checking;
 mod configuration;
+mod costs;
 mod delivery;
 mod faults;
 mod listing;
 mod loading;
+mod planning;
 mod reading;
 mod reply;
 mod running;
 mod top;
+mod working;
 
 pub use command_words::log_name;
 pub use configuration::{ConfFault, ConfKind};

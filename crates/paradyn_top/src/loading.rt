@@ -1,10 +1,7 @@
 ghost use Rattle.std.specs.Prelude.{◌≡◌, ◌≢◌, ◌≤◌, IfOk, MatchResult, Ok, Err, length};
-ghost use Rattle.std.specs.List.{All};
-ghost use Rattle.rv_mem.specs.Start.{IsSized};
-ghost use Rattle.code_points.specs.Procedures.{IsCountable};
 ghost use Rattle.elf_form.specs.Meaning.{meaning_of};
 ghost use Rattle.rv_asm.specs.Assembly.{assembled};
-ghost use Rattle.paradyn_top.specs.Programs.{begins_elf, elf_image, text_image, image_of, text_file};
+ghost use Rattle.paradyn_top.specs.Programs.{IsProgram, begins_elf, elf_image, text_image, image_of, text_file};
 ghost use Rattle.asm_file.specs.Made.{elf_of};
 
 use crate::faults::ProgramFault;
@@ -28,8 +25,7 @@ fn begins_elf(bytes: &[u8]) -> bool
 fn load_elf(alloc: Global, bytes: &[u8]) -> Result<Result<Image, ProgramFault>, NoMemory>
     requires { length bytes.now ≤ 33554432 }
     ensures image { IfOk result (λ image. image ≡ elf_image (meaning_of bytes.now)) }
-    ensures sized { IfOk result (λ image. IfOk image (λ i. All IsSized i.segments)) }
-    ensures countable { IfOk result (λ image. IfOk image IsCountable) }
+    ensures program { IfOk result (λ image. IfOk image IsProgram) }
 {
     match elf_load::load(alloc, bytes) {
         Ok(image) => Ok(Ok(image)),
@@ -42,8 +38,7 @@ fn load_elf(alloc: Global, bytes: &[u8]) -> Result<Result<Image, ProgramFault>, 
 fn load_text(alloc: Global, bytes: &[u8]) -> Result<Result<Image, ProgramFault>, NoMemory>
     requires { length bytes.now ≤ 33554432 }
     ensures image { IfOk result (λ image. image ≡ text_image (assembled bytes.now)) }
-    ensures sized { IfOk result (λ image. IfOk image (λ i. All IsSized i.segments)) }
-    ensures countable { IfOk result (λ image. IfOk image IsCountable) }
+    ensures program { IfOk result (λ image. IfOk image IsProgram) }
 {
     match assemble(alloc, bytes) {
         Ok(image) => Ok(Ok(image)),
@@ -68,8 +63,7 @@ pub fn make_file(alloc: Global, text: &[u8]) -> Result<Result<Seq<u8>, ProgramFa
 pub fn load(alloc: Global, bytes: &[u8]) -> Result<Result<Image, ProgramFault>, NoMemory>
     requires { length bytes.now ≤ 33554432 }
     ensures image { IfOk result (λ image. image ≡ image_of bytes.now) }
-    ensures sized { IfOk result (λ image. IfOk image (λ i. All IsSized i.segments)) }
-    ensures countable { IfOk result (λ image. IfOk image IsCountable) }
+    ensures program { IfOk result (λ image. IfOk image IsProgram) }
 {
     if begins_elf(bytes) {
         load_elf(alloc, bytes)

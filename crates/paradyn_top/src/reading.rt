@@ -1,9 +1,10 @@
-ghost use Rattle.std.specs.Prelude.{◌≡◌, IsErrOf, IfOk};
+ghost use Rattle.std.specs.Prelude.{◌≡◌, ◌≤◌, IsErrOf, IfOk, length};
 ghost use Rattle.std.specs.List.{All};
 ghost use Rattle.outside.specs.Causes.{Rose};
 ghost use Rattle.outside.specs.Outside.{ReadsOnly, IsCalm};
 ghost use Rattle.rv_mem.specs.Start.{IsSized};
 ghost use Rattle.code_points.specs.Procedures.{IsCountable};
+ghost use Rattle.paradyn_top.specs.Programs.{IsProgram};
 ghost use Rattle.paradyn_top.specs.Reading.{GivesImage, GivesFile, GivesConf};
 
 use crate::configuration::{ConfFault, TOO_LONG, configuration};
@@ -44,8 +45,7 @@ pub fn read_program<F: Files>(
     name: &str,
 ) -> Result<Result<Image, ProgramFault>, Unread>
     ensures image { IfOk result (λ image. GivesImage (F.holds files.old name.now) image) }
-    ensures sized { IfOk result (λ image. IfOk image (λ i. All IsSized i.segments)) }
-    ensures countable { IfOk result (λ image. IfOk image IsCountable) }
+    ensures program { IfOk result (λ image. IfOk image IsProgram) }
     ensures reads { ReadsOnly F.holds F.faults name.now files.old files.new }
     ensures cause { IsErrOf result Unread.Failed → Rose (F.faults files.old name.now) (F.faults files.new name.now) }
     ensures calm { (result ≡ Err Unread.Failed → ⊥) → IsCalm F.faults files.old files.new }
@@ -84,6 +84,7 @@ pub fn read_configuration<F: Files>(
     name: &str,
 ) -> Result<Result<Conf, ConfFault>, Unread>
     ensures conf { IfOk result (λ conf. GivesConf (F.holds files.old name.now) conf) }
+    ensures few { IfOk result (λ conf. IfOk conf (λ c. length c.items ≤ 1048576)) }
     ensures reads { ReadsOnly F.holds F.faults name.now files.old files.new }
     ensures cause { IsErrOf result Unread.Failed → Rose (F.faults files.old name.now) (F.faults files.new name.now) }
     ensures calm { (result ≡ Err Unread.Failed → ⊥) → IsCalm F.faults files.old files.new }

@@ -1,9 +1,9 @@
 ghost use Rattle.std.specs.Prelude.{◌≡◌, IfOk};
-ghost use Rattle.paradyn_top.specs.Due.{refusal, success};
+ghost use Rattle.paradyn_top.specs.Answers.{refusal, success};
 ghost use Rattle.paradyn_top.specs.Replies.{answer_of};
 
 use crate::faults::{Fault, faults_text};
-use pn_types::NoMemory;
+use pn_types::{NoMemory, Text};
 use std::alloc::Global;
 
 /// An answer: the status of the program, and the bytes for the two sinks.
@@ -34,4 +34,12 @@ pub fn succeed(alloc: Global, text: Vec<u8>) -> Reply
         out: text,
         log: Vec::new(alloc),
     }
+}
+
+/// The answer that a file of this name could not be read.
+pub fn cannot_read(alloc: Global, name: &str) -> Result<Reply, NoMemory>
+    ensures { IfOk result (λ reply. answer_of reply ≡ refusal (Fault.FileFault name.now)) }
+{
+    let name = Text::from_vec(name.as_bytes().to_vec(alloc)?);
+    refuse(alloc, &Fault::FileFault(name))
 }

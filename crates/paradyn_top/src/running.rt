@@ -1,10 +1,8 @@
 ghost use Rattle.std.specs.Prelude.{◌≡◌, IfOk};
-ghost use Rattle.std.specs.List.{All};
-ghost use Rattle.rv_mem.specs.Start.{IsSized};
-ghost use Rattle.code_points.specs.Procedures.{IsCountable};
 ghost use Rattle.command_words.specs.Requests.{AreInRange};
 ghost use Rattle.plain_report.specs.Reports.{IsReport, IsInRange};
 ghost use Rattle.paradyn_top.specs.Due.{run_settings};
+ghost use Rattle.paradyn_top.specs.Programs.{IsProgram};
 
 use command_words::Settings;
 use plain_report::{RunSettings, report_of_run};
@@ -28,8 +26,7 @@ fn run_settings(settings: &Settings) -> RunSettings
 
 /// Runs an image, and reports the run.
 pub fn run_image(alloc: Global, image: &Image, settings: &Settings) -> Result<Vec<u8>, NoMemory>
-    requires segments { All IsSized image.now.segments }
-    requires countable { IsCountable image.now }
+    requires program { IsProgram image.now }
     requires settings { AreInRange settings.now }
     ensures { IfOk result (λ text. IsReport image.now (run_settings settings.now) text.items) }
 {

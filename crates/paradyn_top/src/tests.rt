@@ -3,6 +3,7 @@
 mod asm;
 mod configurations;
 mod elf;
+mod plans;
 mod texts;
 
 use super::*;
@@ -150,7 +151,11 @@ fn programs_are_reported(rt: HostRuntime) -> Result<(), Fail> {
 #[test]
 fn refusals_have_their_line(rt: HostRuntime) -> Result<(), Fail> {
     let alloc = rt.alloc();
-    let (status, out) = run(alloc, program(alloc, EXIT)?, b"include metrics;")?;
+    let (status, out) = run(
+        alloc,
+        program(alloc, EXIT)?,
+        b"search { window 4; cost 9; observed 9; }",
+    )?;
     assert_eq!(rt;
         (status, out.bytes()),
         (10, b"paradyn: not yet\n".as_slice())

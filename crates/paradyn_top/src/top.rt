@@ -1,6 +1,7 @@
 ghost use Rattle.std.specs.Prelude.{◌≡◌, ◌≢◌, ◌⊎◌, List, ℕ, map, string_bytes};
 ghost use Rattle.outside.specs.Outside.{IsCalm};
-ghost use Rattle.paradyn_top.specs.Due.{IsDue, IsUnreadable, Answer};
+ghost use Rattle.paradyn_top.specs.Answers.{Answer};
+ghost use Rattle.paradyn_top.specs.Due.{IsDue, IsUnreadable};
 ghost use Rattle.paradyn_top.specs.Delivery.{IsTorn, Gained};
 
 use crate::answering::answer;
@@ -11,12 +12,13 @@ use std::alloc::Global;
 /// All that the program does: it takes the words of the command line without the program's name, reads the files that
 /// they name, and writes to the output and the log. It answers the program's status:
 ///
-/// - 0: the output gained what was asked for: the report of the program's whole run, its points, or the ELF file of an
-///   assembly text.
+/// - 0: the output gained what was asked for: the report of the program's whole run, the plan of a metric, the program's
+///   points, or the ELF file of an assembly text.
 /// - 2: the words are no command, and the output gained the line of that fault.
 /// - 3: a file could not be read, and the output gained a line with its name.
 /// - 4: the program is faulty, and the output gained the line of that fault.
 /// - 5: the configuration is faulty, and the output gained the line of that fault.
+/// - 6: the metric can't be measured at the focus, and the output gained the line of that fault.
 /// - 7: a sink failed; each sink has a prefix of what was due, and the log came first.
 /// - 8: memory was wanting; both sinks are as before.
 /// - 10: the command, the program or the configuration isn't supported yet, and the output gained the line of that fault.
@@ -27,7 +29,7 @@ pub fn serve<F: Files, K: Sink, L: Sink>(
     out: &mut K,
     log: &mut L,
 ) -> u8
-    // 0, 2, 4, 5, 10: both sinks gained all that is due for the words and the files.
+    // 0, 2, 4, 5, 6, 10: both sinks gained all that is due for the words and the files.
     ensures due { result ≢ 3 → result ≢ 7 → result ≢ 8 → (answer : Answer)
         × IsDue (map string_bytes words.now) (F.holds files.old) answer
         × (result ≡ answer.status)

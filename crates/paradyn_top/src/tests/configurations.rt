@@ -16,7 +16,7 @@ fn configurations_without_items_run(rt: HostRuntime) -> Result<(), Fail> {
 #[test]
 fn faulty_configurations_have_their_line(rt: HostRuntime) -> Result<(), Fail> {
     let alloc = rt.alloc();
-    let cases: [(&[u8], &[u8]); 6] = [
+    let cases: [(&[u8], &[u8]); 5] = [
         (
             b"include metrics",
             b"paradyn: bad configuration: line 1 column 16: unexpected\n",
@@ -33,7 +33,6 @@ fn faulty_configurations_have_their_line(rt: HostRuntime) -> Result<(), Fail> {
             b"metric m {\n  units \"a\n\";",
             b"paradyn: bad configuration: line 2 column 9: open string\n",
         ),
-        (b"sync a;\n\n", b"paradyn: not yet\n"),
         (
             b"constraint c /Code is counter { foreach func in $all { prepend entry (* if (c == 1) if (c == 2) if (c == 3) if (c == 4) if (c == 5) if (c == 6) if (c == 7) if (c == 8) if (c == 9) if (c == 10) if (c == 11) if (c == 12) if (c == 13) if (c == 14) if (c == 15) if (c == 16)\nif (c == 17) c++; *) } }",
             b"paradyn: bad configuration: line 2 column 1: nesting too deep\n",
@@ -41,12 +40,7 @@ fn faulty_configurations_have_their_line(rt: HostRuntime) -> Result<(), Fail> {
     ];
     for (conf, line) in cases {
         let (status, out) = run(alloc, program(alloc, EXIT)?, conf)?;
-        let due = if line == b"paradyn: not yet\n".as_slice() {
-            10
-        } else {
-            5
-        };
-        assert_eq!(rt; (status, out.bytes()), (due, line));
+        assert_eq!(rt; (status, out.bytes()), (5, line));
     }
     Ok(())
 }
