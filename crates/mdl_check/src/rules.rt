@@ -81,10 +81,10 @@ fn is_phase_repeated(all: &[Entry<'_>], before: &[Entry<'_>], phase: &PhaseDecl)
     phase.name.bytes() == b"global".as_slice() || stands(Table::Phases, phase.name.bytes(), before)
 }
 
-fn is_shown_before(metric: &[u8], focus: Option<Focus>, before: &[Entry<'_>]) -> bool
-    ensures { result ≡ list_any (λ e. is_shown_by metric.now focus e.item e.focus) before.now }
+fn is_shown_before(wish: &Wish, focus: Option<Focus>, before: &[Entry<'_>]) -> bool
+    ensures { result ≡ list_any (λ e. is_shown_by wish.now.metric focus e.item e.focus) before.now }
 {
-    before.iter().any(|entry| is_shown_by(metric, focus, entry.item(), entry.focus()))
+    before.iter().any(|entry| is_shown_by(wish, focus, entry.item(), entry.focus()))
 }
 
 fn is_wish_repeated(
@@ -95,7 +95,7 @@ fn is_wish_repeated(
 ) -> bool
     ensures { result ≡ is_repeated all.now before.now (Item.Wish wish.now) focus }
 {
-    wish.at == 0 && wish.show && is_shown_before(wish.metric.bytes(), focus, before)
+    wish.at == 0 && wish.show && is_shown_before(wish, focus, before)
 }
 
 /// Whether an item before this one has its name or asks for what it asks for.

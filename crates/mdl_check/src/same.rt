@@ -3,7 +3,7 @@
 ghost use Rattle.std.specs.Prelude.{◌≡◌};
 ghost use Rattle.mdl_check.specs.Rules.{is_same_number, is_same_code, is_same_focus, is_shown_by};
 
-use mdl_ast::Item;
+use mdl_ast::{Item, Wish};
 use pn_types::{CodePart, Focus, HartNo};
 
 fn is_same_code(a: CodePart, b: CodePart) -> bool
@@ -51,20 +51,20 @@ fn is_same_focus(a: Option<Focus>, b: Option<Focus>) -> bool
     }
 }
 
-/// Whether the item is a wish that a metric of this name is shown at this focus from the beginning on.
+/// Whether the item is a wish that the metric of a wish is shown at this focus from the beginning on.
 pub(crate) fn is_shown_by(
-    metric: &[u8],
+    wish: &Wish,
     focus: Option<Focus>,
     item: &Item,
     other: Option<Focus>,
 ) -> bool
-    ensures { result ≡ is_shown_by metric.now focus item.now other }
+    ensures { result ≡ is_shown_by wish.now.metric focus item.now other }
 {
     match item {
-        Item::Wish(wish) => {
-            wish.at == 0
-                && wish.show
-                && metric == wish.metric.bytes()
+        Item::Wish(before) => {
+            before.at == 0
+                && before.show
+                && wish.metric.bytes() == before.metric.bytes()
                 && is_same_focus(focus, other)
         }
         _ => false,
