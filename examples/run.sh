@@ -1,5 +1,5 @@
 #!/usr/bin/env bash
-# Makes the ELF file of each example anew, runs it, and compares both with what stands here. The program is
+# Makes the ELF file of each example anew, runs it, and compares both, and a plan, with what stands here. The program is
 # ../crates/paradyn/out/paradyn, or what PARADYN names.
 set -u
 cd "$(dirname "$0")"
@@ -13,8 +13,14 @@ check() {
   "$paradyn" asm "$name.s" >"$made" && cmp "$made" "$name.elf" || failed=1
   "$paradyn" run "$name.elf" empty.conf "$@" >"$made" && cmp "$made" "$name.report" || failed=1
 }
+check_plan() {
+  name=$1
+  shift
+  "$paradyn" plan "$name.elf" metrics.conf "$@" >"$made" && cmp "$made" "$name.plan" || failed=1
+}
 check crc
 check tickets --harts 4
 check rounds --harts 4 --quantum 25
+check_plan tickets sync_wait /SyncObject/lock_tickets
 [ "$failed" = 0 ] && echo "all examples print what they should"
 exit "$failed"
