@@ -2,7 +2,9 @@
 use Rattle.std.proofs.Common.{◌≡◌, ℕ, zero, suc, ◌+◌, ◌*◌, ◌/◌, ◌%◌, ◌<◌, ◌≤◌, List, [], ◌∷◌, ◌++◌, length, get_or, map, Bool, true, false, cond, refl, ap, sym, subst, ◌∙◌, arith}
 use Rattle.std.specs.List.{filter, range_with_len, All}
 use Rattle.std.specs.List.Sorted.{IsStrictlyIncreasing}
-use Rattle.std.proofs.lemmas.List.{map-append, length-append}
+use Rattle.std.proofs.lemmas.List.{map-append, length-append, length-map}
+use Rattle.std.proofs.lemmas.List.FromFn.{length-map-range_with_len}
+use Rattle.std.proofs.lemmas.List.Sums.{length-filter, count_by-le-length}
 use Rattle.std.proofs.lemmas.List.Elements.{All-tail}
 use Rattle.pn_types.specs.declared.code.Point.{Point}
 use Rattle.pn_types.specs.declared.code.Proc.{Proc}
@@ -85,38 +87,21 @@ ascending image t ps h = increasing 0 (map (λ q. q.at) (points_from t 0 ps)) (r
 
 -- ---- how many
 
-filter_few : {A : Type 0} (test : A → Bool) (xs : List A) → length (filter test xs) ≤ length xs
-filter_few test [] = omega arith
-filter_few {A} test (x ∷ xs) = go (test x) (filter test xs) (filter_few test xs)
-  where
-    go : (b : Bool) (ys : List A) → length ys ≤ length xs → length (cond b (x ∷ ys) ys) ≤ length (x ∷ xs)
-    go true ys rest = omega (arith, rest)
-    go false ys rest = omega (arith, rest)
-
-range_length : (k n : ℕ) → length (range_with_len k n) ≡ n
-range_length k zero = refl
-range_length k (suc n) = ap suc (range_length (k + 1) n)
-
-mapped_length : {A B : Type 0} (f : A → B) (xs : List A) → length (map f xs) ≡ length xs
-mapped_length f [] = refl
-mapped_length f (x ∷ xs) = ap suc (mapped_length f xs)
-
--- a procedure has no more points than bytes
-points_few : (t : Words) (n : ℕ) (p : Proc) → length (points_in t n p) ≤ p.len
-points_few t n p = omega (
-  arith,
-  filter_few has_kind (map (point_at t n p) (addresses p)),
-  mapped_length (point_at t n p) (addresses p),
-  mapped_length (λ k. p.start + 4 * k) (range_with_len 0 (p.len / 4)),
-  range_length 0 (p.len / 4),
-)
+-- a procedure has no more points than words
+points_few : (t : Words) (n : ℕ) (p : Proc) → 4 * length (points_in t n p) ≤ p.len
+points_few t n p =
+    let kept = length-filter has_kind (map (point_at t n p) (addresses p)) in
+    let most = count_by-le-length has_kind (map (point_at t n p) (addresses p)) in
+    let points = length-map (addresses p) (point_at t n p) in
+    let words = length-map-range_with_len (λ k. p.start + 4 * k) 0 (p.len / 4) in
+    omega arith
 
 -- procedures that follow one another end no later than this
 abbrev End : ℕ → List Proc → Type 0
 End e [] = Unit {0}
 End e (p ∷ ps) = (p.start + p.len ≤ e) × End e ps
 
-counted : (t : Words) (n k e : ℕ) (ps : List Proc) → k ≤ e → Follow k ps → End e ps → k + length (points_from t n ps) ≤ e
+counted : (t : Words) (n k e : ℕ) (ps : List Proc) → k ≤ e → Follow k ps → End e ps → k + 4 * length (points_from t n ps) ≤ e
 counted t n k e [] l h g = omega (arith, l)
 counted t n k e (p ∷ ps) l h g =
     omega (arith, h.0, g.0, points_few t n p, counted t (n + 1) (p.start + p.len) e ps g.0 h.2 g.1, length-append (points_in t n p) (points_from t (n + 1) ps))
@@ -125,7 +110,11 @@ end : (image : Image) (ps : List Proc) → All (IsProcOf image) ps → End (imag
 end image [] h = tt
 end image (p ∷ ps) h = ((h 0 p (omega arith)).before, end image ps (All-tail (IsProcOf image) p ps h))
 
--- there are no more points than addresses up to the end of the text
-pub few_points : (image : Image) (t : Words) (ps : List Proc) → AreProcsOf image ps → length (points_from t 0 ps) ≤ image.text_at + image.text_len
+first_behind : (image : Image) (ps : List Proc) → All (IsProcOf image) ps → (d : Proc) → 0 < length ps → image.text_at ≤ (get_or ps 0 d).start
+first_behind image ps h d l = (h 0 d l).behind
+
+-- there are no more points than words of the text
+pub few_points : (image : Image) (t : Words) (ps : List Proc) → AreProcsOf image ps → length (points_from t 0 ps) ≤ image.text_len / 4
 few_points image t ps h =
-    omega (arith, counted t 0 0 (image.text_at + image.text_len) ps (omega arith) (follow image 0 ps h.each h.ascend (λ d b. omega arith)) (end image ps h.each))
+    let most = counted t 0 image.text_at (image.text_at + image.text_len) ps (omega arith) (follow image image.text_at ps h.each h.ascend (first_behind image ps h.each)) (end image ps h.each) in
+    omega arith

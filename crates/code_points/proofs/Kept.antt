@@ -1,5 +1,5 @@
 -- One function symbol further.
-use Rattle.std.proofs.Common.{◌≡◌, ℕ, ◌+◌, ◌%◌, ◌^◌, ◌<◌, ◌≤◌, List, [], ◌∷◌, ◌++◌, length, drop, get_or, map, Bool, true, false, not, ◌&&◌, ◌||◌, cond, ltb, refl, ap, sym, subst, ◌∙◌, ⊎_elim, arith}
+use Rattle.std.proofs.Common.{◌≡◌, ℕ, ◌+◌, ◌%◌, ◌<◌, ◌≤◌, List, [], ◌∷◌, ◌++◌, length, drop, get_or, map, Bool, true, false, not, ◌&&◌, ◌||◌, cond, ltb, refl, ap, sym, subst, ◌∙◌, ⊎_elim, arith}
 use Rattle.std.specs.List.{All, filter, list_any}
 use Rattle.std.specs.List.Sorted.{IsPermutation}
 use Rattle.std.specs.Str.{bytes_eq}
@@ -11,7 +11,8 @@ use Rattle.std.proofs.lemmas.Bool.Decides.{nat_tests}
 use Rattle.pn_types.specs.declared.code.Proc.{Proc}
 use Rattle.pn_types.specs.declared.image.Image.{Image}
 use Rattle.pn_types.specs.declared.image.Symbol.{Symbol}
-use Rattle.code_points.specs.Procedures.{is_func, functions_of, procedures_of, can_be_procedure, overlaps, is_namesake, is_kept, proc_of, kept_of, IsProcOf, Ascend}
+use Rattle.code_points.specs.Procedures.{is_func, functions_of, procedures_of, can_be_procedure, overlaps, is_namesake, is_kept, proc_of, kept_of, IsProcOf, Ascend, AreDistinct}
+use Rattle.code_points.proofs.NamedProcs.{none_at, distinct_push}
 use Rattle.code_points.proofs.Sorting.{Rises, by_address-rises}
 use denote.Ref.{Bor}
 
@@ -34,6 +35,7 @@ pub record Kept (image : Image) (procs : List Proc) (end : ℕ) (keys : List Key
   pub each : All (IsProcOf image) procs
   pub ascend : Ascend procs
   pub free : (s : Symbol) → low ≤ s.at → 0 < s.size → list_any (overlaps s) procs ≡ ltb s.at end
+  pub distinct : AreDistinct procs
   pub names : (s : Symbol) → list_any (is_key s) keys ≡ list_any (is_namesake s) procs
 
 pub kept_none : (image : Image) (procs : List Proc) (keys : List Key) (rest : List Symbol) → procs ≡ [] → keys ≡ [] → rest ≡ functions_of image → Kept image procs 0 keys rest
@@ -45,6 +47,7 @@ kept_none image procs keys rest p k r = record {
   rises = subst (Rises (λ s. s.at) 0) (sym r) (by_address-rises (filter (λ s. is_func s.kind) image.symbols));
   each = All-same (IsProcOf image) procs [] p (λ k d l. absurd (omega arith));
   ascend = subst Ascend (sym p) (λ k d l. absurd (omega arith));
+  distinct = subst AreDistinct (sym p) (λ j k a b e f m n. absurd (none_at j a e));
   free = λ s l m. ap (list_any (overlaps s)) p ∙ sym (le-ltb s.at 0 (omega arith));
   names = λ s. ap (list_any (is_key s)) k ∙ sym (ap (list_any (is_namesake s)) p);
 }
@@ -58,6 +61,7 @@ kept_on image procs end keys s ss h e = record {
   rises = h.rises.1;
   each = h.each;
   ascend = h.ascend;
+  distinct = h.distinct;
   free = λ t l m. h.free t (omega (arith, h.rises.0)) m;
   names = h.names;
 }
@@ -67,12 +71,9 @@ pub kept_skip : (image : Image) (procs new : List Proc) (end e : ℕ) (keys ks :
 kept_skip image procs new end e keys ks rest s ss h r out p l k =
     subst (λ z. Kept image z e ks ss) (sym p) (subst (λ z. Kept image procs z ks ss) (sym l) (subst (λ z. Kept image procs end z ss) (sym k) (kept_on image procs end keys s ss (subst (Kept image procs end keys) r h) out)))
 
-fits_below : (a b : ℕ) → a ≤ b → b < 2 ^ 64 → a < 2 ^ 64
-fits_below a b h l = omega arith
-
 -- what `can_be_procedure` says of the range
-is_proc : (image : Image) (s : Symbol) → image.text_at + image.text_len < 2 ^ 64 → can_be_procedure image s ≡ true → IsProcOf image (proc_of s)
-is_proc image s fits h =
+is_proc : (image : Image) (s : Symbol) → can_be_procedure image s ≡ true → IsProcOf image (proc_of s)
+is_proc image s h =
     let a = and_parts _ _ h in
     let b = and_parts _ _ a.0 in
     let c = and_parts _ _ b.0 in
@@ -80,12 +81,12 @@ is_proc image s fits h =
     let e = and_parts _ _ d.0 in
     let before = leb-true (s.at + s.size) (image.text_at + image.text_len) a.1 in
     record {
+      name = e.0;
       start = eqb-true (s.at % 4) 0 e.1;
       words = eqb-true (s.size % 4) 0 d.1;
       some = ltb-true 0 s.size c.1;
       behind = leb-true image.text_at s.at b.1;
       before = before;
-      below = fits_below (s.at + s.size) _ before fits;
     }
 
 has_size : (image : Image) (s : Symbol) → can_be_procedure image s ≡ true → 0 < s.size
@@ -145,9 +146,9 @@ pub namesake : (image : Image) (procs : List Proc) (end : ℕ) (keys : List Key)
 namesake image procs end keys rest s ss h r can e =
     is_free image procs end keys s ss (subst (Kept image procs end keys) r h) can ∙ ap (λ b. not (ltb s.at end) && not b) e ∙ and_right (not (ltb s.at end)) false refl
 
-kept_more : (image : Image) → image.text_at + image.text_len < 2 ^ 64 → (procs : List Proc) (end : ℕ) (keys ks : List Key) (k : Key) (s : Symbol) (ss : List Symbol) → Kept image procs end keys (s ∷ ss) → can_be_procedure image s ≡ true → end ≤ s.at → list_any (is_key s) keys ≡ false → k.0.now ≡ s.«module» → k.1.now ≡ s.name → IsPermutation (k ∷ keys) ks → Kept image (procs ++ proc_of s ∷ []) (s.at + s.size) ks ss
-kept_more image fits procs end keys ks k s ss h can l new m n put =
-    let is = is_proc image s fits can in
+kept_more : (image : Image) (procs : List Proc) (end : ℕ) (keys ks : List Key) (k : Key) (s : Symbol) (ss : List Symbol) → Kept image procs end keys (s ∷ ss) → can_be_procedure image s ≡ true → end ≤ s.at → list_any (is_key s) keys ≡ false → k.0.now ≡ s.«module» → k.1.now ≡ s.name → IsPermutation (k ∷ keys) ks → Kept image (procs ++ proc_of s ∷ []) (s.at + s.size) ks ss
+kept_more image procs end keys ks k s ss h can l new m n put =
+    let is = is_proc image s can in
     let yes : is_kept image procs s ≡ true = is_free image procs end keys s ss h can ∙ ap (λ b. not b && not (list_any (is_key s) keys)) (le-ltb s.at end l) ∙ ap not new in
     record {
       same = sym (ap (λ b. kept_of image (cond b (procs ++ proc_of s ∷ []) procs) ss) yes) ∙ h.same;
@@ -157,6 +158,7 @@ kept_more image fits procs end keys ks k s ss h can l new m n put =
       rises = h.rises.1;
       each = All-push (IsProcOf image) procs (proc_of s) h.each is;
       ascend = ascend_push procs (proc_of s) end h.ascend h.ends l;
+      distinct = distinct_push procs s h.distinct (sym (h.names s) ∙ new);
       free = λ t a b.
           any_push (overlaps t) procs (proc_of s)
           ∙ ap (λ c. c || overlaps t (proc_of s)) (h.free t (omega (arith, h.rises.0)) b)
@@ -170,9 +172,9 @@ kept_more image fits procs end keys ks k s ss h can l new m n put =
     }
 
 -- a function symbol that is a procedure
-pub kept_push : (image : Image) → image.text_at + image.text_len < 2 ^ 64 → (procs new : List Proc) (end e : ℕ) (keys ks : List Key) (k : Key) (rest : List Symbol) (s : Symbol) (ss : List Symbol) → Kept image procs end keys rest → rest ≡ s ∷ ss → can_be_procedure image s ≡ true → end ≤ s.at → list_any (is_key s) keys ≡ false → k.0.now ≡ s.«module» → k.1.now ≡ s.name → IsPermutation (k ∷ keys) ks → new ≡ procs ++ proc_of s ∷ [] → e ≡ s.at + s.size → Kept image new e ks ss
-kept_push image fits procs new end e keys ks k rest s ss h r can l out m n put p q =
-    subst (λ z. Kept image z e ks ss) (sym p) (subst (λ z. Kept image (procs ++ proc_of s ∷ []) z ks ss) (sym q) (kept_more image fits procs end keys ks k s ss (subst (Kept image procs end keys) r h) can l out m n put))
+pub kept_push : (image : Image) (procs new : List Proc) (end e : ℕ) (keys ks : List Key) (k : Key) (rest : List Symbol) (s : Symbol) (ss : List Symbol) → Kept image procs end keys rest → rest ≡ s ∷ ss → can_be_procedure image s ≡ true → end ≤ s.at → list_any (is_key s) keys ≡ false → k.0.now ≡ s.«module» → k.1.now ≡ s.name → IsPermutation (k ∷ keys) ks → new ≡ procs ++ proc_of s ∷ [] → e ≡ s.at + s.size → Kept image new e ks ss
+kept_push image procs new end e keys ks k rest s ss h r can l out m n put p q =
+    subst (λ z. Kept image z e ks ss) (sym p) (subst (λ z. Kept image (procs ++ proc_of s ∷ []) z ks ss) (sym q) (kept_more image procs end keys ks k s ss (subst (Kept image procs end keys) r h) can l out m n put))
 
 -- the next of the function symbols
 pub next_function : (rs : List (Bor Symbol)) (i : ℕ) (r : Bor Symbol) → i < length rs → r ≡ get_or rs i r → map (λ r. r.now) (drop i rs) ≡ r.now ∷ map (λ r. r.now) (drop (i + 1) rs)

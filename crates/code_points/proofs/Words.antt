@@ -3,9 +3,8 @@ use Rattle.std.proofs.Common.{◌≡◌, ℕ, zero, suc, ◌+◌, ◌*◌, ◌-�
 use Rattle.std.specs.Prelude.{slice_get}
 use Rattle.std.proofs.lemmas.List.{drop-drop, take_rest}
 use Rattle.rv_word.specs.Names.{word_at, words_in, words_of}
-use Rattle.rv_word.specs.Plain.{program_word}
+use Rattle.rv_word.specs.Plain.{program_word, words_from}
 use Rattle.std.proofs.lemmas.Bool.Decides.{nat_tests}
-use Rattle.code_points.specs.Points.{words_from}
 
 get-words_in : (n k : ℕ) (bytes : List ℕ) → k < n → slice_get (words_in n bytes) k ≡ Some (word_at (drop (4 * k) bytes))
 get-words_in zero k bytes l = absurd (omega arith)

@@ -5,18 +5,11 @@ use Rattle.pn_types.specs.Images.{text_of}
 use Rattle.pn_types.specs.declared.code.Point.{Point}
 use Rattle.pn_types.specs.declared.code.Proc.{Proc}
 use Rattle.pn_types.specs.declared.image.Image.{Image}
-use Rattle.rv_word.specs.Names.{words_of, is_call_of, is_return_of}
-use Rattle.rv_word.specs.Plain.{Words, program_word}
+use Rattle.rv_mem.specs.Start.{program_of}
+use Rattle.rv_word.specs.Names.{is_call_of, is_return_of}
+use Rattle.rv_word.specs.Plain.{Words, program_word, words_from}
 use Rattle.rv_word.specs.Table.{decode_of}
 use Rattle.rv_word.specs.declared.instr.Instr.{Instr}
-
--- the words of a text that begins at an address
-abbrev pub words_from : ℕ → List ℕ → Words
-words_from at text = record { at = at; words = words_of text }
-
--- the words of an image's text
-abbrev pub program_of : Image → Words
-program_of image = words_from image.text_at (text_of image)
 
 -- the instruction at an address, where the text has one there
 abbrev pub instr_at : Words → ℕ → Option Instr

@@ -1,5 +1,5 @@
 -- Which function symbols of an image are procedures.
-use Rattle.std.specs.Prelude.{ℕ, ◌≡◌, ◌+◌, ◌-◌, ◌%◌, ◌^◌, ◌<◌, ◌≤◌, ◌==◌, ◌&&◌, not, nat_lt, nat_le, Bool, true, false, if◌then◌else◌, List, [], ◌∷◌, ◌++◌, length}
+use Rattle.std.specs.Prelude.{ℕ, ◌≡◌, ◌+◌, ◌-◌, ◌%◌, ◌^◌, ◌<◌, ◌≤◌, ◌==◌, ◌&&◌, not, nat_lt, nat_le, Bool, true, false, if◌then◌else◌, Some, List, [], ◌∷◌, ◌++◌, length, slice_get}
 use Rattle.std.specs.List.{filter, list_any, All, AllAdjacentBelow}
 use Rattle.std.specs.Str.{bytes_eq}
 use Rattle.pn_types.specs.GoodNames.{is_good_name}
@@ -62,26 +62,33 @@ procedures_of image = kept_of image [] (functions_of image)
 abbrev pub skipped_of : Image → ℕ
 skipped_of image = length (functions_of image) - length (procedures_of image)
 
--- the text ends below 2^64, and a number of 32 bits counts the symbols
-pub record IsCountable (image : Image) : Type 0 where
-  pub text : image.text_at + image.text_len < 2 ^ 64
-  pub symbols : length image.symbols < 2 ^ 32
+-- the modules of all symbols are good names
+abbrev pub AreModulesGood : Image → Type 0
+AreModulesGood image = All (λ s. is_good_name s.«module» ≡ true) image.symbols
 
--- at least one whole word, all in the text
+-- a good name, and at least one whole word, all in the text
 pub record IsProcOf (image : Image) (p : Proc) : Type 0 where
+  pub name : is_good_name p.name ≡ true
   pub start : p.start % 4 ≡ 0
   pub words : p.len % 4 ≡ 0
   pub some : 0 < p.len
   pub behind : image.text_at ≤ p.start
   pub before : p.start + p.len ≤ image.text_at + image.text_len
-  pub below : p.start + p.len < 2 ^ 64
 
 -- each ends where the next starts, or before
 abbrev pub Ascend : List Proc → Type 0
 Ascend procs = AllAdjacentBelow (λ p q. p.start + p.len ≤ q.start) procs (length procs)
 
--- procedures of the image by ascending address, of which none overlap, and a number of 32 bits for each
+-- no two agree in module and name
+abbrev pub AreDistinct : List Proc → Type 0
+AreDistinct procs =
+    (j k : ℕ) (p q : Proc) → slice_get procs j ≡ Some p → slice_get procs k ≡ Some q → p.«module» ≡ q.«module» → p.name ≡ q.name → j ≡ k
+
+-- Procedures of the image by ascending address, of which none overlap and no two agree in module and name; a number of 32
+-- bits counts them. Their modules are good names where those of all symbols are.
 pub record AreProcsOf (image : Image) (procs : List Proc) : Type 0 where
   pub each : All (IsProcOf image) procs
   pub ascend : Ascend procs
+  pub distinct : AreDistinct procs
   pub few : length procs < 2 ^ 32
+  pub modules : AreModulesGood image → All (λ p. is_good_name p.«module» ≡ true) procs

@@ -1,9 +1,11 @@
 //! The instrumentation points of procedures.
 
-ghost use Rattle.std.specs.Prelude.{◌≡◌, ◌+◌, ◌<◌, ◌≤◌, ◌^◌, ◌++◌, OnOk, IfOk, length, map};
+ghost use Rattle.std.specs.Prelude.{◌≡◌, ◌+◌, ◌/◌, ◌<◌, ◌≤◌, ◌^◌, ◌++◌, OnOk, IfOk, length, map};
 ghost use Rattle.std.specs.List.Sorted.{IsStrictlyIncreasing};
+ghost use Rattle.pn_types.specs.Images.{IsImage};
 ghost use Rattle.rv_word.specs.Names.{is_return_of};
-ghost use Rattle.code_points.specs.Points.{words_from, instr_at, calls_at, point_at, has_kind, points_in, points_of};
+ghost use Rattle.rv_word.specs.Plain.{words_from};
+ghost use Rattle.code_points.specs.Points.{instr_at, calls_at, point_at, has_kind, points_in, points_of};
 ghost use Rattle.code_points.specs.Procedures.{AreProcsOf};
 
 use crate::text::word;
@@ -23,7 +25,6 @@ fn calls_at(text: &[u8], text_at: u64, at: u64) -> bool
 
 /// Whether a word that leaves the procedure is at the address.
 fn returns_at(text: &[u8], text_at: u64, at: u64, proc: &Proc) -> bool
-    requires { proc.now.start + proc.now.len < 2 ^ 64 }
     ensures { result ≡ is_return_of (instr_at (words_from text_at text.now) at) at proc.now.start proc.now.len }
 {
     match word(text, text_at, at) {
@@ -34,8 +35,7 @@ fn returns_at(text: &[u8], text_at: u64, at: u64, proc: &Proc) -> bool
 
 /// The kinds of an address of a procedure.
 fn point_at(text: &[u8], text_at: u64, proc_no: u32, proc: &Proc, at: u64) -> Point
-    requires end { proc.now.start + proc.now.len < 2 ^ 64 }
-    requires words { proc.now.start < at → 4 ≤ at }
+    requires { proc.now.start < at → 4 ≤ at }
     ensures { result ≡ point_at (words_from text_at text.now) proc_no proc.now at }
 {
     Point {
@@ -78,11 +78,13 @@ fn add_points(
 /// The points of an image's procedures, by ascending address. An address of a procedure is a point where it is the
 /// first, its word leaves the procedure or calls, or the word before it is the procedure's too and calls. The number
 /// of a point's procedure is its place among these procedures.
+#[tactic(auto, using(crate::proofs::NamedProcs::text_below))]
 pub fn points(alloc: Global, image: &Image, procs: &[Proc]) -> Result<Vec<Point>, NoMemory>
-    requires { AreProcsOf image.now procs.now }
+    requires image { IsImage image.now }
+    requires procs { AreProcsOf image.now procs.now }
     ensures points { IfOk result (λ points. points.items ≡ points_of image.now procs.now) }
     ensures ascending { IfOk result (λ points. IsStrictlyIncreasing (map (λ q. q.at) points.items)) }
-    ensures few { IfOk result (λ points. length points.items ≤ image.now.text_at + image.now.text_len) }
+    ensures few { IfOk result (λ points. length points.items ≤ image.now.text_len / 4) }
 {
     let text = image.text_bytes();
     let mut points = Vec::new(alloc);

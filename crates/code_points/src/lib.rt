@@ -1,12 +1,12 @@
-//! The procedures of a program, and its instrumentation points.
+//! The procedures and the objects of a program, and its instrumentation points.
 #![tactic(auto)]
 
+mod data_objects;
 mod kinds;
 mod procs;
 mod symbols;
-#[cfg(test)]
-mod tests;
 mod text;
 
+pub use data_objects::objects;
 pub use kinds::points;
 pub use procs::procedures;

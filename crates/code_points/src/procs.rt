@@ -1,10 +1,11 @@
 //! The procedures of an image.
 
 ghost use Rattle.std.specs.Prelude.{◌≡◌, ◌+◌, ◌<◌, ◌≤◌, ◌^◌, IfOk, length, map};
-ghost use Rattle.code_points.specs.Procedures.{can_be_procedure, proc_of, functions_of, procedures_of, skipped_of, IsCountable, AreProcsOf};
+ghost use Rattle.pn_types.specs.Images.{IsImage};
+ghost use Rattle.code_points.specs.Procedures.{can_be_procedure, proc_of, functions_of, procedures_of, skipped_of, AreProcsOf};
 
 use crate::symbols::functions_by_address;
-use pn_types::{Image, NoMemory, Proc, Symbol, Text, is_good_name};
+use pn_types::{Image, NoMemory, Proc, Symbol, is_good_name};
 use std::alloc::Global;
 use std::collections::HashSet;
 
@@ -22,20 +23,13 @@ fn can_be_procedure(image: &Image, symbol: &Symbol) -> bool
         && symbol.at - image.text_at <= image.text_len - symbol.size
 }
 
-/// A copy of the text.
-fn copy(alloc: Global, text: &Text) -> Result<Text, NoMemory>
-    ensures { IfOk result (λ copy. copy ≡ text.now) }
-{
-    Ok(Text::from_vec(Vec::from_slice(alloc, text.bytes())?))
-}
-
 /// The procedure of a function symbol.
 fn proc_of(alloc: Global, symbol: &Symbol) -> Result<Proc, NoMemory>
     ensures { IfOk result (λ proc. proc ≡ proc_of symbol.now) }
 {
     Ok(Proc {
-        name: copy(alloc, &symbol.name)?,
-        module: copy(alloc, &symbol.module)?,
+        name: symbol.name.copy(alloc)?,
+        module: symbol.module.copy(alloc)?,
         start: symbol.at,
         len: symbol.size,
     })
@@ -69,8 +63,9 @@ fn kept(alloc: Global, image: &Image, functions: &[&Symbol]) -> Result<Vec<Proc>
 /// judged by ascending address, ties in the order of the image's symbols. One is a procedure where its name is good,
 /// its address and its size are multiples of 4, its size isn't 0, it lies in the text, it overlaps no procedure before
 /// it, and none of them has its module and name.
+#[tactic(auto, using(crate::proofs::NamedProcs::text_below))]
 pub fn procedures(alloc: Global, image: &Image) -> Result<(Vec<Proc>, u32), NoMemory>
-    requires { IsCountable image.now }
+    requires { IsImage image.now }
     ensures procs { IfOk result (λ r. r.0.items ≡ procedures_of image.now) }
     ensures skipped { IfOk result (λ r. r.1 ≡ skipped_of image.now) }
     ensures are_procs { IfOk result (λ r. AreProcsOf image.now r.0.items) }

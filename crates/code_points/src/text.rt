@@ -1,8 +1,7 @@
 //! The words of the text.
 
 ghost use Rattle.std.specs.Prelude.{◌≡◌};
-ghost use Rattle.rv_word.specs.Plain.{program_word};
-ghost use Rattle.code_points.specs.Points.{words_from};
+ghost use Rattle.rv_word.specs.Plain.{program_word, words_from};
 
 use rv_word::split_word;
 

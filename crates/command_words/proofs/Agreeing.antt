@@ -12,7 +12,7 @@ use Rattle.command_words.specs.Grammar as grammar
 use Rattle.command_words.specs.Requests.{given_in, form_of}
 use Rattle.command_words.specs.Walks.{all_names, slot_of, Values, no_values, value_at, value_of, put_at, put, Walk, takes_option, placed_at, placed, with_value, optioned, by_kind, by_value, walked, finished, values_of}
 use Rattle.command_words.specs.declared.commands.CommandName.{CommandName}
-use Rattle.command_words.specs.declared.commands.CommandName.TheVariants.{Run, Live, Replay, Asm, Points, Plan, Stress}
+use Rattle.command_words.specs.declared.commands.CommandName.TheVariants.{Run, Live, Replay, Asm, Points, Plan, Stress, Relog}
 
 -- ---- names
 
@@ -23,7 +23,7 @@ eq_bytes : (xs : Text) → bytes_eq xs xs ≡ true
 eq_bytes xs = (bytes_eq-Decides xs xs).1 refl
 
 record Slot (name : Text) (slot : ℕ) : Type 0 where
-  low : slot < 15
+  low : slot < 16
   is : name ≡ get_or all_names slot []
 
 slot_is : (name : Text) (slot : ℕ) → slot_of name ≡ Some slot → Slot name slot
@@ -77,7 +77,7 @@ other_value : (values : Values) (slot : ℕ) (v : Option Text) (o : Option ℕ) 
 other_value values slot v None h = refl
 other_value values slot v (Some j) h = get_or-set_other values slot j v None (h j refl)
 
-put_agrees : (values : Values) (taken : Taken) (name value : Text) (slot : ℕ) → length values ≡ 15 → slot_of name ≡ Some slot → Agree values taken → is_some (given_in taken name) ≡ false → Agree (slice_set values slot (Some value)) (taken ++ (name, value) ∷ [])
+put_agrees : (values : Values) (taken : Taken) (name value : Text) (slot : ℕ) → length values ≡ 16 → slot_of name ≡ Some slot → Agree values taken → is_some (given_in taken name) ≡ false → Agree (slice_set values slot (Some value)) (taken ++ (name, value) ∷ [])
 put_agrees values taken name value slot len e agree free n = by (bytes_eq name n) refl ∙ sym (given_more n taken name value)
   where
     at : Slot name slot
@@ -110,13 +110,14 @@ EachKnown (name ∷ names) = Known name × EachKnown names
 
 known_for : (command : CommandName) → EachKnown (form_of command).places × EachKnown (form_of command).options
 unfolding slot_of
-known_for Run = (((0, refl), ((1, refl), tt)), ((7, refl), ((8, refl), ((10, refl), ((11, refl), ((12, refl), ((13, refl), ((14, refl), tt))))))))
-known_for Live = (((0, refl), ((1, refl), tt)), ((7, refl), ((9, refl), ((10, refl), ((11, refl), ((12, refl), ((13, refl), ((14, refl), tt))))))))
+known_for Run = (((0, refl), ((1, refl), tt)), ((7, refl), ((8, refl), ((10, refl), ((11, refl), ((12, refl), ((13, refl), ((14, refl), ((15, refl), tt)))))))))
+known_for Live = (((0, refl), ((1, refl), tt)), ((7, refl), ((9, refl), ((10, refl), ((11, refl), ((12, refl), ((13, refl), ((14, refl), ((15, refl), tt)))))))))
 known_for Replay = (((0, refl), ((1, refl), ((2, refl), tt))), tt)
 known_for Asm = (((3, refl), tt), tt)
 known_for Points = (((0, refl), tt), tt)
 known_for Plan = (((0, refl), ((1, refl), ((4, refl), ((5, refl), tt)))), ((7, refl), tt))
 known_for Stress = (((6, refl), ((8, refl), tt)), tt)
+known_for Relog = (((2, refl), tt), tt)
 
 known_at : (places : List Text) (k : ℕ) (name : Text) → EachKnown places → slice_get places k ≡ Some name → Known name
 known_at [] k name known e = absurd (cc)
@@ -194,7 +195,7 @@ end_agrees form values taken agree =
     by false = tt
 
 -- a value is put where the name was not given before
-put_same : (values : Values) (taken : Taken) (name value : Text) → Known name → length values ≡ 15 → Agree values taken → (F : Option Values → Option Values) (g : Taken → Option Taken) → Same (F None) None → ((vs : Values) (ts : Taken) → length vs ≡ 15 → Agree vs ts → Same (F (Some vs)) (g ts)) →
+put_same : (values : Values) (taken : Taken) (name value : Text) → Known name → length values ≡ 16 → Agree values taken → (F : Option Values → Option Values) (g : Taken → Option Taken) → Same (F None) None → ((vs : Values) (ts : Taken) → length vs ≡ 16 → Agree vs ts → Same (F (Some vs)) (g ts)) →
     Same (F (put values name value)) (cond (has name taken) None (g (taken ++ (name, value) ∷ [])))
 put_same values taken name value known len agree F g none some =
     subst (λ (o : Option Values). Same (F o) (cond (has name taken) None (g (taken ++ (name, value) ∷ [])))) (sym put_is)
@@ -233,11 +234,11 @@ run_on command words o = option_and_then (finished command) (option_and_then (λ
 
 -- from values that agree with what was taken both go on the same, wherever the walk stands
 record GoesOn (command : CommandName) (words : List Text) : Type 0 where
-  here : (values : Values) (k : ℕ) (taken : Taken) → length values ≡ 15 → Agree values taken → Same (run command (walk_at values k None false) words) (read (form_of command) (drop k (form_of command).places) taken None words)
-  waits : (values : Values) (k : ℕ) (taken : Taken) (name : Text) → Known name → length values ≡ 15 → Agree values taken → Same (run command (walk_at values k (Some name) false) words) (read (form_of command) (drop k (form_of command).places) taken (Some name) words)
-  past : (values : Values) (k : ℕ) (taken : Taken) → length values ≡ 15 → Agree values taken → Same (run command (walk_at values k None true) words) (behind (form_of command) (drop k (form_of command).places) taken words)
+  here : (values : Values) (k : ℕ) (taken : Taken) → length values ≡ 16 → Agree values taken → Same (run command (walk_at values k None false) words) (read (form_of command) (drop k (form_of command).places) taken None words)
+  waits : (values : Values) (k : ℕ) (taken : Taken) (name : Text) → Known name → length values ≡ 16 → Agree values taken → Same (run command (walk_at values k (Some name) false) words) (read (form_of command) (drop k (form_of command).places) taken (Some name) words)
+  past : (values : Values) (k : ℕ) (taken : Taken) → length values ≡ 16 → Agree values taken → Same (run command (walk_at values k None true) words) (behind (form_of command) (drop k (form_of command).places) taken words)
 
-module _ (command : CommandName) (words : List Text) (more : GoesOn command words) (values : Values) (k : ℕ) (taken : Taken) (len : length values ≡ 15) (agree : Agree values taken) where
+module _ (command : CommandName) (words : List Text) (more : GoesOn command words) (values : Values) (k : ℕ) (taken : Taken) (len : length values ≡ 16) (agree : Agree values taken) where
   form : Form
   form = form_of command
 
@@ -322,7 +323,7 @@ none_in (suc m) (suc n) = none_in m n
 
 none_at : (o : Option ℕ) → value_at no_values o ≡ None
 none_at None = refl
-none_at (Some slot) = none_in 15 slot
+none_at (Some slot) = none_in 16 slot
 
 -- The values are those that the grammar takes.
 pub same_values : (command : CommandName) (words : List Text) → Same (values_of command words) (taken_of (form_of command) words)

@@ -11,7 +11,7 @@ use Rattle.command_words.specs.Apps.{app_for}
 use Rattle.command_words.specs.Grammar.{Text, Taken, has, is_named, taken_of}
 use Rattle.command_words.specs.Requests.{form_of, given_in}
 use Rattle.command_words.specs.declared.commands.CommandName.{CommandName}
-use Rattle.command_words.specs.declared.commands.CommandName.TheVariants.{Run, Live, Replay, Asm, Points, Plan, Stress}
+use Rattle.command_words.specs.declared.commands.CommandName.TheVariants.{Run, Live, Replay, Asm, Points, Plan, Stress, Relog}
 use Rattle.command_words.proofs.Rows.{row, option_rule, place_rules, rules_of, Fits, is_given-row}
 use Rattle.command_words.proofs.Walks.{Agrees, AreUtf8, takes_exactly}
 
@@ -60,9 +60,9 @@ fits_run : Fits (form_of Run) (rules_of (form_of Run))
 fits_run = record {
   places = (refl, refl, refl, (refl, refl, refl, refl));
   long = λ text. long_of_options (form_of Run).options text;
-  id = λ text o e. found_known (rules_of (form_of Run)) (form_of Run).options text o (refl, (refl, (refl, (refl, (refl, (refl, (refl, tt))))))) e;
+  id = λ text o e. found_known (rules_of (form_of Run)) (form_of Run).options text o (refl, (refl, (refl, (refl, (refl, (refl, (refl, (refl, tt)))))))) e;
   short = λ c. refl;
-  defaults = (refl, (refl, (refl, (refl, (refl, (refl, (refl, (refl, (refl, tt)))))))));
+  defaults = (refl, (refl, (refl, (refl, (refl, (refl, (refl, (refl, (refl, (refl, tt))))))))));
   required = λ taken. wanted 1 (form_of Run).places (form_of Run).options taken;
 }
 
@@ -70,9 +70,9 @@ fits_live : Fits (form_of Live) (rules_of (form_of Live))
 fits_live = record {
   places = (refl, refl, refl, (refl, refl, refl, refl));
   long = λ text. long_of_options (form_of Live).options text;
-  id = λ text o e. found_known (rules_of (form_of Live)) (form_of Live).options text o (refl, (refl, (refl, (refl, (refl, (refl, (refl, tt))))))) e;
+  id = λ text o e. found_known (rules_of (form_of Live)) (form_of Live).options text o (refl, (refl, (refl, (refl, (refl, (refl, (refl, (refl, tt)))))))) e;
   short = λ c. refl;
-  defaults = (refl, (refl, (refl, (refl, (refl, (refl, (refl, (refl, (refl, tt)))))))));
+  defaults = (refl, (refl, (refl, (refl, (refl, (refl, (refl, (refl, (refl, (refl, tt))))))))));
   required = λ taken. wanted 1 (form_of Live).places (form_of Live).options taken;
 }
 
@@ -126,6 +126,16 @@ fits_stress = record {
   required = λ taken. wanted 1 (form_of Stress).places [] taken;
 }
 
+fits_relog : Fits (form_of Relog) (rules_of (form_of Relog))
+fits_relog = record {
+  places = (refl, refl, refl, refl);
+  long = λ text. refl;
+  id = λ text o e. found_known (rules_of (form_of Relog)) [] text o tt e;
+  short = λ c. refl;
+  defaults = (refl, tt);
+  required = λ taken. wanted 1 (form_of Relog).places [] taken;
+}
+
 -- ---- each command
 
 pub agrees_for : (name : CommandName) (words : List Text) → AreUtf8 (drop 1 words) → Agrees (taken_of (form_of name) (drop 1 words)) (fault_of (app_for name) words) (matches_of (app_for name) words)
@@ -136,6 +146,7 @@ agrees_for Asm words u = takes_exactly (codes "asm") (form_of Asm) (rules_of (fo
 agrees_for Points words u = takes_exactly (codes "points") (form_of Points) (rules_of (form_of Points)) fits_points (drop 1 words) u
 agrees_for Plan words u = takes_exactly (codes "plan") (form_of Plan) (rules_of (form_of Plan)) fits_plan (drop 1 words) u
 agrees_for Stress words u = takes_exactly (codes "stress") (form_of Stress) (rules_of (form_of Stress)) fits_stress (drop 1 words) u
+agrees_for Relog words u = takes_exactly (codes "relog") (form_of Relog) (rules_of (form_of Relog)) fits_relog (drop 1 words) u
 
 -- the value of a name
 pub first_of-row : (name : Text) (taken : Taken) → first_of name (map row taken) ≡ given_in taken name

@@ -8,3 +8,4 @@ pub mod Ranges
 mod Words
 mod Agreeing
 mod GivenLogs
+mod SettingsGiven

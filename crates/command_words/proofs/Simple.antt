@@ -12,7 +12,7 @@ use Rattle.command_words.specs.Apps.{app_for}
 use Rattle.command_words.specs.Grammar.{taken_of}
 use Rattle.command_words.specs.Requests.{form_of}
 use Rattle.command_words.specs.declared.commands.CommandName.{CommandName}
-use Rattle.command_words.specs.declared.commands.CommandName.TheVariants.{Run, Live, Replay, Asm, Points, Plan, Stress}
+use Rattle.command_words.specs.declared.commands.CommandName.TheVariants.{Run, Live, Replay, Asm, Points, Plan, Stress, Relog}
 use Rattle.command_words.proofs.Walks.{AreUtf8, Agrees}
 use Rattle.command_words.proofs.Fitting.{agrees_for, first_of-row, taken_from, none_from}
 
@@ -24,6 +24,7 @@ is_simple_for Asm = refl
 is_simple_for Points = refl
 is_simple_for Plan = refl
 is_simple_for Stress = refl
+is_simple_for Relog = refl
 
 pub is_free_for : (name : CommandName) → is_simple_and_free (app_for name) ≡ true
 is_free_for Run = refl
@@ -33,6 +34,7 @@ is_free_for Asm = refl
 is_free_for Points = refl
 is_free_for Plan = refl
 is_free_for Stress = refl
+is_free_for Relog = refl
 
 texts_utf8 : {Z : Type 0} (words : List (String Z)) → AreUtf8 (map string_bytes words)
 texts_utf8 [] = tt

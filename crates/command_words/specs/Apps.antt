@@ -6,7 +6,7 @@ use Rattle.clap.specs.declared.builder.action.ArgAction.TheVariants.{Set}
 use Rattle.command_words.specs.Grammar.{Text, Form}
 use Rattle.command_words.specs.Requests.{form_of}
 use Rattle.command_words.specs.declared.commands.CommandName.{CommandName}
-use Rattle.command_words.specs.declared.commands.CommandName.TheVariants.{Run, Live, Replay, Asm, Points, Plan, Stress}
+use Rattle.command_words.specs.declared.commands.CommandName.TheVariants.{Run, Live, Replay, Asm, Points, Plan, Stress, Relog}
 
 abbrev pub place_arg : Text → Rule
 place_arg name = record (new_rule name) { required = true; action = Some Set }
@@ -28,6 +28,7 @@ name_text Asm = codes "asm"
 name_text Points = codes "points"
 name_text Plan = codes "plan"
 name_text Stress = codes "stress"
+name_text Relog = codes "relog"
 
 abbrev pub app_for : CommandName → App
 app_for name = app_with (name_text name) (form_of name)

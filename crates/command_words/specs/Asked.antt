@@ -11,7 +11,7 @@ use Rattle.command_words.specs.declared.requests.RunRequest.{RunRequest}
 use Rattle.command_words.specs.declared.requests.PlanRequest.{PlanRequest}
 
 abbrev pub asked_run : RunRequest → request.RunRequest
-asked_run r = record { program = r.program.now; conf = r.conf.now; settings = r.settings; log = option_map (λ s. s.now) r.log }
+asked_run r = record { program = r.program.now; conf = r.conf.now; settings = r.settings; seed = r.seed; quantum = r.quantum; log = option_map (λ s. s.now) r.log }
 
 abbrev pub asked_plan : PlanRequest → request.PlanRequest
 asked_plan p = record { program = p.program.now; conf = p.conf.now; metric = p.metric.now; focus = p.focus.now; harts = p.harts }

@@ -1,4 +1,4 @@
--- What the values of the walk stand for.
+-- For proofs alone: what the values of the walk stand for.
 use Rattle.std.specs.Prelude.{option_map, map}
 use Rattle.command_words.specs.Grammar.{Kind, end_of_options, option, other_flag, plain}
 use Rattle.command_words.specs.Walks as walk

@@ -1,4 +1,4 @@
--- The words of a command taken one at a time, with room for one value of each name.
+-- For proofs alone: the words of a command taken one at a time, with room for one value of each name.
 use Rattle.std.specs.Prelude.{ℕ, ◌+◌, ◌&&◌, if◌then◌else◌, Bool, true, false, List, [], ◌∷◌, Option, Some, None, codes, option_map, slice_get, slice_index_or, slice_set, replicate}
 use Rattle.std.specs.Option.{option_and_then, is_some, is_none}
 use Rattle.std.specs.List.{list_any, list_all, position}
@@ -13,7 +13,7 @@ use Rattle.command_words.specs.declared.commands.CommandName.{CommandName}
 abbrev pub all_names : List Text
 all_names =
     codes "program" ∷ codes "conf" ∷ codes "record" ∷ codes "text" ∷ codes "metric" ∷ codes "focus" ∷ codes "procs" ∷ codes "harts" ∷ codes "seed"
-    ∷ codes "workers" ∷ codes "quantum" ∷ codes "budget" ∷ codes "bins" ∷ codes "width" ∷ codes "log" ∷ []
+    ∷ codes "workers" ∷ codes "quantum" ∷ codes "budget" ∷ codes "bins" ∷ codes "width" ∷ codes "log" ∷ codes "instruments" ∷ []
 
 -- the number of a name
 unfoldable pub slot_of : Text → Option ℕ
@@ -25,7 +25,7 @@ Values = List (Option Text)
 
 -- no values
 abbrev pub no_values : Values
-no_values = replicate 15 None
+no_values = replicate 16 None
 
 abbrev pub value_at : Values → Option ℕ → Option Text
 value_at values None = None

@@ -60,7 +60,7 @@ fn of_program<'a>(alloc: Global, name: &'a str) -> Result<Command<'a>, AllocErro
     with_place(alloc, command, "conf")
 }
 
-/// The options of `run` and `live` behind their second.
+/// The options of `run` and `live` between their second and their last.
 fn with_sizes<'a>(alloc: Global, command: Command<'a>) -> Result<Command<'a>, AllocError>
     ensures { IfOk result (λ more. app_of more ≡ fold with_rule (app_of command.entry) (map option_arg (codes "quantum" ∷ codes "budget" ∷ codes "bins" ∷ codes "width" ∷ codes "log" ∷ []))) }
 {
@@ -76,7 +76,8 @@ fn run_command<'a>(alloc: Global) -> Result<Command<'a>, AllocError>
 {
     let command = with_option(alloc, of_program(alloc, "run")?, "harts")?;
     let command = with_option(alloc, command, "seed")?;
-    with_sizes(alloc, command)
+    let command = with_sizes(alloc, command)?;
+    with_option(alloc, command, "instruments")
 }
 
 fn live_command<'a>(alloc: Global) -> Result<Command<'a>, AllocError>
@@ -84,7 +85,8 @@ fn live_command<'a>(alloc: Global) -> Result<Command<'a>, AllocError>
 {
     let command = with_option(alloc, of_program(alloc, "live")?, "harts")?;
     let command = with_option(alloc, command, "workers")?;
-    with_sizes(alloc, command)
+    let command = with_sizes(alloc, command)?;
+    with_option(alloc, command, "instruments")
 }
 
 fn replay_command<'a>(alloc: Global) -> Result<Command<'a>, AllocError>
@@ -120,5 +122,6 @@ pub fn command<'a>(alloc: Global, name: CommandName) -> Result<Command<'a>, Allo
         CommandName::Points => with_place(alloc, bare(alloc, "points"), "program"),
         CommandName::Plan => plan_command(alloc),
         CommandName::Stress => stress_command(alloc),
+        CommandName::Relog => with_place(alloc, bare(alloc, "relog"), "record"),
     }
 }

@@ -11,6 +11,7 @@ pub enum CommandName {
     Points,
     Plan,
     Stress,
+    Relog,
 }
 
 impl CommandName {
@@ -26,6 +27,7 @@ impl CommandName {
             "points" => Some(CommandName::Points),
             "plan" => Some(CommandName::Plan),
             "stress" => Some(CommandName::Stress),
+            "relog" => Some(CommandName::Relog),
             _ => None,
         }
     }

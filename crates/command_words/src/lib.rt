@@ -7,9 +7,6 @@ mod given;
 mod logging;
 mod matching;
 mod requests;
-mod settings;
-#[cfg(test)]
-mod tests;
 mod values;
 mod walking;
 mod word_kind;
@@ -18,4 +15,3 @@ pub use commands::CommandName;
 pub use logging::log_name;
 pub use matching::WordFault;
 pub use requests::{PlanRequest, Request, RunRequest, read_request};
-pub use settings::Settings;

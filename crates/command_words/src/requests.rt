@@ -1,12 +1,16 @@
 ghost use Rattle.std.specs.Prelude.{◌≡◌, ◌≤◌, List, MatchResult, IfOk, IfSome, Some, None, map, option_map, string_bytes, codes};
 ghost use Rattle.command_words.specs.Asked.{asked};
-ghost use Rattle.command_words.specs.Requests.{number_between, number_given, place_in, settings_of, run_request, live_request, plan_request, stress_request, request_from, request_of, AreInRange, HasRanges};
+ghost use Rattle.command_words.specs.Requests.{number_between, number_given, place_in, harts_of, quantum_of, settings_of, run_request, live_request, plan_request, stress_request, request_from, request_of, HasRanges};
+ghost use Rattle.pn_types.specs.Settings.{AreInRange};
 
 use crate::commands::CommandName;
 use crate::given::Given;
 use crate::matching::{WordFault, matches};
-use crate::settings::Settings;
 use pn_text::number;
+use pn_types::{
+    MAX_BINS, MAX_BUDGET, MAX_HARTS, MAX_INSTRUMENTS, MAX_QUANTUM, MAX_WIDTH, MAX_WORKERS,
+    MIN_BINS, Settings, Start,
+};
 use std::alloc::Global;
 
 /// What `run` is asked for.
@@ -16,7 +20,12 @@ pub struct RunRequest<'a> {
     pub program: &'a str,
     /// The name of the configuration's file.
     pub conf: &'a str,
+    /// The numbers of the run.
     pub settings: Settings,
+    /// The seed of the order of quanta; 0 goes round.
+    pub seed: u32,
+    /// The most turns of a quantum, from 1 to [`pn_types::MAX_QUANTUM`].
+    pub quantum: u32,
     /// The name of the log's file, where one is wanted.
     pub log: Option<&'a str>,
 }
@@ -32,8 +41,8 @@ pub struct PlanRequest<'a> {
     pub metric: &'a str,
     /// The text of the focus.
     pub focus: &'a str,
-    /// The number of harts, from 1 to 16.
-    pub harts: u64,
+    /// The number of harts, from 1 to [`MAX_HARTS`].
+    pub harts: u32,
 }
 
 /// What the words ask for.
@@ -87,11 +96,21 @@ fn number_given<'a, G: Given<'a>>(
 }
 
 /// The number of harts.
-fn harts<'a, G: Given<'a>>(given: &G) -> Option<u64>
-    ensures number { result ≡ number_given (G.given given.now) (codes "harts") 1 16 1 }
-    ensures range { IfSome result (λ n. (1 ≤ n) × (n ≤ 16)) }
+fn harts<'a, G: Given<'a>>(given: &G) -> Option<u32>
+    ensures number { result ≡ harts_of (G.given given.now) }
+    ensures range { IfSome result (λ n. (1 ≤ n) × (n ≤ MAX_HARTS)) }
 {
-    number_given(given, "harts", 1, 16, 1)
+    let harts = number_given(given, "harts", 1, MAX_HARTS as u64, 1)?;
+    Some(harts as u32)
+}
+
+/// The most turns of a quantum.
+fn quantum<'a, G: Given<'a>>(given: &G) -> Option<u32>
+    ensures number { result ≡ quantum_of (G.given given.now) }
+    ensures range { IfSome result (λ n. (1 ≤ n) × (n ≤ MAX_QUANTUM)) }
+{
+    let quantum = number_given(given, "quantum", 1, MAX_QUANTUM as u64, 50)?;
+    Some(quantum as u32)
 }
 
 fn settings<'a, G: Given<'a>>(given: &G) -> Option<Settings>
@@ -99,18 +118,17 @@ fn settings<'a, G: Given<'a>>(given: &G) -> Option<Settings>
     ensures ranges { IfSome result AreInRange }
 {
     let harts = harts(given)?;
-    let seed = number_given(given, "seed", 0, 4_294_967_295, 0)?;
-    let quantum = number_given(given, "quantum", 1, 10_000, 50)?;
-    let budget = number_given(given, "budget", 1, 100_000_000, 1_000_000)?;
-    let bins = number_given(given, "bins", 2, 1_024, 64)?;
-    let width = number_given(given, "width", 1, 1_000_000, 1_000)?;
+    let budget = number_given(given, "budget", 1, MAX_BUDGET, 1_000_000)?;
+    let bins = number_given(given, "bins", MIN_BINS as u64, MAX_BINS as u64, 64)?;
+    let width = number_given(given, "width", 1, MAX_WIDTH, 1_000)?;
+    let instruments = number_given(given, "instruments", 1, MAX_INSTRUMENTS as u64, 64)?;
     Some(Settings {
         harts,
-        seed,
-        quantum,
         budget,
-        bins,
+        bins: bins as u32,
         width,
+        start: Start::Cold,
+        instruments: instruments as u32,
     })
 }
 
@@ -119,10 +137,14 @@ fn run_request<'a, G: Given<'a>>(given: &G) -> Option<Request<'a>>
     ensures ranges { IfSome result (λ request. HasRanges (asked request)) }
 {
     let settings = settings(given)?;
+    let seed = number_given(given, "seed", 0, 4_294_967_295, 0)?;
+    let quantum = quantum(given)?;
     Some(Request::Run(RunRequest {
         program: place(given, "program"),
         conf: place(given, "conf"),
         settings,
+        seed: seed as u32,
+        quantum,
         log: given.value("log"),
     }))
 }
@@ -132,7 +154,8 @@ fn live_request<'a, G: Given<'a>>(given: &G) -> Option<Request<'a>>
     ensures ranges { IfSome result (λ request. HasRanges (asked request)) }
 {
     settings(given)?;
-    number_given(given, "workers", 1, 16, 2)?;
+    quantum(given)?;
+    number_given(given, "workers", 1, MAX_WORKERS as u64, 2)?;
     Some(Request::Later)
 }
 
@@ -171,6 +194,7 @@ pub fn request_from<'a, G: Given<'a>>(name: CommandName, given: &G) -> Option<Re
         CommandName::Points => Some(Request::Points(place(given, "program"))),
         CommandName::Plan => plan_request(given),
         CommandName::Stress => stress_request(given),
+        CommandName::Relog => Some(Request::Later),
     }
 }
 

@@ -8,7 +8,7 @@ ghost use Rattle.command_words.specs.Walked.{values_seen};
 #[tactic(auto, unfolding(crate::specs::Walks::slot_of))]
 fn slot_of(name: &str) -> Option<usize>
     ensures number { result ≡ slot_of name.now }
-    ensures range { IfSome result (λ slot. slot < 15) }
+    ensures range { IfSome result (λ slot. slot < 16) }
 {
     match name {
         "program" => Some(0),
@@ -26,6 +26,7 @@ fn slot_of(name: &str) -> Option<usize>
         "bins" => Some(12),
         "width" => Some(13),
         "log" => Some(14),
+        "instruments" => Some(15),
         _ => None,
     }
 }
@@ -33,7 +34,7 @@ fn slot_of(name: &str) -> Option<usize>
 /// A value for each name, where it has one.
 #[derive(Clone, Copy, Drop)]
 pub struct Values<'a> {
-    of: [Option<&'a str>; 15],
+    of: [Option<&'a str>; 16],
 }
 
 impl<'a> Values<'a> {
@@ -41,7 +42,7 @@ impl<'a> Values<'a> {
     pub fn none() -> Values<'a>
         ensures { values_seen result ≡ no_values }
     {
-        Values { of: [None; 15] }
+        Values { of: [None; 16] }
     }
 
     /// The value of a name.

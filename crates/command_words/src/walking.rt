@@ -41,6 +41,7 @@ fn place_name(command: CommandName, place: usize) -> Option<&'static str>
         (CommandName::Plan, 3) => Some("focus"),
         (CommandName::Stress, 0) => Some("procs"),
         (CommandName::Stress, 1) => Some("seed"),
+        (CommandName::Relog, 0) => Some("record"),
         _ => None,
     }
 }
@@ -51,11 +52,13 @@ fn takes_option(command: CommandName, name: &str) -> bool
 {
     match command {
         CommandName::Run => match name {
-            "harts" | "seed" | "quantum" | "budget" | "bins" | "width" | "log" => true,
+            "harts" | "seed" | "quantum" | "budget" | "bins" | "width" | "log" | "instruments" =>
+                true,
             _ => false,
         },
         CommandName::Live => match name {
-            "harts" | "workers" | "quantum" | "budget" | "bins" | "width" | "log" => true,
+            "harts" | "workers" | "quantum" | "budget" | "bins" | "width" | "log" | "instruments" =>
+                true,
             _ => false,
         },
         CommandName::Plan => name == "harts",
@@ -75,6 +78,7 @@ fn is_full(command: CommandName, values: &Values<'_>) -> bool
         CommandName::Points => has("program"),
         CommandName::Plan => has("program") && has("conf") && has("metric") && has("focus"),
         CommandName::Stress => has("procs") && has("seed"),
+        CommandName::Relog => has("record"),
     }
 }
 

@@ -1,13 +1,12 @@
 ghost use Rattle.std.specs.Prelude.{◌≡◌, ◌<◌, ◌/◌, ◌%◌, ◌^◌, IfOk, length};
-ghost use Rattle.std.specs.List.{All};
-ghost use Rattle.rv_mem.specs.Start.{IsSized};
+ghost use Rattle.pn_types.specs.Images.{IsImage};
 
 use crate::listed::is_instruction;
 use crate::vector::{Outcome, Setting, Vector};
 use pn_types::{HartNo, Image, NoMemory, Segment, Seq};
 use rv_exec::{Output, Regs, Reservations, exec};
 use rv_mem::Mem;
-use rv_word::{AmoOp, Instr, Next, decode, encode};
+use rv_word::{Instr, Next, decode, encode};
 use std::alloc::Global;
 
 /// The data that the words access: its first address, and how many bytes there are.
@@ -40,24 +39,21 @@ pub struct Machine {
     ghost has_hart: { hart < length reservations },
 }
 
-/// A segment of zeros.
-fn zeros(alloc: Global, at: u64, size: u64) -> Segment
-    ensures { IsSized result }
-{
-    Segment {
-        at,
-        bytes: Seq::from_vec(Vec::new(alloc)),
-        size,
-    }
-}
-
-/// The text and the data.
+/// The text, which is zeros, and the data, which begins with zeros.
 fn image(alloc: Global) -> Result<Image, NoMemory>
-    ensures { IfOk result (λ image. All IsSized image.segments) }
+    ensures { IfOk result IsImage }
 {
     let mut segments = Vec::new(alloc);
-    segments.push(zeros(alloc, TEXT, TEXT_LEN))?;
-    segments.push(zeros(alloc, DATA, DATA_LEN))?;
+    segments.push(Segment {
+        at: TEXT,
+        bytes: Seq::from_vec(vec![in alloc; 0; 4]?),
+        size: TEXT_LEN,
+    })?;
+    segments.push(Segment {
+        at: DATA,
+        bytes: Seq::from_vec(Vec::new(alloc)),
+        size: DATA_LEN,
+    })?;
     Ok(Image {
         segments: Seq::from_vec(segments),
         text_at: TEXT,
@@ -90,7 +86,7 @@ fn registers(word: u32, before: &Setting) -> Regs {
 fn accessed(instr: &Instr, first: u64) -> Option<u64> {
     let offset = match *instr {
         Instr::Load { offset, .. } | Instr::Store { offset, .. } => offset,
-        Instr::Amo { .. } => 0,
+        Instr::Lr { .. } | Instr::Sc { .. } | Instr::Amo { .. } => 0,
         _ => return None,
     };
     Some(first.wrapping_add(offset))
@@ -99,12 +95,12 @@ fn accessed(instr: &Instr, first: u64) -> Option<u64> {
 /// The load that reserves what the instruction accesses.
 fn reserving(instr: &Instr) -> Option<Instr> {
     match *instr {
-        Instr::Amo { width, rs1, .. } => Some(Instr::Amo {
-            op: AmoOp::Lr,
+        Instr::Lr { width, rs1, .. }
+        | Instr::Sc { width, rs1, .. }
+        | Instr::Amo { width, rs1, .. } => Some(Instr::Lr {
             width,
             rd: 0,
             rs1,
-            rs2: 0,
             order: 0,
         }),
         _ => None,
@@ -115,7 +111,7 @@ impl Machine {
     /// The machine at its start.
     pub fn new(alloc: Global) -> Result<Machine, NoMemory> {
         Ok(Machine {
-            hart: HartNo::new(0).unwrap(),
+            hart: HartNo::first(),
             mem: Mem::new(alloc, &image(alloc)?, 1)?,
             reservations: Reservations::new(alloc, 1)?,
             output: Output::new(alloc)?,

@@ -1,9 +1,13 @@
--- Every image that a file means has what `IsAccepted` says.
-use Rattle.std.proofs.Common.{◌≡◌, ℕ, ◌+◌, ◌-◌, ◌%◌, ◌≤◌, Option, Some, None, Ok, List, [], length, refl, sym, ap, ◌∙◌, subst, arith, inr}
+-- Every image that a file means has what `IsAccepted` says, where a number of 32 bits counts its symbols.
+use Rattle.std.proofs.Common.{◌≡◌, ℕ, ◌+◌, ◌-◌, ◌%◌, ◌^◌, ◌<◌, ◌≤◌, true, Option, Some, None, Ok, List, [], ◌∷◌, length, refl, sym, ap, ◌∙◌, subst, arith, inr}
 use Rattle.std.proofs.lemmas.List.{length-map}
 use Rattle.std.specs.Prelude.{nat_lt}
-use Rattle.std.specs.List.{AllByRecursion}
+use Rattle.std.specs.List.{All, AllByRecursion}
+use Rattle.std.proofs.lemmas.List.Elements.{All-from_recursion}
+use Rattle.pn_types.specs.GoodNames.{is_good_name}
+use Rattle.pn_types.specs.declared.image.Symbol.{Symbol}
 use Rattle.std.proofs.lemmas.Bool.{ltb-false}
+use Rattle.std.proofs.lemmas.Grind.{common_steps}
 use Rattle.rv_word.specs.Names.{words_of, scratch_in}
 use Rattle.elf_form.specs.Faults.{first_fault, fault_where}
 use Rattle.elf_form.specs.Fields.{header_of, program_headers_of}
@@ -12,7 +16,7 @@ use Rattle.elf_form.specs.Segments.{load_faults, lowest_shared, overlap_fault, s
 use Rattle.elf_form.specs.Texts.{text_range, text_fault, range_fault, is_entry}
 use Rattle.elf_form.specs.Symbols.{symbols_of}
 use Rattle.elf_form.specs.Meaning.{Tables, tables_of, fault_with, image_with, unless_fault, meaning_with, meaning_of, segments_of, start_of, length_of}
-use Rattle.elf_form.specs.Accepted.{IsAccepted, IsBytes}
+use Rattle.elf_form.specs.Accepted.{IsAccepted, IsNamed, IsBytes}
 use Rattle.elf_form.specs.declared.fault.ElfFault.{ElfFault}
 use Rattle.elf_form.specs.declared.fault.ElfFault.TheVariants.{TooBig}
 use Rattle.elf_form.specs.declared.load.Load.{Load}
@@ -55,9 +59,12 @@ ranged : (b : List ℕ) (t : Tables) (o : Option TextRange) → range_fault b t.
 ranged b t None h = absurd (cc)
 ranged b t (Some r) h = (r, refl)
 
-accepted_with : (b : List ℕ) (t : Tables) (r : TextRange) → IsBytes b → AllByRecursion HasMemory t.loads → segments_fault (length b) t.loads ≡ None → text_range t.sections ≡ Some r → range_fault b t.loads t.sections t.entry (Some r) ≡ None → IsAccepted (record { segments = segments_of b t.loads; text_at = r.at; text_len = r.end - r.at; entry = t.entry; symbols = symbols_of b t.sections })
+entry_whole : (entry : ℕ) (r : TextRange) → is_entry entry r ≡ true → entry % 4 ≡ 0
+entry_whole entry r h = grind (arith, common_steps)
+
+accepted_with : (b : List ℕ) (t : Tables) (r : TextRange) → IsBytes b → length (symbols_of b t.sections) < 2 ^ 32 → AllByRecursion HasMemory t.loads → segments_fault (length b) t.loads ≡ None → text_range t.sections ≡ Some r → range_fault b t.loads t.sections t.entry (Some r) ≡ None → IsAccepted (record { segments = segments_of b t.loads; text_at = r.at; text_len = r.end - r.at; entry = t.entry; symbols = symbols_of b t.sections })
 unfolding segments_of
-accepted_with b t r bytes memory segments range text =
+accepted_with b t r bytes few memory segments range text =
     let ls = loads_found (length b) t.loads memory segments in
     let positive = range_positive t.sections r range in
     let x = text_found b t.loads t.sections t.entry r text in
@@ -65,24 +72,28 @@ accepted_with b t r bytes memory segments range text =
     let inside = inside_again b r positive x.load (by_address t.loads) ls.ascend ls.sound (in-fold [] t.loads x.load (inr x.among)) x.around in
     let symbols = symbols_named b t.sections bytes in
     record {
-      few = omega (arith, ls.few, length-map (by_address t.loads) (segment_of b));
-      mapped = are_mapped b (length b) (by_address t.loads) ls.sound;
-      apart = apart_segments b (by_address t.loads) ls.ascend;
-      small = omega (arith, ls.small, sizes b (by_address t.loads));
-      positive = omega (arith, positive);
-      short = x.short;
-      start = x.start;
-      whole = ap (λ n. n % 4) end' ∙ x.end;
-      inside = inside.0;
+      image = record {
+        few = omega (arith, ls.few, length-map (by_address t.loads) (segment_of b));
+        mapped = are_mapped b (length b) (by_address t.loads) ls.sound;
+        apart = apart_segments b (by_address t.loads) ls.ascend;
+        small = omega (arith, ls.small, sizes b (by_address t.loads));
+        positive = omega (arith, positive);
+        short = x.short;
+        start = x.start;
+        whole = ap (λ n. n % 4) end' ∙ x.end;
+        inside = inside.0;
+        entry = entry_whole t.entry r x.enters;
+        symbols = few;
+      };
       unscratched = ap (λ bs. scratch_in (words_of bs) r.at) inside.1 ∙ x.unscratched;
       entry = ap (λ n. is_entry t.entry (record { at = r.at; end = n })) end' ∙ x.enters;
       named = symbols.named;
       ordered = symbols.ordered;
     }
 
-pub accepted : (b : List ℕ) (i : Image) → IsBytes b → meaning_of b ≡ Ok i → IsAccepted i
+pub accepted : (b : List ℕ) (i : Image) → IsBytes b → meaning_of b ≡ Ok i → length i.symbols < 2 ^ 32 → IsAccepted i
 unfolding meaning_of meaning_with text_fault
-accepted b i bytes h =
+accepted b i bytes h few =
     let t = tables_of b in
     let m = meant (fault_with b t) (image_with b t) i h in
     let a = no_fault (header_fault b) _ m.0 in
@@ -91,4 +102,13 @@ accepted b i bytes h =
     let r = ranged b t (text_range t.sections) x.0 in
     let text = sym (ap (λ o. range_fault b t.loads t.sections t.entry o) r.1) ∙ x.0 in
     let same = ap (λ o. record { segments = segments_of b t.loads; text_at = start_of o; text_len = length_of o; entry = t.entry; symbols = symbols_of b t.sections }) (sym r.1) ∙ m.1 in
-    subst IsAccepted same (accepted_with b t r.0 bytes (have_memory 0 (program_headers_of b (header_of b))) s.0 r.1 text)
+    let symbols : length (symbols_of b t.sections) < 2 ^ 32 = subst (λ (image : Image). length image.symbols < 2 ^ 32) (sym m.1) few in
+    subst IsAccepted same (accepted_with b t r.0 bytes symbols (have_memory 0 (program_headers_of b (header_of b))) s.0 r.1 text)
+
+good_modules_of : (ss : List Symbol) → AllByRecursion IsNamed ss → AllByRecursion (λ s. is_good_name s.«module» ≡ true) ss
+good_modules_of [] all = tt
+good_modules_of (s ∷ ss) all = (all.0.source, good_modules_of ss all.1)
+
+-- the modules of all symbols are good names
+pub good_modules : (i : Image) → IsAccepted i → All (λ s. is_good_name s.«module» ≡ true) i.symbols
+good_modules i h = All-from_recursion (λ s. is_good_name s.«module» ≡ true) i.symbols (good_modules_of i.symbols h.named)

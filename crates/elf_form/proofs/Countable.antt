@@ -1,8 +1,7 @@
--- A file has no more symbols than bytes, and the text of an image ends where memory for segments does.
-use Rattle.std.proofs.Common.{◌≡◌, ℕ, zero, suc, ◌+◌, ◌/◌, ◌%◌, ◌≤◌, ◌==◌, ◌&&◌, ◌||◌, not, Bool, true, false, Option, Some, None, Ok, List, [], ◌∷◌, ◌++◌, length, refl, ap, subst, arith}
-use Rattle.std.specs.Prelude.{nat_lt, nat_le, filter, if◌then◌else◌, option_map, option_to_list}
-use Rattle.std.specs.List.{AllByRecursion}
-use Rattle.std.proofs.lemmas.Bool.{ltb-false, leb-true}
+-- A file has 24 bytes for each symbol.
+use Rattle.std.proofs.Common.{◌≡◌, ℕ, zero, suc, ◌+◌, ◌*◌, ◌/◌, ◌%◌, ◌≤◌, ◌==◌, ◌&&◌, ◌||◌, not, Bool, true, false, Option, Some, None, Ok, List, [], ◌∷◌, ◌++◌, length, refl, ap, subst, arith}
+use Rattle.std.specs.Prelude.{nat_lt, filter, if◌then◌else◌, option_map, option_to_list}
+use Rattle.std.proofs.lemmas.Bool.{ltb-false}
 use Rattle.std.proofs.lemmas.List.{length-append}
 use Rattle.std.proofs.lemmas.List.Filters.{length-filter_both}
 use Rattle.elf_form.specs.Faults.{fault_where, reaches_past}
@@ -10,19 +9,16 @@ use Rattle.elf_form.specs.Fields.{table, symbol_entry_of}
 use Rattle.elf_form.specs.Headers.{header_fault}
 use Rattle.elf_form.specs.Segments.{segments_fault}
 use Rattle.elf_form.specs.Texts.{text_fault}
-use Rattle.elf_form.specs.Symbols.{kind_of, is_file, name_at, module_of, program, symbol_of, symbols_from, is_of_program, with_program_last, symbols_of, symbols_in, symbol_table, table_symbols, strings_of, section_bytes, entries_of, is_short, table_fault, symbols_fault_of, symbols_fault}
+use Rattle.elf_form.specs.Symbols.{kind_of, is_file, name_at, module_of, symbol_of, symbols_from, is_of_program, with_program_last, symbols_of, symbols_in, symbol_table, table_symbols, strings_of, section_bytes, entries_of, is_short, table_fault, symbols_fault_of, symbols_fault}
 use Rattle.elf_form.specs.Meaning.{tables_of, fault_with, image_with, meaning_with, meaning_of}
-use Rattle.elf_form.specs.Accepted.{IsAccepted, IsMapped, has_byte, are_inside}
+use Rattle.pn_types.specs.GoodNames.{program_module}
 use Rattle.elf_form.specs.declared.fault.ElfFault.TheVariants.{BadSymbols, Short}
 use Rattle.elf_form.specs.declared.section.SectionHeader.{SectionHeader}
 use Rattle.elf_form.specs.declared.symbol.SymbolEntry.{SymbolEntry}
 use Rattle.elf_form.proofs.FaultLemmas.{no_fault, fails}
 use Rattle.elf_form.proofs.AcceptedImages.{meant}
 use Rattle.pn_types.specs.declared.image.Image.{Image}
-use Rattle.pn_types.specs.declared.image.Segment.{Segment}
 use Rattle.pn_types.specs.declared.image.Symbol.{Symbol}
-
--- ---- symbols
 
 table_len : (b : List ℕ) (n at : ℕ) → length (table symbol_entry_of 24 b n at) ≡ n
 table_len b zero at = refl
@@ -62,7 +58,7 @@ or_left : (x y : Bool) → (x || y) ≡ false → x ≡ false
 or_left true y h = h
 or_left false y h = refl
 
-table_few : (b : List ℕ) (symbols : SectionHeader) (o : Option SectionHeader) → table_fault b symbols o ≡ None → length (table_symbols b symbols o) ≤ length b
+table_few : (b : List ℕ) (symbols : SectionHeader) (o : Option SectionHeader) → table_fault b symbols o ≡ None → 24 * length (table_symbols b symbols o) ≤ length b
 table_few b symbols None h = omega arith
 table_few b symbols (Some strings) h =
     let sizes = no_fault (fault_where (not ((symbols.entry_size == 24) && (symbols.size % 24 == 0))) BadSymbols) _ h in
@@ -70,20 +66,20 @@ table_few b symbols (Some strings) h =
     let test = fails (is_short (length b) symbols || is_short (length b) strings) (Short (length b)) short.0 in
     let size = inside symbols.offset symbols.size (length b) (or_left (is_short (length b) symbols) (is_short (length b) strings) test) in
     let entries = table_len b (symbols.size / 24) symbols.offset in
-    let found = from_len (section_bytes b strings) program (entries_of b symbols) in
-    let last = last_len (symbols_from (section_bytes b strings) program (entries_of b symbols)) in
+    let found = from_len (section_bytes b strings) program_module (entries_of b symbols) in
+    let last = last_len (symbols_from (section_bytes b strings) program_module (entries_of b symbols)) in
     omega arith
 
-all_few : (b : List ℕ) (sections : List SectionHeader) (o : Option SectionHeader) → symbols_fault_of b sections o ≡ None → length (symbols_in b sections o) ≤ length b
+all_few : (b : List ℕ) (sections : List SectionHeader) (o : Option SectionHeader) → symbols_fault_of b sections o ≡ None → 24 * length (symbols_in b sections o) ≤ length b
 all_few b sections None h = omega arith
 all_few b sections (Some symbols) h = table_few b symbols (strings_of sections symbols) h
 
-symbols_few : (b : List ℕ) (sections : List SectionHeader) → symbols_fault b sections ≡ None → length (symbols_of b sections) ≤ length b
+symbols_few : (b : List ℕ) (sections : List SectionHeader) → symbols_fault b sections ≡ None → 24 * length (symbols_of b sections) ≤ length b
 unfolding symbols_of symbols_fault
 symbols_few b sections h = all_few b sections (symbol_table sections) h
 
--- a file has no more symbols than bytes
-pub few_symbols : (b : List ℕ) (i : Image) → meaning_of b ≡ Ok i → length i.symbols ≤ length b
+-- a file has 24 bytes for each symbol
+pub few_symbols : (b : List ℕ) (i : Image) → meaning_of b ≡ Ok i → 24 * length i.symbols ≤ length b
 unfolding meaning_of meaning_with
 few_symbols b i h =
     let t = tables_of b in
@@ -92,22 +88,4 @@ few_symbols b i h =
     let s = no_fault (segments_fault (length b) t.loads) _ a.1 in
     let x = no_fault (text_fault b t.loads t.sections t.entry) _ s.1 in
     let y = no_fault (symbols_fault b t.sections) _ x.1 in
-    subst (λ (i : Image). length i.symbols ≤ length b) m.1 (symbols_few b t.sections y.0)
-
--- ---- the text
-
-text_by : (here : Bool) (s : Segment) (at len : ℕ) (others : Bool) → IsMapped s → (others ≡ true → at + len ≤ 0x60000000) → (if here then nat_le (at + len) (s.at + length s.bytes) else others) ≡ true → at + len ≤ 0x60000000
-text_by true s at len others mapped rest h =
-    let g = leb-true (at + len) (s.at + length s.bytes) h in
-    let filled = mapped.filled in
-    let high = mapped.high in
-    omega arith
-text_by false s at len others mapped rest h = rest h
-
-text_inside : (ss : List Segment) (at len : ℕ) → AllByRecursion IsMapped ss → are_inside ss at len ≡ true → at + len ≤ 0x60000000
-text_inside [] at len all h = absurd (cc)
-text_inside (s ∷ ss) at len all h = text_by (has_byte s at) s at len (are_inside ss at len) all.0 (text_inside ss at len all.1) h
-
--- the text of an accepted image ends below 0x60000000
-pub text_below : (i : Image) → IsAccepted i → i.text_at + i.text_len ≤ 0x60000000
-text_below i accepted = text_inside i.segments i.text_at i.text_len accepted.mapped accepted.inside
+    subst (λ (i : Image). 24 * length i.symbols ≤ length b) m.1 (symbols_few b t.sections y.0)

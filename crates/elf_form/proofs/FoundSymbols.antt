@@ -1,13 +1,13 @@
 -- The symbols of a file: their names, modules and numbers, and their order.
-use Rattle.std.proofs.Common.{◌≡◌, ℕ, zero, suc, ◌+◌, ◌/◌, ◌<◌, ◌^◌, Bool, true, false, not, Option, Some, None, List, [], ◌∷◌, ◌++◌, drop, refl, sym, ap, ◌∙◌, subst, arith, ◌⊎◌, inl, inr}
+use Rattle.std.proofs.Common.{◌≡◌, ℕ, zero, suc, ◌+◌, ◌/◌, ◌<◌, ◌^◌, Bool, true, false, not, Option, Some, None, List, [], ◌∷◌, ◌++◌, drop, refl, sym, ap, ◌∙◌, subst, arith}
 use Rattle.std.specs.Prelude.{filter, ◌==◌, ◌&&◌, if◌then◌else◌, option_map, option_to_list}
 use Rattle.std.specs.List.{AllByRecursion, list_all, take_while}
 use Rattle.std.proofs.lemmas.List.{append-nil, get_or-drop}
 use Rattle.std.proofs.lemmas.List.Sums.{take_while-cons}
 use Rattle.byteorder.specs.Numbers.{little_from-lt}
 use Rattle.elf_form.specs.Fields.{field, table, symbol_entry_of}
-use Rattle.elf_form.specs.Symbols.{kind_of, is_file, is_local, name_at, module_of, program, symbol_of, symbols_from, is_of_program, with_program_last, symbols_of, symbols_in, symbol_table, table_symbols, strings_of, section_bytes, entries_of}
-use Rattle.pn_types.specs.GoodNames.{is_good_name}
+use Rattle.elf_form.specs.Symbols.{kind_of, is_file, is_local, name_at, module_of, symbol_of, symbols_from, is_of_program, with_program_last, symbols_of, symbols_in, symbol_table, table_symbols, strings_of, section_bytes, entries_of}
+use Rattle.pn_types.specs.GoodNames.{is_good_name, program_module}
 use Rattle.elf_form.specs.Accepted.{IsNamed, IsBytes}
 use Rattle.elf_form.specs.declared.section.SectionHeader.{SectionHeader}
 use Rattle.elf_form.specs.declared.symbol.SymbolEntry.{SymbolEntry}
@@ -31,18 +31,18 @@ entries_fit b (suc n) at bytes =
 -- ---- names and modules
 
 abbrev IsModule : List ℕ → Type 0
-IsModule name = (is_good_name name ≡ true) ⊎ (name ≡ program)
+IsModule name = is_good_name name ≡ true
 
 is_module : (name : List ℕ) → IsModule (module_of name)
 is_module name = by (is_good_name name) refl
   where
-    by : (b : Bool) → is_good_name name ≡ b → IsModule (if is_good_name name then name else program)
-    by true is = rw is (inl is)
-    by false is = rw is (inr refl)
+    by : (b : Bool) → is_good_name name ≡ b → IsModule (if is_good_name name then name else program_module)
+    by true is = rw is is
+    by false is = rw is refl
 
-if_module : (b : Bool) (source : List ℕ) → IsModule source → IsModule (if b then source else program)
+if_module : (b : Bool) (source : List ℕ) → IsModule source → IsModule (if b then source else program_module)
 if_module true source h = h
-if_module false source h = inr refl
+if_module false source h = refl
 
 no_zero : (xs : List ℕ) → list_all (λ byte. not (byte == 0)) (take_while (λ byte. not (byte == 0)) xs) ≡ true
 no_zero [] = refl
@@ -57,11 +57,11 @@ no_zero (x ∷ xs) = by (not (x == 0)) refl (no_zero xs)
         ap (λ r. list_all (λ byte. not (byte == 0)) r) e
 
 module _ {A : Type 0} (P : A → Type 0) where
-  all_append : (xs ys : List A) → AllByRecursion P xs → AllByRecursion P ys → AllByRecursion P (xs ++ ys)
+  pub all_append : (xs ys : List A) → AllByRecursion P xs → AllByRecursion P ys → AllByRecursion P (xs ++ ys)
   all_append [] ys p q = q
   all_append (x ∷ xs) ys p q = (p.0, all_append xs ys p.1 q)
 
-  either : (b : Bool) (xs ys : List A) → AllByRecursion P xs → AllByRecursion P ys → AllByRecursion P (if b then xs else ys)
+  pub either : (b : Bool) (xs ys : List A) → AllByRecursion P xs → AllByRecursion P ys → AllByRecursion P (if b then xs else ys)
   either true xs ys p q = p
   either false xs ys p q = q
 
@@ -134,8 +134,8 @@ none_named = record { named = tt; ordered = refl }
 table_named : (b : List ℕ) (symbols : SectionHeader) (o : Option SectionHeader) → IsBytes b → Named (table_symbols b symbols o)
 table_named b symbols None bytes = none_named
 table_named b symbols (Some strings) bytes =
-    let ss = symbols_from (section_bytes b strings) program (entries_of b symbols) in
-    record { named = last_named ss (are_named (section_bytes b strings) program (entries_of b symbols) (inr refl) (entries_fit b (symbols.size / 24) symbols.offset bytes)); ordered = last_again ss }
+    let ss = symbols_from (section_bytes b strings) program_module (entries_of b symbols) in
+    record { named = last_named ss (are_named (section_bytes b strings) program_module (entries_of b symbols) refl (entries_fit b (symbols.size / 24) symbols.offset bytes)); ordered = last_again ss }
 
 all_named : (b : List ℕ) (sections : List SectionHeader) (o : Option SectionHeader) → IsBytes b → Named (symbols_in b sections o)
 all_named b sections None bytes = none_named

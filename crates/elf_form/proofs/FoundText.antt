@@ -11,14 +11,13 @@ use Rattle.elf_form.specs.Fields.{part}
 use Rattle.elf_form.specs.Faults.{fault_where, reaches_past}
 use Rattle.elf_form.specs.Segments.{is_around, end_of, segment_of, total_size}
 use Rattle.elf_form.specs.Texts.{is_text, intrudes, widened, text_range, segment_around, range_bytes, text_bytes, is_two_texts, is_entry, range_fault}
-use Rattle.elf_form.specs.Accepted.{IsMapped, IsApart, has_byte, are_inside}
 use Rattle.elf_form.specs.declared.load.Load.{Load}
 use Rattle.elf_form.specs.declared.section.SectionHeader.{SectionHeader}
 use Rattle.elf_form.specs.declared.section.TextRange.{TextRange}
 use Rattle.elf_form.specs.declared.fault.ElfFault.TheVariants.{TwoTexts, TextUnaligned, TextTooLong, UsesScratch, BadEntry}
 use Rattle.elf_form.proofs.FaultLemmas.{no_fault, fails}
 use Rattle.elf_form.proofs.SortedLoads.{IsSound, Ascend, IsIn, at-in}
-use Rattle.pn_types.specs.Images.{bytes_in}
+use Rattle.pn_types.specs.Images.{IsSegment, AreApart, has_byte, are_inside, bytes_in}
 
 -- ---- the range isn't empty
 
@@ -109,7 +108,7 @@ module _ (b : List ℕ) (r : TextRange) (positive : r.at < r.end) where
 
 -- ---- the segments of the image
 
-pub are_mapped : (b : List ℕ) (len : ℕ) (ms : List Load) → AllByRecursion (IsSound len) ms → AllByRecursion IsMapped (map (segment_of b) ms)
+pub are_mapped : (b : List ℕ) (len : ℕ) (ms : List Load) → AllByRecursion (IsSound len) ms → AllByRecursion IsSegment (map (segment_of b) ms)
 are_mapped b len [] all = tt
 are_mapped b len (m ∷ ms) all =
     (record { positive = all.0.positive; filled = omega (arith, length-take m.header.file_size (drop m.header.offset b), all.0.filled); low = all.0.low; high = all.0.high }, are_mapped b len ms all.1)
@@ -118,7 +117,7 @@ apart_one : (b : List ℕ) (l : Load) (ms : List Load) → AllByRecursion (λ m.
 apart_one b l [] all = tt
 apart_one b l (m ∷ ms) all = (all.0, apart_one b l ms all.1)
 
-pub apart_segments : (b : List ℕ) (ms : List Load) → Ascend ms → IsApart (map (segment_of b) ms)
+pub apart_segments : (b : List ℕ) (ms : List Load) → Ascend ms → AreApart (map (segment_of b) ms)
 apart_segments b [] asc = tt
 apart_segments b (m ∷ ms) asc = (apart_one b m ms asc.0, apart_segments b ms asc.1)
 

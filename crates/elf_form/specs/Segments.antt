@@ -9,6 +9,7 @@ use Rattle.elf_form.specs.declared.segment.ProgramHeader.{ProgramHeader}
 use Rattle.elf_form.specs.declared.load.Load.{Load}
 use Rattle.elf_form.specs.declared.section.TextRange.{TextRange}
 use Rattle.pn_types.specs.declared.image.Segment.{Segment}
+use Rattle.pn_types.specs.declared.limits.TheConstants.{MAX_SEGMENTS, SEGMENTS_FROM, SEGMENTS_TO, MAX_IMAGE_SIZE}
 
 -- a program header of type PT_LOAD (1) with p_memsz above 0
 abbrev pub is_load : ProgramHeader → Bool
@@ -27,10 +28,10 @@ end_of l = l.header.address + l.header.memory_size
 -- the first fault of a segment, in a file of so many bytes, where `place` segments are loaded before it
 abbrev pub load_fault : ℕ → ℕ → Load → Option ElfFault
 load_fault len place l =
-    first_fault (fault_where (nat_lt l.header.memory_size l.header.file_size || nat_le 16 place) (BadSegment l.index)
+    first_fault (fault_where (nat_lt l.header.memory_size l.header.file_size || nat_le MAX_SEGMENTS place) (BadSegment l.index)
     ∷ fault_where (reaches_past l.header.offset l.header.file_size len) (Short len)
-    ∷ fault_where (nat_lt l.header.address 0x10000) (LowSegment l.header.address)
-    ∷ fault_where (nat_lt 0x60000000 (end_of l)) (HighSegment l.header.address)
+    ∷ fault_where (nat_lt l.header.address SEGMENTS_FROM) (LowSegment l.header.address)
+    ∷ fault_where (nat_lt SEGMENTS_TO (end_of l)) (HighSegment l.header.address)
     ∷ [])
 
 -- the faults of segments, the first of which has so many before it
@@ -71,7 +72,7 @@ unfoldable pub segments_fault : ℕ → List Load → Option ElfFault
 segments_fault len loads =
     first_fault (first_fault (load_faults len 0 loads)
     ∷ overlap_fault (lowest_shared loads)
-    ∷ fault_where (nat_lt 25165824 (total_size loads)) (TooBig (total_size loads))
+    ∷ fault_where (nat_lt MAX_IMAGE_SIZE (total_size loads)) (TooBig (total_size loads))
     ∷ [])
 
 -- a range lies in the file part of a segment

@@ -1,5 +1,5 @@
 -- The symbols, and the checks on their tables in their order (System V ABI: symbol table, string table).
-use Rattle.std.specs.Prelude.{ℕ, ◌/◌, ◌%◌, ◌==◌, ◌&&◌, ◌||◌, not, if◌then◌else◌, Bool, Option, Some, None, List, [], ◌∷◌, ◌++◌, length, drop, filter, find, codes, slice_get, take_while, option_map, option_to_list, bytes_eq}
+use Rattle.std.specs.Prelude.{ℕ, ◌/◌, ◌%◌, ◌==◌, ◌&&◌, ◌||◌, not, if◌then◌else◌, Bool, Option, Some, None, List, [], ◌∷◌, ◌++◌, length, drop, filter, find, slice_get, take_while, option_map, option_to_list, bytes_eq}
 use Rattle.std.specs.List.{list_any, list_all}
 use Rattle.elf_form.specs.Fields.{part, table, symbol_entry_of}
 use Rattle.elf_form.specs.Faults.{fault_where, first_fault, reaches_past}
@@ -7,7 +7,7 @@ use Rattle.elf_form.specs.declared.fault.ElfFault.{ElfFault}
 use Rattle.elf_form.specs.declared.fault.ElfFault.TheVariants.{Short, BadSymbols}
 use Rattle.elf_form.specs.declared.section.SectionHeader.{SectionHeader}
 use Rattle.elf_form.specs.declared.symbol.SymbolEntry.{SymbolEntry}
-use Rattle.pn_types.specs.GoodNames.{is_good_name}
+use Rattle.pn_types.specs.GoodNames.{is_good_name, program_module}
 use Rattle.pn_types.specs.declared.image.SymKind.{SymKind}
 use Rattle.pn_types.specs.declared.image.SymKind.TheVariants.{Func, Object}
 use Rattle.pn_types.specs.declared.image.Symbol.{Symbol}
@@ -40,13 +40,9 @@ is_ended strings at = list_any (λ byte. byte == 0) (drop at strings)
 abbrev pub name_at : List ℕ → ℕ → List ℕ
 name_at strings at = take_while (λ byte. not (byte == 0)) (drop at strings)
 
--- the module of all symbols that aren't local
-abbrev pub program : List ℕ
-program = codes "program"
-
 -- the module that a source file's name gives
 abbrev pub module_of : List ℕ → List ℕ
-module_of file = if is_good_name file then file else program
+module_of file = if is_good_name file then file else program_module
 
 -- ---- symbols
 
@@ -57,7 +53,7 @@ symbol_of strings source e kind = record {
   kind = kind;
   at = e.value;
   size = e.size;
-  «module» = if is_local e then source else program;
+  «module» = if is_local e then source else program_module;
 }
 
 -- the symbols of entries in table order, the module at first being this one
@@ -68,7 +64,7 @@ symbols_from strings source (e ∷ es) =
     else option_to_list (option_map (symbol_of strings source e) (kind_of e)) ++ symbols_from strings source es
 
 abbrev pub is_of_program : Symbol → Bool
-is_of_program s = bytes_eq s.module program
+is_of_program s = bytes_eq s.module program_module
 
 -- the symbols of other modules, then those of `program`, each in table order
 abbrev pub with_program_last : List Symbol → List Symbol
@@ -121,7 +117,7 @@ symbols_fault b sections = symbols_fault_of b sections (symbol_table sections)
 -- the symbols of a symbol table with its string table; those before the first source file are the program's
 abbrev pub table_symbols : List ℕ → SectionHeader → Option SectionHeader → List Symbol
 table_symbols b symbols None = []
-table_symbols b symbols (Some strings) = with_program_last (symbols_from (section_bytes b strings) program (entries_of b symbols))
+table_symbols b symbols (Some strings) = with_program_last (symbols_from (section_bytes b strings) program_module (entries_of b symbols))
 
 abbrev pub symbols_in : List ℕ → List SectionHeader → Option SectionHeader → List Symbol
 symbols_in b sections None = []

@@ -11,6 +11,7 @@ use Rattle.elf_form.specs.declared.fault.ElfFault.TheVariants.{NoText, TwoTexts,
 use Rattle.elf_form.specs.declared.section.SectionHeader.{SectionHeader}
 use Rattle.elf_form.specs.declared.section.TextRange.{TextRange}
 use Rattle.elf_form.specs.declared.load.Load.{Load}
+use Rattle.pn_types.specs.declared.limits.TheConstants.{MAX_TEXT_LEN}
 
 -- the flags SHF_ALLOC (0x2) and SHF_EXECINSTR (0x4) together: 0 none, 1 the first alone, 3 both
 abbrev pub code_flags : SectionHeader → ℕ
@@ -65,7 +66,7 @@ range_fault b loads sections entry (Some r) =
     first_fault (fault_where (is_two_texts loads sections r) (TwoTexts r.at)
     ∷ fault_where (not (r.at % 4 == 0)) (TextUnaligned r.at)
     ∷ fault_where (not (r.end % 4 == 0)) (TextUnaligned r.end)
-    ∷ fault_where (nat_lt 524288 (r.end - r.at)) (TextTooLong (r.end - r.at))
+    ∷ fault_where (nat_lt MAX_TEXT_LEN (r.end - r.at)) (TextTooLong (r.end - r.at))
     ∷ option_map UsesScratch (scratch_in (words_of (text_bytes b loads r)) r.at)
     ∷ fault_where (not (is_entry entry r)) (BadEntry entry)
     ∷ [])

@@ -9,12 +9,10 @@ mod load;
 mod section;
 mod segment;
 mod symbol;
-#[cfg(test)]
-mod tests;
 
 pub use fault::ElfFault;
 pub use header::{Header, begins_as_elf, header_of};
 pub use load::Load;
 pub use section::{SectionHeader, TextRange, section_header_at};
 pub use segment::{ProgramHeader, program_header_at};
-pub use symbol::{SymbolEntry, symbol_entry_at};
+pub use symbol::{MAX_NAMES_LEN, SymbolEntry, symbol_entry_at};

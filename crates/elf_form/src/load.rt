@@ -5,6 +5,7 @@ use crate::fault::ElfFault;
 use crate::fields::{ends_within, reaches_past};
 use crate::section::TextRange;
 use crate::segment::ProgramHeader;
+use pn_types::{MAX_SEGMENTS, SEGMENTS_FROM, SEGMENTS_TO};
 
 /// A segment to be loaded.
 #[derive(Clone, Copy, Debug, Drop)]
@@ -21,13 +22,13 @@ impl Load {
         ensures { result ≡ load_fault len place self.now }
     {
         let header = self.header;
-        if header.memory_size < header.file_size || place >= 16 {
+        if header.memory_size < header.file_size || place >= MAX_SEGMENTS as usize {
             Some(ElfFault::BadSegment(self.index))
         } else if reaches_past(header.offset, header.file_size, len) {
             Some(ElfFault::Short(len))
-        } else if header.address < 0x10000 {
+        } else if header.address < SEGMENTS_FROM {
             Some(ElfFault::LowSegment(header.address))
-        } else if !ends_within(header.address, header.memory_size, 0x6000_0000) {
+        } else if !ends_within(header.address, header.memory_size, SEGMENTS_TO) {
             Some(ElfFault::HighSegment(header.address))
         } else {
             None

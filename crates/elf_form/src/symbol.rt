@@ -5,6 +5,9 @@ ghost use Rattle.elf_form.specs.Symbols.{kind_of, is_file, is_local};
 use crate::fields::{byte, doubleword, half, word};
 use pn_types::SymKind;
 
+/// The greatest number of bytes that the names of an image's symbols have together, where the image is loaded.
+pub const MAX_NAMES_LEN: u64 = 67_108_864;
+
 /// The fields of a symbol table's entry that count.
 #[derive(Clone, Copy, Debug, Drop)]
 pub struct SymbolEntry {

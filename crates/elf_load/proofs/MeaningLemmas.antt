@@ -1,5 +1,5 @@
 -- What the stages' faults say of a file's meaning.
-use Rattle.std.proofs.Common.{◌≡◌, ◌≢◌, ℕ, ◌-◌, Option, Some, None, List, [], ◌∷◌, length, Result, Ok, Err, ap, sym, ◌∙◌}
+use Rattle.std.proofs.Common.{◌≡◌, ◌≢◌, ℕ, ◌-◌, Option, Some, None, List, ◌∷◌, length, Result, Ok, Err, ap, sym, ◌∙◌}
 use Rattle.std.specs.Prelude.{MatchResult, IsErrAnd}
 use Rattle.elf_form.specs.Faults.{first_fault}
 use Rattle.elf_form.specs.Fields.{header_of, program_headers_of, section_headers_of}
@@ -17,10 +17,6 @@ use Rattle.elf_form.specs.declared.load.Load.{Load}
 use Rattle.pn_types.specs.declared.image.Image.{Image}
 use Rattle.pn_types.specs.declared.image.Segment.{Segment}
 use Rattle.pn_types.specs.declared.image.Symbol.{Symbol}
-use Rattle.std.specs.List.{All, AllByRecursion}
-use Rattle.std.proofs.lemmas.List.Elements.{All-from_recursion}
-use Rattle.elf_form.specs.Accepted.{IsAccepted, IsMapped}
-use Rattle.elf_load.specs.Placed.{IsSized}
 use Rattle.elf_form.proofs.FaultLemmas.{behind}
 
 -- a fault that is passed on
@@ -78,10 +74,3 @@ image_made b t r segments symbols range is_segments is_symbols =
     ap (λ o. record { segments = segments_of b t.loads; text_at = start_of o; text_len = length_of o; entry = t.entry; symbols = symbols_of b t.sections }) range
     ∙ ap (λ s. record { segments = s; text_at = r.at; text_len = r.end - r.at; entry = t.entry; symbols = symbols_of b t.sections }) (sym is_segments)
     ∙ ap (λ s. record { segments = segments; text_at = r.at; text_len = r.end - r.at; entry = t.entry; symbols = s }) (sym is_symbols)
-
-are_sized : (ss : List Segment) → AllByRecursion IsMapped ss → AllByRecursion IsSized ss
-are_sized [] all = tt
-are_sized (s ∷ ss) all = (all.0.filled, are_sized ss all.1)
-
-pub all_sized : (image : Image) → IsAccepted image → All IsSized image.segments
-all_sized image is = All-from_recursion IsSized image.segments (are_sized image.segments is.mapped)

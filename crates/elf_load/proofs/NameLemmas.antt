@@ -6,7 +6,8 @@ use Rattle.std.proofs.lemmas.List.{take-take}
 use Rattle.std.proofs.lemmas.List.Sums.{prefix_len-le-length}
 use Rattle.std.proofs.lemmas.Bool.{cases_lt, lt-ltb, le-ltb}
 use Rattle.std.proofs.lemmas.Grind.{common_steps}
-use Rattle.elf_form.specs.Symbols.{is_ended, name_at, module_of, program}
+use Rattle.elf_form.specs.Symbols.{is_ended, name_at, module_of}
+use Rattle.pn_types.specs.GoodNames.{program_module}
 
 -- a name is ended that begins at or before a zero byte
 ended : (s : List ℕ) (at k : ℕ) → at ≤ k → k < length s → get_or s k 0 ≡ 0 → is_ended s at ≡ true
@@ -40,7 +41,7 @@ prefix_len-take p (suc n) (x ∷ xs) = let e = prefix_len-take p n xs in one (p 
     one true n j k e = omega arith
     one false n j k e = omega arith
 
-long : (name : List ℕ) → 200 < length name → module_of name ≡ program
+long : (name : List ℕ) → 200 < length name → module_of name ≡ program_module
 long name h = grind (arith, common_steps)
 
 -- the front of a name that is cut behind n bytes

@@ -6,8 +6,6 @@ mod reading;
 mod segments;
 mod symbols;
 mod tables;
-#[cfg(test)]
-mod tests;
 mod text;
 
 pub use reading::load;

@@ -3,13 +3,11 @@
 ghost use Rattle.std.specs.Prelude.{◌≡◌, ◌+◌, ◌≤◌, ◌==◌, not, ℕ, nat_lt, length, take, drop};
 ghost use Rattle.std.specs.Str.{bytes_eq};
 ghost use Rattle.std.specs.List.{prefix_len};
-ghost use Rattle.elf_form.specs.Symbols.{is_ended, name_at, module_of, program};
+ghost use Rattle.elf_form.specs.Symbols.{is_ended, name_at, module_of};
+ghost use Rattle.pn_types.specs.GoodNames.{program_module};
 
 use crate::tables::part;
-use pn_types::is_good_name;
-
-/// The module of all symbols that aren't local.
-pub const PROGRAM: &[u8] = b"program";
+use pn_types::{PROGRAM_MODULE, is_good_name};
 
 /// The greatest length of a good name in bytes.
 const NAME_LIMIT: usize = 200;
@@ -50,7 +48,11 @@ pub fn name_at(strings: &[u8], at: usize) -> &[u8]
 fn module_of(name: &[u8]) -> &[u8]
     ensures { result.now ≡ module_of name.now }
 {
-    if is_good_name(name) { name } else { PROGRAM }
+    if is_good_name(name) {
+        name
+    } else {
+        PROGRAM_MODULE
+    }
 }
 
 /// The name at a place, or so much of a long one as tells that it is too long.
@@ -70,7 +72,7 @@ pub fn module_at(strings: &[u8], at: usize) -> &[u8]
 
 /// Whether a module is that of all symbols that aren't local.
 pub fn is_program(module: &[u8]) -> bool
-    ensures { result ≡ bytes_eq «module».now program }
+    ensures { result ≡ bytes_eq «module».now program_module }
 {
-    module == PROGRAM
+    module == PROGRAM_MODULE
 }

@@ -1,16 +1,16 @@
-ghost use Rattle.std.specs.Prelude.{◌≡◌, IfOk, Ok, Err, None};
+ghost use Rattle.std.specs.Prelude.{◌≡◌, ◌≤◌, ◌<◌, ◌^◌, length, true, IfOk, Ok, Err, None};
 ghost use Rattle.std.specs.List.{All};
+ghost use Rattle.pn_types.specs.GoodNames.{is_good_name};
 ghost use Rattle.elf_form.specs.Meaning.{meaning_of};
-ghost use Rattle.elf_form.specs.Accepted.{IsAccepted};
+ghost use Rattle.elf_form.specs.Accepted.{IsAccepted, names_len};
 ghost use Rattle.elf_form.specs.Headers.{header_fault};
-ghost use Rattle.elf_load.specs.Placed.{IsSized};
 ghost use Rattle.elf_load.specs.Means.{Means, MeansWith};
 
 use crate::segments::{check_segments, loads_of, segments_of};
 use crate::symbols::checked_symbols;
 use crate::tables::{checked_header, program_headers, section_headers};
 use crate::text::checked_text;
-use elf_form::{ElfFault, Load, SectionHeader};
+use elf_form::{ElfFault, Load, MAX_NAMES_LEN, SectionHeader};
 use pn_types::{Image, Seq};
 use std::alloc::Global;
 
@@ -23,7 +23,8 @@ fn image_of(
     sections: &[SectionHeader],
 ) -> Result<Image, ElfFault>
     requires { header_fault bytes.now ≡ None }
-    ensures { MeansWith bytes.now (record { entry = entry; loads = loads.now; sections = sections.now }) result }
+    ensures meaning { MeansWith bytes.now (record { entry = entry; loads = loads.now; sections = sections.now }) result }
+    ensures named { IfOk result (λ image. names_len image.symbols ≤ MAX_NAMES_LEN) }
 {
     check_segments(loads, bytes.len() as u64)?;
     let text = checked_text(bytes, loads, sections, entry)?;
@@ -39,11 +40,12 @@ fn image_of(
 }
 
 /// The image of an ELF file, or its first fault. Want of memory is the answer also where the names of its symbols have
-/// more than 67,108,864 bytes together.
+/// more than [`MAX_NAMES_LEN`] bytes together.
 pub fn load(alloc: Global, bytes: &[u8]) -> Result<Image, ElfFault>
     ensures meaning { Means result (meaning_of bytes.now) }
-    ensures accepted { IfOk result IsAccepted }
-    ensures sized { IfOk result (λ image. All IsSized image.segments) }
+    ensures accepted { IfOk result (λ image. length bytes.now < 2 ^ 32 → IsAccepted image) }
+    ensures modules { IfOk result (λ image. length bytes.now < 2 ^ 32 → All (λ s. is_good_name s.«module» ≡ true) image.symbols) }
+    ensures named { IfOk result (λ image. names_len image.symbols ≤ MAX_NAMES_LEN) }
 {
     let header = checked_header(bytes)?;
     let loads = loads_of(alloc, &program_headers(alloc, bytes, &header)?)?;

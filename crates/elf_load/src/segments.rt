@@ -10,11 +10,8 @@ ghost use Rattle.elf_load.specs.Means.{Checks};
 
 use crate::tables::part;
 use elf_form::{ElfFault, Load, ProgramHeader};
-use pn_types::{NoMemory, Segment, Seq};
+use pn_types::{MAX_IMAGE_SIZE, NoMemory, Segment, Seq};
 use std::alloc::Global;
-
-/// The greatest number of bytes of all segments' memory together.
-const SIZE_LIMIT: u64 = 25_165_824;
 
 /// The segments to be loaded, in table order.
 pub fn loads_of(alloc: Global, headers: &[ProgramHeader]) -> Result<Vec<Load>, NoMemory>
@@ -110,7 +107,7 @@ pub fn check_segments(loads: &[Load], len: u64) -> Result<(), ElfFault>
         return Err(ElfFault::Overlap(at));
     }
     let total = total_size(len, loads);
-    if total > SIZE_LIMIT {
+    if total > MAX_IMAGE_SIZE {
         return Err(ElfFault::TooBig(total));
     }
     Ok(())

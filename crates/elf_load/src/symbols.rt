@@ -1,18 +1,17 @@
 //! The symbols of a program.
 
-ghost use Rattle.std.specs.Prelude.{◌≡◌, length, false, IfOk, Option, Some, None};
+ghost use Rattle.std.specs.Prelude.{◌≡◌, ◌≤◌, nat_le, length, false, IfOk, Option, Some, None};
 ghost use Rattle.std.specs.List.{list_all};
-ghost use Rattle.elf_form.specs.Symbols.{is_ended, is_short, section_bytes, symbol_of, symbol_table, strings_of, symbols_from, with_program_last, program, symbols_fault, symbols_of, table_fault, table_symbols};
+ghost use Rattle.elf_form.specs.Symbols.{is_ended, is_short, section_bytes, symbol_of, symbol_table, strings_of, symbols_from, with_program_last, symbols_fault, symbols_of, table_fault, table_symbols};
+ghost use Rattle.elf_form.specs.Accepted.{names_len};
+ghost use Rattle.pn_types.specs.GoodNames.{program_module};
 ghost use Rattle.elf_load.specs.Means.{ChecksOrWants};
 
-use crate::names::{PROGRAM, ended_len, is_program, module_at, name_at};
+use crate::names::{ended_len, is_program, module_at, name_at};
 use crate::tables::{part, symbol_entries};
-use elf_form::{ElfFault, SectionHeader, SymbolEntry};
-use pn_types::{NoMemory, SymKind, Symbol, Text};
-use std::alloc::{AllocError, Global};
-
-/// The greatest number of bytes of all kept names together, which may overlap in the file.
-pub const NAMES_LIMIT: usize = 67_108_864;
+use elf_form::{ElfFault, MAX_NAMES_LEN, SectionHeader, SymbolEntry};
+use pn_types::{NoMemory, PROGRAM_MODULE, SymKind, Symbol, Text};
+use std::alloc::Global;
 
 /// The symbol table: the first section of its type.
 fn symbol_table(sections: &[SectionHeader]) -> Option<SectionHeader>
@@ -64,25 +63,42 @@ fn symbol(
     })
 }
 
+/// Whether the names of these entries' symbols have at most [`MAX_NAMES_LEN`] bytes together. In the file they may overlap.
+fn are_names_short(strings: &[u8], entries: &[SymbolEntry]) -> bool
+    ensures { result ≡ nat_le (names_len (symbols_from strings.now program_module entries.now)) MAX_NAMES_LEN }
+{
+    let mut room = MAX_NAMES_LEN;
+    for entry in entries {
+        if entry.is_file() || entry.kind().is_none() {
+            continue;
+        }
+        let len = name_at(strings, entry.name as usize).len() as u64;
+        if room < len {
+            return false;
+        }
+        room -= len;
+    }
+    true
+}
+
 /// The symbols of these entries, those of `program` last.
 fn gather(alloc: Global, strings: &[u8], entries: &[SymbolEntry]) -> Result<Vec<Symbol>, NoMemory>
     ensures { IfOk result (λ symbols. symbols.items ≡
-        with_program_last (symbols_from strings.now program entries.now)) }
+        with_program_last (symbols_from strings.now program_module entries.now)) }
 {
     let mut others = Vec::new(alloc);
     let mut own = Vec::new(alloc);
-    let mut source = PROGRAM;
-    let mut room = NAMES_LIMIT;
+    let mut source = PROGRAM_MODULE;
     for entry in entries {
         if entry.is_file() {
             source = module_at(strings, entry.name as usize);
         } else if let Some(kind) = entry.kind() {
             let name = name_at(strings, entry.name as usize);
-            if room < name.len() {
-                return Err(AllocError);
-            }
-            room -= name.len();
-            let module = if entry.is_local() { source } else { PROGRAM };
+            let module = if entry.is_local() {
+                source
+            } else {
+                PROGRAM_MODULE
+            };
             let symbol = symbol(alloc, name, entry, kind, module)?;
             if is_program(module) {
                 own.push(symbol)?;
@@ -104,6 +120,7 @@ fn table_symbols(
 ) -> Result<Vec<Symbol>, ElfFault>
     ensures fault { ChecksOrWants result (table_fault bytes.now symbols.now (Some strings.now)) }
     ensures symbols { IfOk result (λ found. found.items ≡ table_symbols bytes.now symbols.now (Some strings.now)) }
+    ensures named { IfOk result (λ found. names_len found.items ≤ MAX_NAMES_LEN) }
 {
     if symbols.entry_size != 24 || symbols.size % 24 != 0 {
         return Err(ElfFault::BadSymbols);
@@ -117,6 +134,9 @@ fn table_symbols(
     if !are_ended(names, &entries) {
         return Err(ElfFault::BadSymbols);
     }
+    if !are_names_short(names, &entries) {
+        return Err(ElfFault::NoMemory);
+    }
     Ok(gather(alloc, names, &entries)?)
 }
 
@@ -129,6 +149,7 @@ pub fn checked_symbols(
 ) -> Result<Vec<Symbol>, ElfFault>
     ensures fault { ChecksOrWants result (symbols_fault bytes.now sections.now) }
     ensures symbols { IfOk result (λ symbols. symbols.items ≡ symbols_of bytes.now sections.now) }
+    ensures named { IfOk result (λ symbols. names_len symbols.items ≤ MAX_NAMES_LEN) }
 {
     let Some(symbols) = symbol_table(sections) else {
         return Ok(Vec::new(alloc));

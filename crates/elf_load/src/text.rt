@@ -9,10 +9,8 @@ ghost use Rattle.elf_load.specs.Means.{Checks};
 
 use crate::tables::part;
 use elf_form::{ElfFault, Load, SectionHeader, TextRange};
+use pn_types::MAX_TEXT_LEN;
 use rv_word::first_scratch;
-
-/// The greatest length of a text in bytes.
-const TEXT_LIMIT: u64 = 524_288;
 
 /// The smallest range that covers all sections of code.
 fn text_range(sections: &[SectionHeader]) -> Option<TextRange>
@@ -116,7 +114,7 @@ fn range_fault(
         return Some(ElfFault::TextUnaligned(end));
     }
     let len = end - range.at;
-    if len > TEXT_LIMIT {
+    if len > MAX_TEXT_LEN {
         return Some(ElfFault::TextTooLong(len));
     }
     if let Some(at) = first_scratch(text_bytes(bytes, &load, range), range.at) {

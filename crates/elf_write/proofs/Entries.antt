@@ -3,7 +3,8 @@ use Rattle.std.proofs.Common.{◌≡◌, ℕ, ◌+◌, ◌*◌, ◌<◌, ◌≤�
 use Rattle.std.specs.Prelude.{filter}
 use Rattle.std.specs.Str.{bytes_eq}
 use Rattle.std.proofs.lemmas.List.{drop_more, append-nil}
-use Rattle.elf_form.specs.Symbols.{is_of_program, program}
+use Rattle.elf_form.specs.Symbols.{is_of_program}
+use Rattle.pn_types.specs.GoodNames.{program_module}
 use Rattle.elf_write.specs.Symbols.{Named, entries_bytes, entry_bytes, entry_with, file_entry, null_entry, entries_after, local_entries, names_of, globals_of, entries_of, symbol_table, string_table}
 use Rattle.elf_write.specs.Fields.{words, halves, doublewords}
 use Rattle.elf_write.specs.declared.symbols.Entry.{Entry}
@@ -50,19 +51,19 @@ module _ (symbols : List Symbol) (i : ℕ) (s : Symbol) (in' : i < length symbol
   here : drop i symbols ≡ s ∷ drop (i + 1) symbols
   here = drop_more symbols i s in' ∙ ap (λ t. t ∷ drop (i + 1) symbols) (sym is)
 
-  pub local_more : (source next : List ℕ) → next ≡ s.module → bytes_eq s.module program ≡ false → local_entries source (filter (λ t. not (is_of_program t)) (drop i symbols)) ≡ entries_after source s ++ local_entries next (filter (λ t. not (is_of_program t)) (drop (i + 1) symbols))
+  pub local_more : (source next : List ℕ) → next ≡ s.module → bytes_eq s.module program_module ≡ false → local_entries source (filter (λ t. not (is_of_program t)) (drop i symbols)) ≡ entries_after source s ++ local_entries next (filter (λ t. not (is_of_program t)) (drop (i + 1) symbols))
   local_more source next is_next other =
       let first : local_entries source (filter (λ t. not (is_of_program t)) (s ∷ drop (i + 1) symbols)) ≡ entries_after source s ++ local_entries s.module (filter (λ t. not (is_of_program t)) (drop (i + 1) symbols)) = rw other refl in
       ap (λ ts. local_entries source (filter (λ t. not (is_of_program t)) ts)) here ∙ first
       ∙ ap (λ m. entries_after source s ++ local_entries m (filter (λ t. not (is_of_program t)) (drop (i + 1) symbols))) (sym is_next)
 
-  pub local_skipped : (source : List ℕ) → bytes_eq s.module program ≡ true → local_entries source (filter (λ t. not (is_of_program t)) (drop i symbols)) ≡ local_entries source (filter (λ t. not (is_of_program t)) (drop (i + 1) symbols))
+  pub local_skipped : (source : List ℕ) → bytes_eq s.module program_module ≡ true → local_entries source (filter (λ t. not (is_of_program t)) (drop i symbols)) ≡ local_entries source (filter (λ t. not (is_of_program t)) (drop (i + 1) symbols))
   local_skipped source own = ap (λ ts. local_entries source (filter (λ t. not (is_of_program t)) ts)) here ∙ rw own refl
 
-  pub global_more : bytes_eq s.module program ≡ true → globals_of (drop i symbols) ≡ (entry_with 16 s ∷ []) ++ globals_of (drop (i + 1) symbols)
+  pub global_more : bytes_eq s.module program_module ≡ true → globals_of (drop i symbols) ≡ (entry_with 16 s ∷ []) ++ globals_of (drop (i + 1) symbols)
   global_more own = ap globals_of here ∙ rw own refl
 
-  pub global_skipped : bytes_eq s.module program ≡ false → globals_of (drop i symbols) ≡ globals_of (drop (i + 1) symbols)
+  pub global_skipped : bytes_eq s.module program_module ≡ false → globals_of (drop i symbols) ≡ globals_of (drop (i + 1) symbols)
   global_skipped other = ap globals_of here ∙ rw other refl
 
 -- what stands before a part of a list is no longer than the whole

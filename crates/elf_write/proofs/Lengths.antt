@@ -4,7 +4,10 @@ use Rattle.std.proofs.lemmas.List.{length-replicate, drop_more}
 use Rattle.std.specs.Prelude.{sum_by}
 use Rattle.std.proofs.lemmas.List.Sums.{sum_by-cons}
 use Rattle.elf_write.specs.Fields.{padded, padding}
+use Rattle.std.specs.List.{AllByRecursion}
+use Rattle.pn_types.specs.Images.{IsImage, IsSegment}
 use Rattle.elf_write.specs.Layout.{segments_bytes}
+use Rattle.pn_types.specs.declared.image.Image.{Image}
 use Rattle.pn_types.specs.declared.image.Segment.{Segment}
 
 pub length-padded : (bytes : List ℕ) → length (padded bytes) ≡ length bytes + padding (length bytes)
@@ -35,3 +38,23 @@ segments_below ss few small = omega (arith, segments_within ss)
 pub segments_more : (ss : List Segment) (i : ℕ) (s : Segment) → i < length ss → s ≡ get_or ss i s → length (segments_bytes (drop i ss)) ≡ length (padded s.bytes) + length (segments_bytes (drop (i + 1) ss))
 segments_more ss i s in' is =
     ap (λ t. length (segments_bytes t)) (drop_more ss i s in' ∙ ap (λ t. t ∷ drop (i + 1) ss) (sym is)) ∙ length-segments s (drop (i + 1) ss)
+
+-- ---- the segments of an image
+
+pub few_segments : (i : Image) → IsImage i → length i.segments < 2 ^ 16
+few_segments i image = let few = image.few in omega arith
+
+filled : (ss : List Segment) → AllByRecursion IsSegment ss → sum_by (λ s. length s.bytes) ss ≤ sum_by (λ s. s.size) ss
+filled [] all = omega arith
+filled (s ∷ ss) all =
+    let bytes = sum_by-cons (λ (t : Segment). length t.bytes) s ss in
+    let sizes = sum_by-cons (λ (t : Segment). t.size) s ss in
+    let rest = filled ss all.1 in
+    let one = all.0.filled in
+    omega arith
+
+pub small_segments : (i : Image) → IsImage i → sum_by (λ s. length s.bytes) i.segments < 2 ^ 32
+small_segments i image =
+    let least = filled i.segments image.mapped in
+    let small = image.small in
+    omega arith

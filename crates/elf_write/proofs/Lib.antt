@@ -1,4 +1,5 @@
 pub mod Lengths
+pub mod Rooms
 pub mod Entries
 pub mod FieldsAgain
 pub mod TablesAgain

@@ -9,10 +9,11 @@ use Rattle.elf_write.specs.Fields.{padded, words, halves, doublewords}
 use Rattle.elf_write.specs.Symbols.{symbol_table, string_table}
 use Rattle.elf_write.specs.Layout.{file_header, program_headers, segments_bytes, segments_at, section_headers, places_of, symbols_at, strings_at, sections_at, elf_bytes, CanWrite}
 use Rattle.elf_write.specs.declared.places.Places.{Places}
-use Rattle.elf_write.proofs.Lengths.{padded_within, segments_below}
+use Rattle.elf_write.proofs.Lengths.{padded_within, segments_below, few_segments, small_segments}
 use Rattle.elf_write.proofs.Entries.{symbols_within}
 use Rattle.elf_write.proofs.FieldsAgain.{header_read, header_at_front, section_from, program_from, Fits}
 use Rattle.elf_write.proofs.TablesAgain.{table_from, programs_read, programs_again, length-programs, SegmentFits, sections_again, sections_of, sections_written, sections_read, length-sections_bytes}
+use Rattle.pn_types.specs.Images.{IsImage}
 use Rattle.pn_types.specs.declared.image.Image.{Image}
 
 -- what stands behind a part
@@ -77,21 +78,21 @@ module _ (i : Image) where
       ap length file_parts
       ∙ omega (arith, length-append (file_header i.entry (length i.segments) (places_of i)) tail_programs, length-header i.entry (length i.segments) (places_of i), length-append (program_headers (segments_at i.segments) i.segments) tail_segments, length-programs (segments_at i.segments) i.segments, length-append (segments_bytes i.segments) tail_symbols, length-append (symbol_table i.symbols) tail_strings, length-append (padded (string_table i.symbols)) (section_headers i (places_of i)), length-sections)
 
-  module _ (can : CanWrite i) where
+  module _ (image : IsImage i) (named : CanWrite i) where
     pub sections_below : sections_at i < 2 ^ 63
-    sections_below = omega (arith, segments_below i.segments can.few can.small, symbols_within i.symbols, (padded_within (string_table i.symbols)).1, can.named, can.few)
+    sections_below = omega (arith, segments_below i.segments (few_segments i image) (small_segments i image), symbols_within i.symbols, (padded_within (string_table i.symbols)).1, named, few_segments i image)
 
     module _ (entry : i.entry < 2 ^ 64) (segments : AllByRecursion SegmentFits i.segments) (sections : AllByRecursion Fits (sections_of i (places_of i))) where
       pub header_again : header_of (elf_bytes i) ≡ header_read i.entry (length i.segments) (places_of i)
       header_again =
-          ap header_of file_parts ∙ header_at_front i.entry (length i.segments) (places_of i) tail_programs entry can.few (omega (arith, places_sections, sections_below))
+          ap header_of file_parts ∙ header_at_front i.entry (length i.segments) (places_of i) tail_programs entry (few_segments i image) (omega (arith, places_sections, sections_below))
 
       pub tables_again : tables_of (elf_bytes i) ≡ record { entry = i.entry; loads = loads_from 0 (programs_read (segments_at i.segments) i.segments); sections = sections_read (sections_of i (places_of i)) }
       tables_again =
           let programs : table program_header_of 56 (elf_bytes i) (length i.segments) 64 ≡ programs_read (segments_at i.segments) i.segments =
           table_from program_header_of program_from 56 (elf_bytes i) (length i.segments) 64
           ∙ ap (λ r. table program_header_of 56 r (length i.segments) 0) at_programs
-          ∙ programs_again (segments_at i.segments) i.segments tail_segments (omega (arith, segments_below i.segments can.few can.small, can.few)) segments in
+          ∙ programs_again (segments_at i.segments) i.segments tail_segments (omega (arith, segments_below i.segments (few_segments i image) (small_segments i image), few_segments i image)) segments in
           let headers : table section_header_of 64 (elf_bytes i) 4 (places_of i).sections ≡ sections_read (sections_of i (places_of i)) =
           table_from section_header_of section_from 64 (elf_bytes i) 4 (places_of i).sections
           ∙ ap (λ r. table section_header_of 64 r 4 0) (ap (λ k. drop k (elf_bytes i)) places_sections ∙ at_sections ∙ sections_written i (places_of i))

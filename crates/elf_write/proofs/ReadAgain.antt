@@ -1,5 +1,5 @@
 -- What is written means the image that was written.
-use Rattle.std.proofs.Common.{◌≡◌, ℕ, ◌+◌, ◌-◌, ◌*◌, ◌/◌, ◌%◌, ◌<◌, ◌≤◌, ◌^◌, Bool, true, false, not, Some, None, Ok, List, [], ◌∷◌, ◌++◌, length, drop, take, refl, sym, ap, ◌∙◌, arith}
+use Rattle.std.proofs.Common.{◌≡◌, ℕ, ◌+◌, ◌-◌, ◌*◌, ◌/◌, ◌%◌, ◌<◌, ◌≤◌, ◌^◌, Bool, true, false, not, Some, None, Ok, List, [], ◌∷◌, ◌++◌, length, drop, take, refl, ap, ◌∙◌, arith}
 use Rattle.std.specs.Prelude.{nat_lt, nat_le, ◌==◌, ◌&&◌, ◌||◌, if◌then◌else◌}
 use Rattle.std.specs.List.{AllByRecursion, list_all}
 use Rattle.std.proofs.lemmas.Bool.{le-ltb}
@@ -9,9 +9,13 @@ use Rattle.elf_form.specs.Faults.{reaches_past}
 use Rattle.elf_form.specs.Headers.{begins_as_elf, is_riscv64, has_bad_flags, has_short_tables, header_fault}
 use Rattle.elf_form.specs.Segments.{segments_fault}
 use Rattle.elf_form.specs.Texts.{text_range, text_fault}
-use Rattle.elf_form.specs.Symbols.{symbols_fault, symbols_of, table_fault, section_bytes, is_short, entries_of as entries_read_of, is_ended, symbols_from, with_program_last, program}
+use Rattle.elf_form.specs.Symbols.{symbols_fault, symbols_of, table_fault, section_bytes, is_short, entries_of as entries_read_of, is_ended, symbols_from, with_program_last}
 use Rattle.elf_form.specs.Meaning.{Tables, tables_of, fault_with, image_with, unless_fault, meaning_with, meaning_of, start_of, length_of}
-use Rattle.elf_form.specs.Accepted.{IsAccepted, IsMapped, has_byte, are_inside}
+use Rattle.elf_form.specs.Accepted.{IsAccepted, IsBytes}
+use Rattle.elf_form.proofs.AcceptedImages.{accepted}
+use Rattle.pn_types.specs.GoodNames.{program_module}
+use Rattle.pn_types.specs.Images.{IsSegment}
+use Rattle.pn_types.proofs.ImageLemmas.{text_range as text_lies}
 use Rattle.elf_form.specs.declared.fault.ElfFault.TheVariants.{NotElf, Short, NotRiscv64, Flags, BadSymbols}
 use Rattle.elf_form.specs.declared.section.SectionHeader.{SectionHeader}
 use Rattle.elf_form.proofs.FaultLemmas.{behind}
@@ -20,6 +24,7 @@ use Rattle.elf_write.specs.Symbols.{symbol_table, string_table, entries_of, name
 use Rattle.elf_write.specs.Layout.{segments_bytes, segments_at, symbols_at, strings_at, sections_at, place_from, places_of, symbol_section, string_section, elf_bytes, CanWrite}
 use Rattle.elf_write.proofs.Lengths.{padded_within, length-segments}
 use Rattle.elf_write.proofs.Entries.{length-entries}
+use Rattle.elf_write.proofs.Rooms.{few_named}
 use Rattle.elf_write.proofs.FieldsAgain.{Fits, header_read, section_read}
 use Rattle.elf_write.proofs.TablesAgain.{SegmentFits, sections_of, sections_read, entries_read, entries_again, table_from}
 use Rattle.elf_write.proofs.FieldsAgain.{entry_from}
@@ -30,21 +35,9 @@ use Rattle.elf_write.proofs.SymbolsAgain.{ended_again, symbols_again, entries_fi
 use Rattle.pn_types.specs.declared.image.Image.{Image}
 use Rattle.pn_types.specs.declared.image.Segment.{Segment}
 
-segments_fit : (ss : List Segment) → AllByRecursion IsMapped ss → AllByRecursion SegmentFits ss
+segments_fit : (ss : List Segment) → AllByRecursion IsSegment ss → AllByRecursion SegmentFits ss
 segments_fit [] all = tt
 segments_fit (s ∷ ss) all = (record { at = omega (arith, all.0.high); size = omega (arith, all.0.high) }, segments_fit ss all.1)
-
--- what is inside the bytes of a segment lies below the segments' end
-inside_below : (ss : List Segment) (at len : ℕ) → AllByRecursion IsMapped ss → are_inside ss at len ≡ true → at + len ≤ 0x60000000
-inside_below [] at len all h = absurd (cc)
-inside_below (s ∷ ss) at len all h = by (has_byte s at) refl (inside_below ss at len all.1)
-  where
-    by : (b : Bool) → has_byte s at ≡ b → (are_inside ss at len ≡ true → at + len ≤ 0x60000000) → at + len ≤ 0x60000000
-    by true is later =
-        let in' : nat_le (at + len) (s.at + length s.bytes) ≡ true = sym (ap (λ t. if t then nat_le (at + len) (s.at + length s.bytes) else are_inside ss at len) is) ∙ h in
-        let le : at + len ≤ s.at + length s.bytes = grind (arith, common_steps) in
-        omega (arith, le, all.0.filled, all.0.high)
-    by false is later = later (sym (ap (λ t. if t then nat_le (at + len) (s.at + length s.bytes) else are_inside ss at len) is) ∙ h)
 
 place_below : (address place : ℕ) (ss : List Segment) → place_from address place ss ≤ place + length (segments_bytes ss)
 place_below address place [] = omega arith
@@ -58,12 +51,12 @@ or_true : (b : Bool) → (b || true) ≡ true
 or_true true = refl
 or_true false = refl
 
-module _ (i : Image) (acc : IsAccepted i) (can : CanWrite i) where
+module _ (i : Image) (acc : IsAccepted i) (named : CanWrite i) where
   f : List ℕ
   f = elf_bytes i
 
   text_below : i.text_at + i.text_len ≤ 0x60000000
-  text_below = inside_below i.segments i.text_at i.text_len acc.mapped acc.inside
+  text_below = (text_lies i acc.image).high
 
   entry_below : i.entry < 2 ^ 64
   entry_below = let lt : i.entry < i.text_at + i.text_len = grind (arith, common_steps, acc.entry) in omega (arith, lt, text_below)
@@ -71,15 +64,15 @@ module _ (i : Image) (acc : IsAccepted i) (can : CanWrite i) where
   sections_fit : AllByRecursion Fits (sections_of i (places_of i))
   unfolding places_of
   sections_fit =
-      let below = sections_below i can in
+      let below = sections_below i acc.image named in
       let text = place_below i.text_at (segments_at i.segments) i.segments in
       let names = (padded_within (string_table i.symbols)).0 in (
         record { kind = omega arith; flags = omega arith; address = omega arith; offset = omega arith; size = omega arith; link = omega arith; entry_size = omega arith },
         (
-          record { kind = omega arith; flags = omega arith; address = omega (arith, text_below); offset = omega (arith, text, below); size = omega (arith, acc.short); link = omega arith; entry_size = omega arith },
+          record { kind = omega arith; flags = omega arith; address = omega (arith, text_below); offset = omega (arith, text, below); size = omega (arith, acc.image.short); link = omega arith; entry_size = omega arith },
           (
             record { kind = omega arith; flags = omega arith; address = omega arith; offset = omega (arith, below); size = omega (arith, below); link = omega arith; entry_size = omega arith },
-            (record { kind = omega arith; flags = omega arith; address = omega arith; offset = omega (arith, below); size = omega (arith, can.named); link = omega arith; entry_size = omega arith }, tt),
+            (record { kind = omega arith; flags = omega arith; address = omega arith; offset = omega (arith, below); size = omega arith; link = omega arith; entry_size = omega arith }, tt),
           ),
         ),
       )
@@ -92,11 +85,11 @@ module _ (i : Image) (acc : IsAccepted i) (can : CanWrite i) where
 
   tables : tables_of (elf_bytes i) ≡ t
   tables =
-      tables_again i can entry_below (segments_fit i.segments acc.mapped) sections_fit
-      ∙ ap (λ ls. record { entry = i.entry; loads = ls; sections = sections_read (sections_of i (places_of i)) }) (loads_again 0 (segments_at i.segments) i.segments acc.mapped)
+      tables_again i acc.image named entry_below (segments_fit i.segments acc.image.mapped) sections_fit
+      ∙ ap (λ ls. record { entry = i.entry; loads = ls; sections = sections_read (sections_of i (places_of i)) }) (loads_again 0 (segments_at i.segments) i.segments acc.image.mapped)
 
   header : header_of (elf_bytes i) ≡ header_read i.entry (length i.segments) (places_of i)
-  header = header_again i can entry_below (segments_fit i.segments acc.mapped) sections_fit
+  header = header_again i acc.image named entry_below (segments_fit i.segments acc.image.mapped) sections_fit
 
   magic : field 4 (elf_bytes i) 0 ≡ 0x464c457f
   unfolding field words halves doublewords
@@ -154,7 +147,7 @@ module _ (i : Image) (acc : IsAccepted i) (can : CanWrite i) where
       ap (λ n. table symbol_entry_of 24 (elf_bytes i) n (places_of i).symbols) count
       ∙ table_from symbol_entry_of entry_from 24 (elf_bytes i) (length (entries_of i.symbols)) (places_of i).symbols
       ∙ ap (λ r. table symbol_entry_of 24 r (length (entries_of i.symbols)) 0) at
-      ∙ entries_again 0 (entries_of i.symbols) (tail_strings i) (omega (arith, can.named, ap length names)) (entries_fit i.symbols acc.named)
+      ∙ entries_again 0 (entries_of i.symbols) (tail_strings i) (omega (arith, named, ap length names)) (entries_fit i.symbols acc.named)
 
   no_table_fault : table_fault (elf_bytes i) (section_read (symbol_section i (places_of i))) (Some (section_read (string_section i (places_of i)))) ≡ None
   no_table_fault =
@@ -179,16 +172,16 @@ module _ (i : Image) (acc : IsAccepted i) (can : CanWrite i) where
   symbols : symbols_of (elf_bytes i) (sections_read (sections_of i (places_of i))) ≡ i.symbols
   unfolding symbols_of
   symbols =
-      ap (λ s. with_program_last (symbols_from s program (entries_read_of (elf_bytes i) (section_read (symbol_section i (places_of i)))))) strings
-      ∙ ap (λ es. with_program_last (symbols_from (string_table i.symbols) program es)) entries
+      ap (λ s. with_program_last (symbols_from s program_module (entries_read_of (elf_bytes i) (section_read (symbol_section i (places_of i)))))) strings
+      ∙ ap (λ es. with_program_last (symbols_from (string_table i.symbols) program_module es)) entries
       ∙ ap with_program_last (symbols_again (string_table i.symbols) i.symbols names acc.named ∙ acc.ordered) ∙ acc.ordered
 
   no_fault : fault_with (elf_bytes i) t ≡ None
   no_fault =
       let b = elf_bytes i in
       let here = at_segments i in
-      let segments = no_segments_fault (length b) (segments_at i.segments) i.segments acc.mapped acc.few acc.apart acc.small (omega (arith, length-file i)) in
-      let text = no_text_fault i (places_of i) b (tail_symbols i) (segments_at i.segments) here acc.positive acc.inside acc.short acc.start acc.whole acc.unscratched acc.entry in
+      let segments = no_segments_fault (length b) (segments_at i.segments) i.segments acc.image.mapped acc.image.few acc.image.apart acc.image.small (omega (arith, length-file i)) in
+      let text = no_text_fault i (places_of i) b (tail_symbols i) (segments_at i.segments) here acc.image.positive acc.image.inside acc.image.short acc.image.start acc.image.whole acc.unscratched acc.entry in
       behind (header_fault b) _ no_header_fault ∙ behind (segments_fault (length b) t.loads) _ segments
       ∙ behind (text_fault b t.loads t.sections t.entry) _ text ∙ behind (symbols_fault b t.sections) _ no_symbols_fault
 
@@ -196,11 +189,15 @@ module _ (i : Image) (acc : IsAccepted i) (can : CanWrite i) where
   same_image =
       let b = elf_bytes i in
       let len : i.text_at + i.text_len - i.text_at ≡ i.text_len = omega arith in
-      ap (λ s. record { segments = s; text_at = start_of (text_range t.sections); text_len = length_of (text_range t.sections); entry = i.entry; symbols = symbols_of b t.sections }) (segments_again b (tail_symbols i) (segments_at i.segments) i.segments (at_segments i) acc.apart)
-      ∙ ap (λ r. record { segments = i.segments; text_at = start_of r; text_len = length_of r; entry = i.entry; symbols = symbols_of b t.sections }) (range_again i (places_of i) acc.positive)
+      ap (λ s. record { segments = s; text_at = start_of (text_range t.sections); text_len = length_of (text_range t.sections); entry = i.entry; symbols = symbols_of b t.sections }) (segments_again b (tail_symbols i) (segments_at i.segments) i.segments (at_segments i) acc.image.apart)
+      ∙ ap (λ r. record { segments = i.segments; text_at = start_of r; text_len = length_of r; entry = i.entry; symbols = symbols_of b t.sections }) (range_again i (places_of i) acc.image.positive)
       ∙ ap (λ n. record { segments = i.segments; text_at = i.text_at; text_len = n; entry = i.entry; symbols = symbols_of b t.sections }) len
       ∙ ap (λ s. record { segments = i.segments; text_at = i.text_at; text_len = i.text_len; entry = i.entry; symbols = s }) symbols
 
   pub read_again : meaning_of (elf_bytes i) ≡ Ok i
   unfolding meaning_of meaning_with
   read_again = ap (λ u. unless_fault (fault_with (elf_bytes i) u) (image_with (elf_bytes i) u)) tables ∙ ap (λ o. unless_fault o (image_with (elf_bytes i) t)) no_fault ∙ ap Ok same_image
+
+-- what is written of an image that a file means
+pub reads_again : (file : List ℕ) (i : Image) → IsBytes file → meaning_of file ≡ Ok i → CanWrite i → meaning_of (elf_bytes i) ≡ Ok i
+reads_again file i bytes meant can = read_again i (accepted file i bytes meant (few_named i can)) can

@@ -10,7 +10,7 @@ use Rattle.elf_form.specs.Fields.{part}
 use Rattle.elf_form.specs.Faults.{fault_where, first_fault, reaches_past}
 use Rattle.elf_form.specs.Segments.{loads_from, load_fault, load_faults, shared, shared_with, lowest_shared, lower, overlap_fault, total_size, segments_fault, segment_of, with_load, end_of, is_load}
 use Rattle.elf_form.specs.Meaning.{segments_of}
-use Rattle.elf_form.specs.Accepted.{IsMapped, IsApart}
+use Rattle.pn_types.specs.Images.{IsSegment, AreApart}
 use Rattle.elf_form.specs.declared.load.Load.{Load}
 use Rattle.elf_form.specs.declared.fault.ElfFault.{ElfFault}
 use Rattle.elf_form.specs.declared.fault.ElfFault.TheVariants.{Short, BadSegment, LowSegment, HighSegment, TooBig}
@@ -30,7 +30,7 @@ abbrev pub loads_read : ℕ → ℕ → List Segment → List Load
 loads_read index place [] = []
 loads_read index place (s ∷ ss) = load_read index place s ∷ loads_read (index + 1) (place + length (padded s.bytes)) ss
 
-pub loads_again : (index place : ℕ) (ss : List Segment) → AllByRecursion IsMapped ss → loads_from index (programs_read place ss) ≡ loads_read index place ss
+pub loads_again : (index place : ℕ) (ss : List Segment) → AllByRecursion IsSegment ss → loads_from index (programs_read place ss) ≡ loads_read index place ss
 loads_again index place [] all = refl
 loads_again index place (s ∷ ss) all =
     let load : is_load (program_read place s) ≡ true = lt-ltb 0 s.size all.0.positive in
@@ -52,7 +52,7 @@ no_load_fault len k l filled few within low high =
     ∙ behind _ _ (where_not (nat_lt l.header.address 0x10000) (LowSegment l.header.address) (le-ltb l.header.address 0x10000 low))
     ∙ behind _ _ (where_not (nat_lt 0x60000000 (end_of l)) (HighSegment l.header.address) (le-ltb 0x60000000 (end_of l) high))
 
-pub no_load_faults : (len index k place : ℕ) (ss : List Segment) → AllByRecursion IsMapped ss → k + length ss ≤ 16 → place + length (segments_bytes ss) ≤ len → first_fault (load_faults len k (loads_read index place ss)) ≡ None
+pub no_load_faults : (len index k place : ℕ) (ss : List Segment) → AllByRecursion IsSegment ss → k + length ss ≤ 16 → place + length (segments_bytes ss) ≤ len → first_fault (load_faults len k (loads_read index place ss)) ≡ None
 no_load_faults len index k place [] all few within = refl
 no_load_faults len index k place (s ∷ ss) all few within =
     let one = no_load_fault len k (load_read index place s) all.0.filled (omega arith) (omega (arith, length-segments s ss, (padded_within s.bytes).0)) all.0.low all.0.high in
@@ -69,7 +69,7 @@ none_with l index place (s ∷ ss) all =
     ap (λ o. lower o (shared_with l (loads_read (index + 1) (place + length (padded s.bytes)) ss))) (apart_shared l (load_read index place s) all.0)
     ∙ none_with l (index + 1) (place + length (padded s.bytes)) ss all.1
 
-pub none_shared : (index place : ℕ) (ss : List Segment) → IsApart ss → lowest_shared (loads_read index place ss) ≡ None
+pub none_shared : (index place : ℕ) (ss : List Segment) → AreApart ss → lowest_shared (loads_read index place ss) ≡ None
 none_shared index place [] apart = refl
 none_shared index place (s ∷ ss) apart =
     ap (λ o. lower o (lowest_shared (loads_read (index + 1) (place + length (padded s.bytes)) ss))) (none_with (load_read index place s) (index + 1) (place + length (padded s.bytes)) ss apart.0)
@@ -81,7 +81,7 @@ total_again index place (s ∷ ss) =
     sum_by-cons (λ l. l.header.memory_size) (load_read index place s) (loads_read (index + 1) (place + length (padded s.bytes)) ss)
     ∙ ap (λ n. s.size + n) (total_again (index + 1) (place + length (padded s.bytes)) ss) ∙ sym (sum_by-cons (λ t. t.size) s ss)
 
-pub no_segments_fault : (len place : ℕ) (ss : List Segment) → AllByRecursion IsMapped ss → length ss ≤ 16 → IsApart ss → sum_by (λ s. s.size) ss ≤ 25165824 → place + length (segments_bytes ss) ≤ len → segments_fault len (loads_read 0 place ss) ≡ None
+pub no_segments_fault : (len place : ℕ) (ss : List Segment) → AllByRecursion IsSegment ss → length ss ≤ 16 → AreApart ss → sum_by (λ s. s.size) ss ≤ 25165824 → place + length (segments_bytes ss) ≤ len → segments_fault len (loads_read 0 place ss) ≡ None
 unfolding segments_fault
 no_segments_fault len place ss all few apart small within =
     let loads = loads_read 0 place ss in
@@ -111,7 +111,7 @@ below_more : (ms : List Load) (index place : ℕ) (s : Segment) (ss : List Segme
 below_more [] index place s ss h own = (own, tt)
 below_more (m ∷ ms) index place s ss h own = (h.0.1, below_more ms index place s ss h.1 own)
 
-fold_ascending : (ms : List Load) (index place : ℕ) (ss : List Segment) → AreBelow ms ss → IsApart ss → fold with_load ms (loads_read index place ss) ≡ ms ++ loads_read index place ss
+fold_ascending : (ms : List Load) (index place : ℕ) (ss : List Segment) → AreBelow ms ss → AreApart ss → fold with_load ms (loads_read index place ss) ≡ ms ++ loads_read index place ss
 fold_ascending ms index place [] below apart = sym (append-nil ms)
 fold_ascending ms index place (s ∷ ss) below apart =
     let l = load_read index place s in
@@ -135,6 +135,6 @@ memory_again f rest index place (s ∷ ss) at =
     ap (λ x. record { at = s.at; bytes = x; size = s.size } ∷ map (segment_of f) (loads_read (index + 1) (place + length (padded s.bytes)) ss)) bytes
     ∙ ap (λ r. s ∷ r) (memory_again f rest (index + 1) (place + length (padded s.bytes)) ss (behind_part f place (padded s.bytes) (segments_bytes ss ++ rest) here))
 
-pub segments_again : (f rest : List ℕ) (place : ℕ) (ss : List Segment) → drop place f ≡ segments_bytes ss ++ rest → IsApart ss → segments_of f (loads_read 0 place ss) ≡ ss
+pub segments_again : (f rest : List ℕ) (place : ℕ) (ss : List Segment) → drop place f ≡ segments_bytes ss ++ rest → AreApart ss → segments_of f (loads_read 0 place ss) ≡ ss
 unfolding segments_of
 segments_again f rest place ss at apart = ap (λ ls. map (segment_of f) ls) (fold_ascending [] 0 place ss tt apart) ∙ memory_again f rest 0 place ss at

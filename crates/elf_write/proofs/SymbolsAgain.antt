@@ -1,5 +1,5 @@
 -- The symbols of what is written, read again.
-use Rattle.std.proofs.Common.{◌≡◌, ℕ, ◌+◌, Bool, true, false, not, ◌⊎◌, inl, inr, List, [], ◌∷◌, ◌++◌, length, drop, take, map, refl, sym, ap, ◌∙◌, arith, append_assoc, length-append}
+use Rattle.std.proofs.Common.{◌≡◌, ℕ, ◌+◌, Bool, true, false, not, List, [], ◌∷◌, ◌++◌, length, drop, take, map, refl, sym, ap, ◌∙◌, arith, append_assoc, length-append}
 use Rattle.std.specs.Prelude.{filter, ◌==◌, ◌&&◌, ◌||◌, if◌then◌else◌}
 use Rattle.std.specs.List.{AllByRecursion, list_any, list_all, prefix_len, take_while}
 use Rattle.std.specs.Str.{bytes_eq}
@@ -7,9 +7,10 @@ use Rattle.std.proofs.lemmas.List.{take_at}
 use Rattle.std.proofs.lemmas.List.Folds.{list_any-append}
 use Rattle.std.proofs.lemmas.Slice.Eq.{bytes_eq-Decides}
 use Rattle.std.proofs.lemmas.Grind.{common_steps}
-use Rattle.elf_form.specs.Symbols.{is_ended, name_at, module_of, program, symbols_from, is_of_program, with_program_last}
-use Rattle.pn_types.specs.GoodNames.{is_name_byte, is_good_name}
+use Rattle.elf_form.specs.Symbols.{is_ended, name_at, module_of, symbols_from, is_of_program, with_program_last}
+use Rattle.pn_types.specs.GoodNames.{is_name_byte, is_good_name, program_module}
 use Rattle.elf_form.specs.Accepted.{IsNamed}
+use Rattle.elf_form.proofs.FoundSymbols.{all_append, either}
 use Rattle.elf_form.specs.declared.symbol.SymbolEntry.{SymbolEntry}
 use Rattle.elf_write.specs.Symbols.{Named, type_of, entry_with, file_entry, entries_after, local_entries, locals_of, globals_of, entries_of, names_of}
 use Rattle.elf_write.proofs.TablesAgain.{entries_read, NamedFits}
@@ -88,12 +89,12 @@ pub record IsLocal (s : Symbol) : Type 0 where
 
 pub record IsGlobal (s : Symbol) : Type 0 where
   pub name : list_all (λ byte. not (byte == 0)) s.name ≡ true
-  pub source : s.module ≡ program
+  pub source : s.module ≡ program_module
 
 abbrev made : List ℕ → SymKind → Symbol → List ℕ → Symbol
 made name kind s source = record { name = name; kind = kind; at = s.at; size = s.size; «module» = source }
 
-global_step : (strings source : List ℕ) (place : ℕ) (s : Symbol) (kind : SymKind) (es : List SymbolEntry) → symbols_from strings source (record { name = place; info = 16 + type_of kind; section = 1; value = s.at; size = s.size } ∷ es) ≡ made (name_at strings place) kind s program ∷ symbols_from strings source es
+global_step : (strings source : List ℕ) (place : ℕ) (s : Symbol) (kind : SymKind) (es : List SymbolEntry) → symbols_from strings source (record { name = place; info = 16 + type_of kind; section = 1; value = s.at; size = s.size } ∷ es) ≡ made (name_at strings place) kind s program_module ∷ symbols_from strings source es
 global_step strings source place s Func es = refl
 global_step strings source place s Object es = refl
 
@@ -110,7 +111,7 @@ module _ (strings : List ℕ) where
   globals_again source place (g ∷ gs) h all =
       let next = place + length g.name + 1 in
       global_step strings source place g g.kind (entries_read next (map (entry_with 16) gs))
-      ∙ ap (λ s. s ∷ symbols_from strings source (entries_read next (map (entry_with 16) gs))) (same_symbol g (name_at strings place) program (name_again strings place (entry_with 16 g) (map (entry_with 16) gs) h all.0.name) (sym all.0.source))
+      ∙ ap (λ s. s ∷ symbols_from strings source (entries_read next (map (entry_with 16) gs))) (same_symbol g (name_at strings place) program_module (name_again strings place (entry_with 16 g) (map (entry_with 16) gs) h all.0.name) (sym all.0.source))
       ∙ ap (λ r. g ∷ r) (globals_again source next gs (beyond strings place (entry_with 16 g) (map (entry_with 16) gs) h) all.1)
 
   -- the entry of a local symbol behind that of its source file
@@ -123,7 +124,7 @@ module _ (strings : List ℕ) where
   file_step : (source : List ℕ) (place : ℕ) (s : Symbol) (xs : List Named) → drop place strings ≡ names_of (file_entry s.module ∷ xs) → IsLocal s → symbols_from strings source (entries_read place (file_entry s.module ∷ xs)) ≡ symbols_from strings s.module (entries_read (place + length s.module + 1) xs)
   file_step source place s xs h is =
       let name = name_again strings place (file_entry s.module) xs h (good_no_zero s.module is.source) in
-      let good : module_of s.module ≡ s.module = ap (λ t. if t then s.module else program) is.source in
+      let good : module_of s.module ≡ s.module = ap (λ t. if t then s.module else program_module) is.source in
       ap (λ m. symbols_from strings m (entries_read (place + length s.module + 1) xs)) (ap module_of name ∙ good)
 
   pub all_again : (source : List ℕ) (place : ℕ) (ss gs : List Symbol) → drop place strings ≡ names_of (local_entries source ss ++ map (entry_with 16) gs) → AllByRecursion IsLocal ss → AllByRecursion IsGlobal gs → symbols_from strings source (entries_read place (local_entries source ss ++ map (entry_with 16) gs)) ≡ ss ++ gs
@@ -157,45 +158,32 @@ module _ (strings : List ℕ) where
 
 -- ---- the symbols of an image
 
-module _ {A : Type 0} (P : A → Type 0) where
-  either : (b : Bool) (xs ys : List A) → AllByRecursion P xs → AllByRecursion P ys → AllByRecursion P (if b then xs else ys)
-  either true xs ys p q = p
-  either false xs ys p q = q
+local_of : (s : Symbol) → IsNamed s → bytes_eq s.module program_module ≡ false → IsLocal s
+local_of s named other = record { name = named.name; source = named.source }
 
-  pub all_append : (xs ys : List A) → AllByRecursion P xs → AllByRecursion P ys → AllByRecursion P (xs ++ ys)
-  all_append [] ys p q = q
-  all_append (x ∷ xs) ys p q = (p.0, all_append xs ys p.1 q)
-
-local_of : (s : Symbol) → IsNamed s → bytes_eq s.module program ≡ false → IsLocal s
-local_of s named other = record { name = named.name; source = chosen named.source }
-  where
-    chosen : ((is_good_name s.module ≡ true) ⊎ (s.module ≡ program)) → is_good_name s.module ≡ true
-    chosen (inl good) = good
-    chosen (inr own) = let yes = (bytes_eq-Decides s.module program).1 own in absurd (cc)
-
-global_of : (s : Symbol) → IsNamed s → bytes_eq s.module program ≡ true → IsGlobal s
-global_of s named own = record { name = named.name; source = (bytes_eq-Decides s.module program).0 own }
+global_of : (s : Symbol) → IsNamed s → bytes_eq s.module program_module ≡ true → IsGlobal s
+global_of s named own = record { name = named.name; source = (bytes_eq-Decides s.module program_module).0 own }
 
 are_local : (ss : List Symbol) → AllByRecursion IsNamed ss → AllByRecursion IsLocal (filter (λ s. not (is_of_program s)) ss)
 are_local [] all = tt
-are_local (s ∷ ss) all = by (bytes_eq s.module program) refl (are_local ss all.1)
+are_local (s ∷ ss) all = by (bytes_eq s.module program_module) refl (are_local ss all.1)
   where
-    by : (b : Bool) → bytes_eq s.module program ≡ b → AllByRecursion IsLocal (filter (λ t. not (is_of_program t)) ss) → AllByRecursion IsLocal (if not (bytes_eq s.module program) then s ∷ filter (λ t. not (is_of_program t)) ss else filter (λ t. not (is_of_program t)) ss)
+    by : (b : Bool) → bytes_eq s.module program_module ≡ b → AllByRecursion IsLocal (filter (λ t. not (is_of_program t)) ss) → AllByRecursion IsLocal (if not (bytes_eq s.module program_module) then s ∷ filter (λ t. not (is_of_program t)) ss else filter (λ t. not (is_of_program t)) ss)
     by true is rest = rw is rest
     by false is rest = rw is (local_of s all.0 is, rest)
 
 are_global : (ss : List Symbol) → AllByRecursion IsNamed ss → AllByRecursion IsGlobal (filter is_of_program ss)
 are_global [] all = tt
-are_global (s ∷ ss) all = by (bytes_eq s.module program) refl (are_global ss all.1)
+are_global (s ∷ ss) all = by (bytes_eq s.module program_module) refl (are_global ss all.1)
   where
-    by : (b : Bool) → bytes_eq s.module program ≡ b → AllByRecursion IsGlobal (filter is_of_program ss) → AllByRecursion IsGlobal (if bytes_eq s.module program then s ∷ filter is_of_program ss else filter is_of_program ss)
+    by : (b : Bool) → bytes_eq s.module program_module ≡ b → AllByRecursion IsGlobal (filter is_of_program ss) → AllByRecursion IsGlobal (if bytes_eq s.module program_module then s ∷ filter is_of_program ss else filter is_of_program ss)
     by true is rest = rw is (global_of s all.0 is, rest)
     by false is rest = rw is rest
 
 -- the symbols that are read in the entries of symbols
-pub symbols_again : (strings : List ℕ) (symbols : List Symbol) → strings ≡ names_of (entries_of symbols) → AllByRecursion IsNamed symbols → symbols_from strings program (entries_read 0 (entries_of symbols)) ≡ with_program_last symbols
+pub symbols_again : (strings : List ℕ) (symbols : List Symbol) → strings ≡ names_of (entries_of symbols) → AllByRecursion IsNamed symbols → symbols_from strings program_module (entries_read 0 (entries_of symbols)) ≡ with_program_last symbols
 symbols_again strings symbols h all =
-    all_again strings program 1 (filter (λ s. not (is_of_program s)) symbols) (filter is_of_program symbols) (ap (λ r. drop 1 r) h) (are_local symbols all) (are_global symbols all)
+    all_again strings program_module 1 (filter (λ s. not (is_of_program s)) symbols) (filter is_of_program symbols) (ap (λ r. drop 1 r) h) (are_local symbols all) (are_global symbols all)
 
 -- ---- the numbers of entries fit their fields
 
@@ -221,4 +209,4 @@ kept p (s ∷ ss) all = let rest = kept p ss all.1 in either IsNamed (p s) (s �
 
 pub entries_fit : (symbols : List Symbol) → AllByRecursion IsNamed symbols → AllByRecursion NamedFits (entries_of symbols)
 entries_fit symbols all =
-    (record { section = omega arith; value = omega arith; size = omega arith }, all_append NamedFits (locals_of symbols) (globals_of symbols) (locals_fit program (filter (λ s. not (is_of_program s)) symbols) (kept (λ s. not (is_of_program s)) symbols all)) (globals_fit (filter is_of_program symbols) (kept is_of_program symbols all)))
+    (record { section = omega arith; value = omega arith; size = omega arith }, all_append NamedFits (locals_of symbols) (globals_of symbols) (locals_fit program_module (filter (λ s. not (is_of_program s)) symbols) (kept (λ s. not (is_of_program s)) symbols all)) (globals_fit (filter is_of_program symbols) (kept is_of_program symbols all)))

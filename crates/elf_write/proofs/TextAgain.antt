@@ -9,7 +9,6 @@ use Rattle.rv_word.specs.Names.{words_of, scratch_in}
 use Rattle.elf_form.specs.Fields.{part}
 use Rattle.elf_form.specs.Segments.{is_around}
 use Rattle.elf_form.specs.Texts.{intrudes, text_range, segment_around, range_bytes, text_bytes, is_two_texts, is_entry, range_fault, text_fault}
-use Rattle.elf_form.specs.Accepted.{has_byte, are_inside}
 use Rattle.elf_form.specs.declared.load.Load.{Load}
 use Rattle.elf_form.specs.declared.section.TextRange.{TextRange}
 use Rattle.elf_form.specs.declared.fault.ElfFault.TheVariants.{TwoTexts, TextUnaligned, TextTooLong, UsesScratch, BadEntry}
@@ -20,7 +19,7 @@ use Rattle.elf_write.specs.declared.places.Places.{Places}
 use Rattle.elf_write.proofs.TablesAgain.{sections_read, sections_of}
 use Rattle.elf_write.proofs.PartsAgain.{behind_part}
 use Rattle.elf_write.proofs.SegmentsAgain.{load_read, loads_read, where_not}
-use Rattle.pn_types.specs.Images.{bytes_in, text_of}
+use Rattle.pn_types.specs.Images.{has_byte, are_inside, bytes_in, text_of}
 use Rattle.pn_types.specs.declared.image.Image.{Image}
 use Rattle.pn_types.specs.declared.image.Segment.{Segment}
 

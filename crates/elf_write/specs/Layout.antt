@@ -1,5 +1,5 @@
 -- The ELF file of an image: its parts, one behind the other (System V ABI: ELF header, program header, sections).
-use Rattle.std.specs.Prelude.{ℕ, ◌+◌, ◌-◌, ◌*◌, ◌<◌, ◌^◌, ◌&&◌, nat_le, nat_lt, if◌then◌else◌, List, [], ◌∷◌, ◌++◌, length, replicate, sum_by}
+use Rattle.std.specs.Prelude.{ℕ, ◌+◌, ◌-◌, ◌*◌, ◌<◌, ◌^◌, ◌&&◌, nat_le, nat_lt, if◌then◌else◌, List, [], ◌∷◌, ◌++◌, length, replicate}
 use Rattle.std.specs.List.{flat_map}
 use Rattle.elf_write.specs.Fields.{halves, words, doublewords, padded}
 use Rattle.elf_write.specs.Symbols.{symbol_table, string_table, locals_of}
@@ -107,8 +107,6 @@ elf_bytes i =
     ++ padded (string_table i.symbols)
     ++ section_headers i (places_of i)
 
--- The numbers of the layout fit their fields.
-pub record CanWrite (i : Image) : Type 0 where
-  pub few : length i.segments < 2 ^ 16
-  pub small : sum_by (λ s. length s.bytes) i.segments < 2 ^ 32
-  pub named : length (string_table i.symbols) < 2 ^ 32
+-- the places of all names fit their fields
+abbrev pub CanWrite : Image → Type 0
+CanWrite i = length (string_table i.symbols) < 2 ^ 32

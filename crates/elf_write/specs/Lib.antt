@@ -1,3 +1,4 @@
 pub mod Fields
 pub mod Symbols
 pub mod Layout
+pub mod Laws

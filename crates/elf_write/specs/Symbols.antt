@@ -2,7 +2,8 @@
 use Rattle.std.specs.Prelude.{ℕ, ◌+◌, not, if◌then◌else◌, List, [], ◌∷◌, ◌++◌, length, filter, map}
 use Rattle.std.specs.Str.{bytes_eq}
 use Rattle.std.specs.List.{flat_map}
-use Rattle.elf_form.specs.Symbols.{is_of_program, program}
+use Rattle.elf_form.specs.Symbols.{is_of_program}
+use Rattle.pn_types.specs.GoodNames.{program_module}
 use Rattle.elf_write.specs.Fields.{halves, words, doublewords}
 use Rattle.elf_write.specs.declared.symbols.Entry.{Entry}
 use Rattle.pn_types.specs.declared.image.SymKind.{SymKind}
@@ -41,7 +42,7 @@ local_entries source (s ∷ ss) = entries_after source s ++ local_entries s.modu
 -- the symbols of modules other than `program`, as local ones: each longest run of one module has the entry of its source
 -- file and then its symbols
 abbrev pub locals_of : List Symbol → List Named
-locals_of symbols = local_entries program (filter (λ s. not (is_of_program s)) symbols)
+locals_of symbols = local_entries program_module (filter (λ s. not (is_of_program s)) symbols)
 
 -- the symbols of `program`, as global ones
 abbrev pub globals_of : List Symbol → List Named

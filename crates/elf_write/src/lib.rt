@@ -3,11 +3,11 @@
 
 mod fields;
 mod headers;
+mod laws;
 mod places;
 mod symbols;
-#[cfg(test)]
-mod tests;
 mod writing;
 
+pub use laws::{loaded_can_be_written, written_is_read_again};
 pub use places::Places;
 pub use writing::write;

@@ -5,11 +5,8 @@ ghost use Rattle.std.specs.Str.{bytes_eq};
 ghost use Rattle.elf_write.specs.Symbols.{type_of, entry_bytes, entry_with, entries_after, locals_of, globals_of, entries_bytes, names_of, symbol_table, string_table};
 
 use crate::fields::{push_doublewords, push_halves, push_words};
-use pn_types::{NoMemory, SymKind, Symbol};
+use pn_types::{NoMemory, PROGRAM_MODULE, SymKind, Symbol};
 use std::alloc::Global;
-
-/// The module of global symbols.
-const PROGRAM: &[u8] = b"program";
 
 /// The binding of global symbols, as a part of `st_info`.
 const GLOBAL: u8 = 16;
@@ -149,10 +146,10 @@ impl Tables {
             self.old.strings.items ++ names_of (locals_of symbols.now)) }
         ensures locals { OnOk result (self.new.locals ≡ self.old.locals + length (locals_of symbols.now)) }
     {
-        let mut source = PROGRAM;
+        let mut source = PROGRAM_MODULE;
         for symbol in symbols {
             let module = symbol.module.bytes();
-            if is_same(module, PROGRAM) {
+            if is_same(module, PROGRAM_MODULE) {
                 continue;
             }
             self.push_behind(source, symbol)?;
@@ -171,7 +168,7 @@ impl Tables {
         ensures locals { OnOk result (self.new.locals ≡ self.old.locals) }
     {
         for symbol in symbols {
-            if is_same(symbol.module.bytes(), PROGRAM) {
+            if is_same(symbol.module.bytes(), PROGRAM_MODULE) {
                 self.push(symbol.name.bytes(), entry_with(GLOBAL, symbol))?;
             }
         }

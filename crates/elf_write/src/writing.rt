@@ -1,6 +1,5 @@
-ghost use Rattle.std.specs.Prelude.{◌≡◌, ◌+◌, ◌++◌, ℕ, List, OnOk, IfOk, length};
-ghost use Rattle.elf_form.specs.Accepted.{IsAccepted, IsBytes};
-ghost use Rattle.elf_form.specs.Meaning.{meaning_of};
+ghost use Rattle.std.specs.Prelude.{◌≡◌, ◌<◌, ◌^◌, ◌+◌, ◌++◌, OnOk, IfOk, length, sum_by};
+ghost use Rattle.pn_types.specs.Images.{IsImage};
 ghost use Rattle.elf_write.specs.Symbols.{symbol_table, string_table, locals_of};
 ghost use Rattle.elf_write.specs.Layout.{places_of, segments_bytes, text_section, symbol_section, string_section, section_headers, elf_bytes, CanWrite};
 
@@ -27,7 +26,9 @@ const NULL_SECTION: Section = Section {
 /// Where the parts of the file stand.
 #[tactic(auto, unfolding(crate::specs::Layout::places_of))]
 fn places_of(image: &Image, tables: &Tables) -> Places
-    requires image { CanWrite image.now }
+    requires few { length image.now.segments < 2 ^ 16 }
+    requires small { sum_by (λ s. length s.bytes) image.now.segments < 2 ^ 32 }
+    requires named { CanWrite image.now }
     requires symbols { tables.now.symbols.items ≡ symbol_table image.now.symbols }
     requires strings { tables.now.strings.items ≡ string_table image.now.symbols }
     ensures { result ≡ places_of image.now }
@@ -126,10 +127,12 @@ fn push_section_headers(
     push_section_header(out, &string_section(image, tables, places))
 }
 
-/// The ELF file of an image.
-#[tactic(auto, unfolding(crate::specs::Layout::elf_bytes))]
-fn file_of(alloc: Global, image: &Image) -> Result<Vec<u8>, NoMemory>
-    requires { CanWrite image.now }
+/// The ELF file of an image: the headers, each segment's bytes, the symbols and their names. The names of the symbols and
+/// of their modules take fewer than 2^32 bytes together.
+#[tactic(auto, using(crate::proofs::Lengths::few_segments, crate::proofs::Lengths::small_segments), unfolding(crate::specs::Layout::elf_bytes))]
+pub fn write(alloc: Global, image: &Image) -> Result<Vec<u8>, NoMemory>
+    requires image { IsImage image.now }
+    requires named { CanWrite image.now }
     ensures { IfOk result (λ bytes. bytes.items ≡ elf_bytes image.now) }
 {
     let segments = image.segments.as_slice();
@@ -143,19 +146,4 @@ fn file_of(alloc: Global, image: &Image) -> Result<Vec<u8>, NoMemory>
     push_padded(&mut out, &tables.strings)?;
     push_section_headers(&mut out, image, &tables, &places)?;
     Ok(out)
-}
-
-/// The ELF file of an image: the headers, each segment's bytes, the symbols and their names. It needs fewer than 65,536
-/// segments with fewer than 2^32 bytes together, and names that take fewer than 2^32 bytes together.
-pub fn write(alloc: Global, image: &Image) -> Result<Vec<u8>, NoMemory>
-    requires { CanWrite image.now }
-    ensures layout { IfOk result (λ bytes. bytes.items ≡ elf_bytes image.now) }
-    // What is written means the image.
-    ensures accepted { IfOk result (λ bytes. IsAccepted image.now → meaning_of bytes.items ≡ Ok image.now) }
-    // So it is read again as the image of any file.
-    ensures again { IfOk result (λ bytes. (file : List ℕ) → IsBytes file →
-        meaning_of file ≡ Ok image.now → meaning_of bytes.items ≡ Ok image.now) }
-{
-    let bytes = file_of(alloc, image)?;
-    Ok(bytes)
 }

@@ -33,17 +33,17 @@ entries_length t places es are = mapped es ∙ ap length are.places_are
     mapped [] = refl
     mapped (e ∷ es) = ap suc (mapped es)
 
-at_most_one : (item : Item) → length (metric_of item) ≤ 1
-at_most_one (Include i) = omega arith
-at_most_one (Sync s) = omega arith
-at_most_one (Metric m) = omega arith
-at_most_one (Constraint c) = omega arith
-at_most_one (Hypothesis h) = omega arith
-at_most_one (Search s) = omega arith
-at_most_one (Phase p) = omega arith
-at_most_one (Wish w) = omega arith
+at_most_one : (line : ℕ) (item : Item) → length (metric_of line item) ≤ 1
+at_most_one line (Include i) = omega arith
+at_most_one line (Sync s) = omega arith
+at_most_one line (Metric m) = omega arith
+at_most_one line (Constraint c) = omega arith
+at_most_one line (Hypothesis h) = omega arith
+at_most_one line (Search s) = omega arith
+at_most_one line (Phase p) = omega arith
+at_most_one line (Wish w) = omega arith
 
 -- there are no more metrics than items
-pub few_metrics : (es : List Entry) → length (flat_map (λ e. metric_of e.item) es) ≤ length es
+pub few_metrics : (es : List Entry) → length (flat_map (λ e. metric_of e.line e.item) es) ≤ length es
 few_metrics [] = omega arith
-few_metrics (e ∷ es) = omega (arith, few_metrics es, at_most_one e.item, length-append (metric_of e.item) (flat_map (λ e. metric_of e.item) es))
+few_metrics (e ∷ es) = omega (arith, few_metrics es, at_most_one e.line e.item, length-append (metric_of e.line e.item) (flat_map (λ e. metric_of e.line e.item) es))

@@ -1,3 +1,6 @@
 mod Steps
 mod Entries
+mod OneAnswer
+mod Fitting
+mod Sounding
 pub mod Few

@@ -10,8 +10,7 @@ use Rattle.mdl_ast.specs.declared.items.SearchDecl.{SearchDecl}
 use Rattle.mdl_ast.specs.declared.items.PhaseDecl.{PhaseDecl}
 use Rattle.mdl_ast.specs.declared.items.Wish.{Wish as TheWish}
 use Rattle.resource_tree.specs.Resources.{Resources}
-use Rattle.resource_tree.specs.FocusTexts.{Part, AreParts, parts_text}
-use Rattle.resource_tree.specs.Foci.{focus_of}
+use Rattle.resource_tree.specs.Foci.{Selects}
 use Rattle.mdl_check.specs.Spots.{Spot, Entry, spot, spots}
 use Rattle.mdl_check.specs.Names.{metric_number}
 use Rattle.mdl_check.specs.Rules.{fault_of}
@@ -22,11 +21,6 @@ use Rattle.mdl_check.specs.declared.checked.Checked.{Checked}
 use Rattle.mdl_check.specs.declared.checked.CheckedWish.{CheckedWish}
 
 -- ---- the items with their foci
-
--- what a text selects in a tree: the focus of its parts, or nothing
-abbrev pub Selects : Resources → List ℕ → Option Focus → Type 0
-Selects t text (Some f) = (parts : List Part) × AreParts parts × (text ≡ parts_text parts) × (focus_of t parts ≡ Ok f)
-Selects t text None = (parts : List Part) → AreParts parts → text ≡ parts_text parts → (f : Focus) → focus_of t parts ≡ Ok f → ⊥
 
 -- a wish has the focus that its text selects, and nothing else has one
 abbrev pub HasFocus : Resources → Item → Option Focus → Type 0
@@ -58,32 +52,32 @@ fault_from all before (e ∷ es) = elim (fault_of all before e) [
 abbrev pub first_fault : List Entry → Option (ℕ × CheckKind)
 first_fault all = fault_from all [] all
 
--- ---- the items of a faultless configuration
+-- ---- the items of a faultless configuration, each with the line of its place, which is its include's where it is included
 
-abbrev pub metric_of : Item → List TheMetric
-metric_of (Metric m) = m ∷ []
-metric_of item = []
+abbrev pub metric_of : ℕ → Item → List TheMetric
+metric_of line (Metric m) = record m { line = line } ∷ []
+metric_of line item = []
 
-abbrev pub constraint_of : Item → List TheConstraint
-constraint_of (Constraint c) = c ∷ []
-constraint_of item = []
+abbrev pub constraint_of : ℕ → Item → List TheConstraint
+constraint_of line (Constraint c) = record c { line = line } ∷ []
+constraint_of line item = []
 
-abbrev pub hypothesis_of : Item → List TheHypothesis
-hypothesis_of (Hypothesis h) = h ∷ []
-hypothesis_of item = []
+abbrev pub hypothesis_of : ℕ → Item → List TheHypothesis
+hypothesis_of line (Hypothesis h) = record h { line = line } ∷ []
+hypothesis_of line item = []
 
-abbrev pub phase_of : Item → List PhaseDecl
-phase_of (Phase p) = p ∷ []
-phase_of item = []
+abbrev pub phase_of : ℕ → Item → List PhaseDecl
+phase_of line (Phase p) = record p { line = line } ∷ []
+phase_of line item = []
 
 -- the search that an item is, or else the one before
-abbrev pub search_behind : Option SearchDecl → Item → Option SearchDecl
-search_behind before (Search s) = Some s
-search_behind before item = before
+abbrev pub search_behind : Option SearchDecl → ℕ → Item → Option SearchDecl
+search_behind before line (Search s) = Some (record s { line = line })
+search_behind before line item = before
 
 abbrev pub search_in : Option SearchDecl → List Entry → Option SearchDecl
 search_in before [] = before
-search_in before (e ∷ es) = search_in (search_behind before e.item) es
+search_in before (e ∷ es) = search_in (search_behind before e.line e.item) es
 
 abbrev pub wish_with : TheWish → Option ℕ → Option Focus → List CheckedWish
 wish_with w None focus = []
@@ -96,11 +90,11 @@ wish_of all item focus = []
 
 abbrev pub checked_of : List Entry → Checked
 checked_of all = record {
-  metrics = flat_map (λ e. metric_of e.item) all;
-  constraints = flat_map (λ e. constraint_of e.item) all;
-  hypotheses = flat_map (λ e. hypothesis_of e.item) all;
+  metrics = flat_map (λ e. metric_of e.line e.item) all;
+  constraints = flat_map (λ e. constraint_of e.line e.item) all;
+  hypotheses = flat_map (λ e. hypothesis_of e.line e.item) all;
   search = search_in None all;
-  phases = flat_map (λ e. phase_of e.item) all;
+  phases = flat_map (λ e. phase_of e.line e.item) all;
   wishes = flat_map (λ e. wish_of all e.item e.focus) all;
 }
 
@@ -113,6 +107,11 @@ IsAnswer t shipped items (Ok checked) =
 IsAnswer t shipped items (Err NoMemory) = Unit {0}
 IsAnswer t shipped items (Err (At line kind)) =
     (es : List Entry) × AreEntries t (spots shipped items) es × (first_fault es ≡ Some (line, kind))
+
+-- unless memory is wanting, there is one answer
+abbrev pub OneAnswer : Type 0
+OneAnswer = (t : Resources) (shipped items : List Item) (a b : Result Checked CheckFault) →
+    IsAnswer t shipped items a → IsAnswer t shipped items b → (a ≡ Err NoMemory → ⊥) → (b ≡ Err NoMemory → ⊥) → a ≡ b
 
 -- the names of the items that are a `sync`
 abbrev pub sync_of : Item → List (List ℕ)

@@ -3,3 +3,4 @@ pub mod Names
 pub mod Statements
 pub mod Rules
 pub mod Checking
+pub mod Sound

@@ -12,21 +12,21 @@ use mdl_ast::{Constraint, Hypothesis, Item, Metric, PhaseDecl, SearchDecl};
 use pn_types::{Focus, NoMemory, Seq};
 use std::alloc::Global;
 
-fn add_metric(alloc: Global, metrics: &mut Vec<Metric>, item: &Item) -> Result<(), NoMemory>
-    ensures { OnOk result (metrics.new.items ≡ metrics.old.items ++ metric_of item.now) }
+fn add_metric(alloc: Global, metrics: &mut Vec<Metric>, entry: &Entry<'_>) -> Result<(), NoMemory>
+    ensures { OnOk result (metrics.new.items ≡ metrics.old.items ++ metric_of entry.now.line entry.now.item) }
 {
-    if let Item::Metric(metric) = item {
-        metrics.push(copies::metric(alloc, metric)?)?;
+    if let Item::Metric(metric) = entry.item() {
+        metrics.push(copies::metric(alloc, entry.line(), metric)?)?;
     }
     Ok(())
 }
 
 fn metrics(alloc: Global, all: &[Entry<'_>]) -> Result<Seq<Metric>, NoMemory>
-    ensures { IfOk result (λ metrics. metrics ≡ flat_map (λ e. metric_of e.item) all.now) }
+    ensures { IfOk result (λ metrics. metrics ≡ flat_map (λ e. metric_of e.line e.item) all.now) }
 {
     let mut metrics = Vec::new(alloc);
     for entry in all {
-        add_metric(alloc, &mut metrics, entry.item())?;
+        add_metric(alloc, &mut metrics, entry)?;
     }
     Ok(Seq::from_vec(metrics))
 }
@@ -34,22 +34,22 @@ fn metrics(alloc: Global, all: &[Entry<'_>]) -> Result<Seq<Metric>, NoMemory>
 fn add_constraint(
     alloc: Global,
     constraints: &mut Vec<Constraint>,
-    item: &Item,
+    entry: &Entry<'_>,
 ) -> Result<(), NoMemory>
-    ensures { OnOk result (constraints.new.items ≡ constraints.old.items ++ constraint_of item.now) }
+    ensures { OnOk result (constraints.new.items ≡ constraints.old.items ++ constraint_of entry.now.line entry.now.item) }
 {
-    if let Item::Constraint(constraint) = item {
-        constraints.push(copies::constraint(alloc, constraint)?)?;
+    if let Item::Constraint(constraint) = entry.item() {
+        constraints.push(copies::constraint(alloc, entry.line(), constraint)?)?;
     }
     Ok(())
 }
 
 fn constraints(alloc: Global, all: &[Entry<'_>]) -> Result<Seq<Constraint>, NoMemory>
-    ensures { IfOk result (λ constraints. constraints ≡ flat_map (λ e. constraint_of e.item) all.now) }
+    ensures { IfOk result (λ constraints. constraints ≡ flat_map (λ e. constraint_of e.line e.item) all.now) }
 {
     let mut constraints = Vec::new(alloc);
     for entry in all {
-        add_constraint(alloc, &mut constraints, entry.item())?;
+        add_constraint(alloc, &mut constraints, entry)?;
     }
     Ok(Seq::from_vec(constraints))
 }
@@ -57,51 +57,54 @@ fn constraints(alloc: Global, all: &[Entry<'_>]) -> Result<Seq<Constraint>, NoMe
 fn add_hypothesis(
     alloc: Global,
     hypotheses: &mut Vec<Hypothesis>,
-    item: &Item,
+    entry: &Entry<'_>,
 ) -> Result<(), NoMemory>
-    ensures { OnOk result (hypotheses.new.items ≡ hypotheses.old.items ++ hypothesis_of item.now) }
+    ensures { OnOk result (hypotheses.new.items ≡ hypotheses.old.items ++ hypothesis_of entry.now.line entry.now.item) }
 {
-    if let Item::Hypothesis(hypothesis) = item {
-        hypotheses.push(copies::hypothesis(alloc, hypothesis)?)?;
+    if let Item::Hypothesis(hypothesis) = entry.item() {
+        hypotheses.push(copies::hypothesis(alloc, entry.line(), hypothesis)?)?;
     }
     Ok(())
 }
 
 fn hypotheses(alloc: Global, all: &[Entry<'_>]) -> Result<Seq<Hypothesis>, NoMemory>
-    ensures { IfOk result (λ hypotheses. hypotheses ≡ flat_map (λ e. hypothesis_of e.item) all.now) }
+    ensures { IfOk result (λ hypotheses. hypotheses ≡ flat_map (λ e. hypothesis_of e.line e.item) all.now) }
 {
     let mut hypotheses = Vec::new(alloc);
     for entry in all {
-        add_hypothesis(alloc, &mut hypotheses, entry.item())?;
+        add_hypothesis(alloc, &mut hypotheses, entry)?;
     }
     Ok(Seq::from_vec(hypotheses))
 }
 
-fn add_phase(alloc: Global, phases: &mut Vec<PhaseDecl>, item: &Item) -> Result<(), NoMemory>
-    ensures { OnOk result (phases.new.items ≡ phases.old.items ++ phase_of item.now) }
+fn add_phase(alloc: Global, phases: &mut Vec<PhaseDecl>, entry: &Entry<'_>) -> Result<(), NoMemory>
+    ensures { OnOk result (phases.new.items ≡ phases.old.items ++ phase_of entry.now.line entry.now.item) }
 {
-    if let Item::Phase(phase) = item {
-        phases.push(copies::phase(alloc, phase)?)?;
+    if let Item::Phase(phase) = entry.item() {
+        phases.push(copies::phase(alloc, entry.line(), phase)?)?;
     }
     Ok(())
 }
 
 fn phases(alloc: Global, all: &[Entry<'_>]) -> Result<Seq<PhaseDecl>, NoMemory>
-    ensures { IfOk result (λ phases. phases ≡ flat_map (λ e. phase_of e.item) all.now) }
+    ensures { IfOk result (λ phases. phases ≡ flat_map (λ e. phase_of e.line e.item) all.now) }
 {
     let mut phases = Vec::new(alloc);
     for entry in all {
-        add_phase(alloc, &mut phases, entry.item())?;
+        add_phase(alloc, &mut phases, entry)?;
     }
     Ok(Seq::from_vec(phases))
 }
 
 /// The search that an item is, or else the one before.
-fn search_behind(before: Option<SearchDecl>, item: &Item) -> Option<SearchDecl>
-    ensures { result ≡ search_behind before item.now }
+fn search_behind(before: Option<SearchDecl>, entry: &Entry<'_>) -> Option<SearchDecl>
+    ensures { result ≡ search_behind before entry.now.line entry.now.item }
 {
-    match item {
-        Item::Search(search) => Some(*search),
+    match entry.item() {
+        Item::Search(search) => Some(SearchDecl {
+            line: entry.line(),
+            ..*search
+        }),
         _ => before,
     }
 }
@@ -111,7 +114,7 @@ fn search(all: &[Entry<'_>]) -> Option<SearchDecl>
 {
     let mut search = None;
     for entry in all {
-        search = search_behind(search, entry.item());
+        search = search_behind(search, entry);
     }
     search
 }

@@ -1,19 +1,21 @@
 //! The check.
 
 ghost use Rattle.std.specs.Prelude.{◌≡◌, ◌<◌, ◌^◌, ◌++◌, IfOk, OnOk, length};
+ghost use Rattle.std.specs.List.{AllByRecursion};
+ghost use Rattle.mdl_ast.specs.Small.{HasSmall};
+ghost use Rattle.mdl_check.specs.Sound.{IsSound};
 ghost use Rattle.mdl_check.specs.Spots.{spots};
-ghost use Rattle.mdl_check.specs.Checking.{IsAnswer, sync_of, prefixes_of};
+ghost use Rattle.mdl_check.specs.Checking.{IsAnswer, OneAnswer, sync_of, prefixes_of};
 
 use crate::ancestors::parents_of;
 use crate::checked::Checked;
 use crate::collect::checked;
-use crate::copies::text;
 use crate::fault::CheckFault;
 use crate::judge::first_fault;
 use crate::places::{entries, spots};
 use mdl_ast::{Conf, Item};
 use pn_types::{NoMemory, Text};
-use resource_tree::Tree;
+use resource_tree::{Tree, one_reading};
 use std::alloc::Global;
 
 /// Checks a configuration against the tree of a program's resources, where `include metrics` stands for the shipped
@@ -40,6 +42,8 @@ pub fn check(alloc: Global, conf: &Conf, shipped: &Conf, tree: &Tree) -> Result<
     ensures answer { IsAnswer tree.now shipped.now.items conf.now.items result }
     // A number of 32 bits counts the metrics.
     ensures few { IfOk result (λ checked. length checked.metrics < 2 ^ 32) }
+    // What is parsed or shipped has small statements.
+    ensures sound { AllByRecursion HasSmall shipped.now.items → AllByRecursion HasSmall conf.now.items → IfOk result IsSound }
 {
     let places = spots(alloc, shipped.items.as_slice(), conf.items.as_slice())?;
     let all = entries(alloc, tree, &places)?;
@@ -50,11 +54,18 @@ pub fn check(alloc: Global, conf: &Conf, shipped: &Conf, tree: &Tree) -> Result<
     Ok(checked(alloc, &all)?)
 }
 
+/// The check of a configuration has one answer, unless memory is wanting.
+pub fn one_answer()
+    ensures { OneAnswer }
+{
+    one_reading();
+}
+
 fn add_prefix(alloc: Global, prefixes: &mut Vec<Text>, item: &Item) -> Result<(), NoMemory>
     ensures { OnOk result (prefixes.new.items ≡ prefixes.old.items ++ sync_of item.now) }
 {
     if let Item::Sync(sync) = item {
-        prefixes.push(text(alloc, &sync.name)?)?;
+        prefixes.push(sync.name.copy(alloc)?)?;
     }
     Ok(())
 }

@@ -9,19 +9,12 @@ use mdl_ast::{
 use pn_types::{NoMemory, Seq, Text};
 use std::alloc::Global;
 
-/// A copy of a text.
-pub(crate) fn text(alloc: Global, text: &Text) -> Result<Text, NoMemory>
-    ensures { IfOk result (λ copy. copy ≡ text.now) }
-{
-    Ok(Text::from_vec(Vec::from_slice(alloc, text.bytes())?))
-}
-
 fn texts(alloc: Global, texts: &Seq<Text>) -> Result<Seq<Text>, NoMemory>
     ensures { IfOk result (λ copy. copy ≡ texts.now) }
 {
     let mut copies = Vec::new(alloc);
     for one in texts.as_slice() {
-        copies.push(text(alloc, one)?)?;
+        copies.push(one.copy(alloc)?)?;
     }
     Ok(Seq::from_vec(copies))
 }
@@ -30,7 +23,7 @@ fn variable(alloc: Global, variable: &VarName) -> Result<VarName, NoMemory>
     ensures { IfOk result (λ copy. copy ≡ variable.now) }
 {
     match variable {
-        VarName::Named(name) => Ok(VarName::Named(text(alloc, name)?)),
+        VarName::Named(name) => Ok(VarName::Named(name.copy(alloc)?)),
         VarName::TheMetric => Ok(VarName::TheMetric),
     }
 }
@@ -148,14 +141,14 @@ fn blocks(alloc: Global, blocks: &Seq<Block>) -> Result<Seq<Block>, NoMemory>
     Ok(Seq::from_vec(copies))
 }
 
-/// A copy of a metric.
-pub(crate) fn metric(alloc: Global, metric: &Metric) -> Result<Metric, NoMemory>
-    ensures { IfOk result (λ copy. copy ≡ metric.now) }
+/// A copy of a metric at this line.
+pub(crate) fn metric(alloc: Global, line: u32, metric: &Metric) -> Result<Metric, NoMemory>
+    ensures { IfOk result (λ copy. copy ≡ record metric.now { line = line }) }
 {
     Ok(Metric {
-        line: metric.line,
-        name: text(alloc, &metric.name)?,
-        units: text(alloc, &metric.units)?,
+        line,
+        name: metric.name.copy(alloc)?,
+        units: metric.units.copy(alloc)?,
         constraints: texts(alloc, &metric.constraints)?,
         timer: metric.timer,
         initially: metric.initially,
@@ -163,14 +156,18 @@ pub(crate) fn metric(alloc: Global, metric: &Metric) -> Result<Metric, NoMemory>
     })
 }
 
-/// A copy of a constraint.
-pub(crate) fn constraint(alloc: Global, constraint: &Constraint) -> Result<Constraint, NoMemory>
-    ensures { IfOk result (λ copy. copy ≡ constraint.now) }
+/// A copy of a constraint at this line.
+pub(crate) fn constraint(
+    alloc: Global,
+    line: u32,
+    constraint: &Constraint,
+) -> Result<Constraint, NoMemory>
+    ensures { IfOk result (λ copy. copy ≡ record constraint.now { line = line }) }
 {
     Ok(Constraint {
-        line: constraint.line,
-        name: text(alloc, &constraint.name)?,
-        path: text(alloc, &constraint.path)?,
+        line,
+        name: constraint.name.copy(alloc)?,
+        path: constraint.path.copy(alloc)?,
         replace: constraint.replace,
         initially: constraint.initially,
         blocks: blocks(alloc, &constraint.blocks)?,
@@ -181,32 +178,36 @@ fn parent(alloc: Global, parent: &Option<Text>) -> Result<Option<Text>, NoMemory
     ensures { IfOk result (λ copy. copy ≡ parent.now) }
 {
     match parent {
-        Some(name) => Ok(Some(text(alloc, name)?)),
+        Some(name) => Ok(Some(name.copy(alloc)?)),
         None => Ok(None),
     }
 }
 
-/// A copy of a hypothesis.
-pub(crate) fn hypothesis(alloc: Global, hypothesis: &Hypothesis) -> Result<Hypothesis, NoMemory>
-    ensures { IfOk result (λ copy. copy ≡ hypothesis.now) }
+/// A copy of a hypothesis at this line.
+pub(crate) fn hypothesis(
+    alloc: Global,
+    line: u32,
+    hypothesis: &Hypothesis,
+) -> Result<Hypothesis, NoMemory>
+    ensures { IfOk result (λ copy. copy ≡ record hypothesis.now { line = line }) }
 {
     Ok(Hypothesis {
-        line: hypothesis.line,
-        name: text(alloc, &hypothesis.name)?,
+        line,
+        name: hypothesis.name.copy(alloc)?,
         parent: parent(alloc, &hypothesis.parent)?,
-        metric: text(alloc, &hypothesis.metric)?,
+        metric: hypothesis.metric.copy(alloc)?,
         threshold: hypothesis.threshold,
         axes: texts(alloc, &hypothesis.axes)?,
     })
 }
 
-/// A copy of a phase.
-pub(crate) fn phase(alloc: Global, phase: &PhaseDecl) -> Result<PhaseDecl, NoMemory>
-    ensures { IfOk result (λ copy. copy ≡ phase.now) }
+/// A copy of a phase at this line.
+pub(crate) fn phase(alloc: Global, line: u32, phase: &PhaseDecl) -> Result<PhaseDecl, NoMemory>
+    ensures { IfOk result (λ copy. copy ≡ record phase.now { line = line }) }
 {
     Ok(PhaseDecl {
-        line: phase.line,
-        name: text(alloc, &phase.name)?,
+        line,
+        name: phase.name.copy(alloc)?,
         at: phase.at,
     })
 }

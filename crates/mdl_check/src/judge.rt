@@ -7,7 +7,8 @@ ghost use Rattle.mdl_check.specs.Checking.{first_fault};
 use crate::ancestors::is_cyclic;
 use crate::entry::Entry;
 use crate::fault::CheckKind;
-use crate::rules::{is_astray, is_repeated, is_unknown, is_wrong};
+use crate::repeated::is_repeated;
+use crate::wrong::{is_astray, is_unknown, is_wrong};
 
 /// What is wrong with an item, given all items, the places of their parents, and the items before this one.
 fn fault_of(

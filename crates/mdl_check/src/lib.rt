@@ -11,12 +11,11 @@ mod fault;
 mod judge;
 mod names;
 mod places;
-mod rules;
+mod repeated;
 mod same;
-#[cfg(test)]
-mod tests;
 mod uses;
+mod wrong;
 
 pub use checked::{Checked, CheckedWish};
-pub use configuration::{check, prefixes};
+pub use configuration::{check, one_answer, prefixes};
 pub use fault::{CheckFault, CheckKind};

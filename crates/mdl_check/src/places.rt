@@ -2,7 +2,7 @@
 
 ghost use Rattle.std.specs.Prelude.{◌≡◌, ◌++◌, ◌∷◌, [], IfOk, OnOk, if◌then◌else◌};
 ghost use Rattle.mdl_check.specs.Spots.{spot, line_of, is_hypothesis, is_taken, included, spots_of, spots};
-ghost use Rattle.mdl_check.specs.Checking.{Selects, HasFocus, AreEntries};
+ghost use Rattle.mdl_check.specs.Checking.{HasFocus, AreEntries};
 
 use crate::entry::{Entry, Spot};
 use mdl_ast::{Include, Item};
@@ -92,22 +92,12 @@ pub(crate) fn spots<'a>(
     Ok(all)
 }
 
-/// What a text selects in the tree.
-fn selected(tree: &Tree, text: &[u8]) -> Option<Focus>
-    ensures { Selects tree.now text.now result }
-{
-    match tree.focus(text) {
-        Ok(focus) => Some(focus),
-        Err(_) => None,
-    }
-}
-
 /// The focus of a wish.
 fn focus_of(tree: &Tree, item: &Item) -> Option<Focus>
     ensures { HasFocus tree.now item.now result }
 {
     match item {
-        Item::Wish(wish) => selected(tree, wish.focus.bytes()),
+        Item::Wish(wish) => tree.selected(wish.focus.bytes()),
         _ => None,
     }
 }

@@ -14,6 +14,9 @@ pub mod AllItems
 pub mod NameLoop
 pub mod Exact
 pub mod Unique
+pub mod OneFault
+pub mod SmallItems
+pub mod ShippedSmall
 pub mod Chains
 pub mod PrintLemmas
 pub mod BlockTexts

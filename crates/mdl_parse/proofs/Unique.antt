@@ -23,15 +23,15 @@ tokens_are_words text (token ∷ tokens) h =
     let parts = and_parts (is_word (word_of text token)) (list_all is_word (map (word_of text) tokens)) h in
     (parts.0, tokens_are_words text tokens parts.1)
 
-text_words : (text : List ℕ) → AreWords (text_spots text)
+pub text_words : (text : List ℕ) → AreWords (text_spots text)
 text_words text = tokens_are_words text (tokens_of text).tokens (words_of-are_words text)
 
-words_behind : (a b : List Spot) → AreWords (a ++ b) → AreWords b
+pub words_behind : (a b : List Spot) → AreWords (a ++ b) → AreWords b
 words_behind [] b h = h
 words_behind (x ∷ a) b h = words_behind a b h.1
 
 -- no configuration can have a word that can't follow
-never_both : (why : Refusal) (spots : List Spot) → CantFollow why spots → Begin most_conditions spots → ⊥
+pub never_both : (why : Refusal) (spots : List Spot) → CantFollow why spots → Begin most_conditions spots → ⊥
 never_both Unexpected spots cant b = cant most_conditions b
 never_both TooDeep spots cant b = cant.0 b
 

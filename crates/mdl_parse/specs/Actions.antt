@@ -1,4 +1,4 @@
--- What a statement does.
+-- For proofs alone: what a statement does.
 use Rattle.std.specs.Prelude.{Bool, true, false}
 use Rattle.mdl_ast.specs.declared.action.VarName.{VarName}
 use Rattle.mdl_ast.specs.declared.action.Action.{Action}

@@ -1,4 +1,4 @@
--- Where reading stops: at a word, at something that is no word, or at the end.
+-- For proofs alone: where reading stops: at a word, at something that is no word, or at the end.
 use Rattle.std.specs.Prelude.{Option, Some, None, List, [], ◌∷◌}
 use Rattle.pn_text.specs.Scans.{Ending, AtEnd, AtFault, fault_place}
 use Rattle.pn_text.specs.declared.token.LexFault.{LexFault}

@@ -1,4 +1,4 @@
--- What a function of the parser answers.
+-- For proofs alone: what a function of the parser answers.
 use Rattle.std.specs.Prelude.{◌≡◌, ℕ, Option, Some, None, Result, Ok, Err, List, [], ◌∷◌, map, length}
 use Rattle.pn_text.specs.Words.{Word, NameWord, NumberWord, QuotedWord, FocusPath, DollarFocus, DollarAll, DollarMetric, DollarValue, DollarArg, SignWord}
 use Rattle.pn_text.specs.Scans.{Scan, AreSpans}

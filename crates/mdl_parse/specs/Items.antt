@@ -1,4 +1,4 @@
--- Readers of the items of a configuration.
+-- For proofs alone: readers of the items of a configuration.
 use Rattle.std.specs.Prelude.{ℕ, Bool, List, [], Option, Ok, codes, if◌then◌else◌}
 use Rattle.pn_text.specs.declared.token.Sign.TheVariants.{OpenBrace, CloseBrace, Semicolon}
 use Rattle.mdl_ast.specs.declared.items.Item.{Item}

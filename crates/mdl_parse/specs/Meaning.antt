@@ -70,3 +70,18 @@ pub data IsFault (text : List ℕ) : ℕ → ℕ → SyntaxKind → Type 0 where
 abbrev pub Faults : List ℕ → ParseFault → Type 0
 Faults text NoMemory = Unit {0}
 Faults text (At line col kind) = IsFault text line col kind
+
+-- ---- a text has one meaning
+
+-- it spells one configuration at most
+abbrev pub OneConf : Type 0
+OneConf = (text : List ℕ) (c d : Conf) → IsConf text c → IsConf text d → c ≡ d
+
+-- it has one fault at most, at one place
+abbrev pub OneFault : Type 0
+OneFault = (text : List ℕ) (line col other_line other_col : ℕ) (kind other : SyntaxKind) →
+    IsFault text line col kind → IsFault text other_line other_col other → (line ≡ other_line) × (col ≡ other_col) × (kind ≡ other)
+
+-- what spells a configuration has no fault
+abbrev pub ConfOrFault : Type 0
+ConfOrFault = (text : List ℕ) (c : Conf) (line col : ℕ) (kind : SyntaxKind) → IsConf text c → IsFault text line col kind → ⊥

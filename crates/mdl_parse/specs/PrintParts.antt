@@ -1,4 +1,4 @@
--- The canonical text, part by part: as it is written, and not as it is spelled.
+-- For proofs alone: the canonical text, part by part: as it is written, and not as it is spelled.
 use Rattle.std.specs.Prelude.{ℕ, ◌+◌, Option, Some, None, List, [], ◌∷◌, ◌++◌, codes, if◌then◌else◌}
 use Rattle.std.specs.Fmt.{decimal}
 use Rattle.mdl_ast.specs.declared.action.Statement.{Statement}

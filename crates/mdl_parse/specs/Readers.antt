@@ -1,4 +1,4 @@
--- Readers of single words.
+-- For proofs alone: readers of single words.
 use Rattle.std.specs.Prelude.{ℕ, Bool, List, Ok}
 use Rattle.pn_types.specs.declared.compare.Cmp.{Cmp}
 use Rattle.pn_text.specs.declared.token.Sign.{Sign}

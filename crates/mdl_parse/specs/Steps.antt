@@ -1,4 +1,4 @@
--- Reading words from left to right: what was read with the words that are left, or the first that doesn't fit.
+-- For proofs alone: reading words from left to right: what was read with the words that are left, or the first that doesn't fit.
 use Rattle.std.specs.Prelude.{ℕ, zero, suc, List, [], ◌∷◌, length, Option, Some, None, Result, Ok, Err, Bool, false, if◌then◌else◌}
 use Rattle.std.specs.Option.{option_and_then}
 use Rattle.pn_text.specs.Words.{Word}

@@ -18,8 +18,6 @@ mod seen;
 mod shipped_parts;
 mod shipping;
 mod statements;
-#[cfg(test)]
-mod tests;
 mod words;
 
 pub use fault::{ParseFault, SyntaxKind};

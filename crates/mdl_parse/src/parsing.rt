@@ -1,9 +1,9 @@
 //! From a text to its configuration.
 
-ghost use Rattle.std.specs.Prelude.{◌≡◌, ◌+◌, ◌<◌, ◌^◌, length, IfOk, IfErr, List, ℕ};
-ghost use Rattle.mdl_parse.specs.Meaning.{IsConf, IsFault, Faults};
-ghost use Rattle.mdl_ast.specs.declared.items.Conf.{Conf};
-ghost use Rattle.mdl_parse.specs.declared.fault.SyntaxKind.{SyntaxKind};
+ghost use Rattle.std.specs.Prelude.{◌+◌, ◌<◌, ◌^◌, length, IfOk, IfErr};
+ghost use Rattle.std.specs.List.{AllByRecursion};
+ghost use Rattle.mdl_ast.specs.Small.{HasSmall};
+ghost use Rattle.mdl_parse.specs.Meaning.{IsConf, Faults, OneConf, OneFault, ConfOrFault};
 
 use crate::fault::ParseFault;
 use crate::refusal::Stop;
@@ -19,6 +19,7 @@ pub fn parse(alloc: Global, text: &[u8]) -> Result<Conf, ParseFault>
     requires { length text.now + 1 < 2 ^ 32 }
     ensures conf { IfOk result (λ conf. IsConf text.now conf) }
     ensures fault { IfErr result (λ fault. Faults text.now fault) }
+    ensures small { IfOk result (λ conf. AllByRecursion HasSmall conf.items) }
 {
     let mut words = Words::new(text);
     match words.items(alloc, MAX_CONDITIONS) {
@@ -31,8 +32,9 @@ pub fn parse(alloc: Global, text: &[u8]) -> Result<Conf, ParseFault>
     }
 }
 
-/// A text spells one configuration, or it has a fault.
+/// A text spells one configuration, or it has one fault.
 pub fn one_meaning()
-    ensures conf { (text : List ℕ) (c d : Conf) → IsConf text c → IsConf text d → c ≡ d }
-    ensures fault { (text : List ℕ) (c : Conf) (line col : ℕ) (kind : SyntaxKind) → IsConf text c → IsFault text line col kind → ⊥ }
+    ensures conf { OneConf }
+    ensures fault { OneFault }
+    ensures either { ConfOrFault }
 {}

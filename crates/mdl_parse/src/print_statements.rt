@@ -42,14 +42,7 @@ fn add_left(alloc: Global, out: &mut Vec<u8>, left: &LeftName) -> Result<(), NoM
 fn add_cmp(out: &mut Vec<u8>, cmp: Cmp) -> Result<(), NoMemory>
     ensures { OnOk result (out.new.items ≡ out.old.items ++ sign_text (cmp_sign cmp)) }
 {
-    match cmp {
-        Cmp::Eq => out.extend_from_slice(b"=="),
-        Cmp::Ne => out.extend_from_slice(b"!="),
-        Cmp::Lt => out.extend_from_slice(b"<"),
-        Cmp::Le => out.extend_from_slice(b"<="),
-        Cmp::Gt => out.extend_from_slice(b">"),
-        Cmp::Ge => out.extend_from_slice(b">="),
-    }
+    out.extend_from_slice(cmp.text())
 }
 
 /// Adds the right side of a condition.

@@ -1,6 +1,8 @@
 //! The shipped configuration.
 
 ghost use Rattle.std.specs.Prelude.{◌≡◌, ◌++◌, IfOk, OnOk};
+ghost use Rattle.std.specs.List.{AllByRecursion};
+ghost use Rattle.mdl_ast.specs.Small.{HasSmall};
 ghost use Rattle.mdl_parse.specs.Shipped.{in_proc, proc_entries, proc_calls, proc_time, on_object, procedure_calls, calls_made, cpu_inclusive, cpu, sync_wait, io_wait, small_io, cpu_bound, excessive_sync, excessive_io, small_operations, lock_objects, constraint_items, first_metrics, waiting_metrics, hypothesis_items, shipped_conf};
 
 use crate::shipped_parts::{
@@ -250,7 +252,8 @@ fn add_hypotheses(alloc: Global, items: &mut Vec<Item>) -> Result<(), NoMemory>
 /// The shipped configuration: metrics with their constraints, and then hypotheses. Every line is 0.
 #[tactic(auto, unfolding(crate::specs::Shipped::shipped_conf, crate::specs::Shipped::lock_objects))]
 pub fn shipped(alloc: Global) -> Result<Conf, NoMemory>
-    ensures { IfOk result (λ conf. conf ≡ shipped_conf) }
+    ensures conf { IfOk result (λ conf. conf ≡ shipped_conf) }
+    ensures small { IfOk result (λ conf. AllByRecursion HasSmall conf.items) }
 {
     let name = text(alloc, b"lock_")?;
     let mut items = Vec::new(alloc);

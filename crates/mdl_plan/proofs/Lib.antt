@@ -9,3 +9,4 @@ mod Numbered
 mod PointStmts
 mod Outcomes
 pub mod Limits
+pub mod FittingStmts

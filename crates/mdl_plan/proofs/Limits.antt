@@ -1,7 +1,8 @@
 -- A plan has no more sites and statements than it may have.
-use Rattle.std.proofs.Common.{◌≡◌, zero, suc, ◌≤◌, cond, ltb, Bool, true, false, Option, Some, None, Result, Ok, Err, List, [], ◌∷◌, length, refl, subst, arith}
-use Rattle.std.specs.List.{find, All}
-use Rattle.std.proofs.lemmas.Bool.{ltb-false}
+use Rattle.std.proofs.Common.{◌≡◌, ℕ, zero, suc, ◌≤◌, ◌<◌, ◌==◌, ◌||◌, cond, ltb, Bool, true, false, Option, Some, None, Result, Ok, Err, IfOk, List, [], ◌∷◌, length, map, refl, sym, ap, subst, arith, eq-eqb}
+use Rattle.std.specs.List.{find, list_any, All, AllByRecursion}
+use Rattle.std.proofs.lemmas.Bool.{ltb-false, ltb-true}
+use Rattle.std.proofs.lemmas.List.{length-append, length-map}
 use Rattle.pn_types.specs.declared.code.Point.{Point}
 use Rattle.pn_types.specs.declared.code.Proc.{Proc}
 use Rattle.pn_types.specs.declared.focus.Focus.{Focus}
@@ -11,8 +12,10 @@ use Rattle.pn_types.specs.declared.plan.Var.{Var}
 use Rattle.mdl_ast.specs.declared.metric.Metric.{Metric}
 use Rattle.mdl_ast.specs.declared.metric.Constraint.{Constraint}
 use Rattle.resource_tree.specs.Resources.{Resources}
-use Rattle.mdl_plan.specs.Active.{Active, active_of}
-use Rattle.mdl_plan.specs.Plans.{IsLimited, is_crowded, or_crowded, plan_with, plan_at, plan_of, sites_of, scene_of, vars_of}
+use Rattle.resource_tree.specs.Foci.{part}
+use Rattle.mdl_plan.specs.Active.{Active}
+use Rattle.mdl_plan.specs.Pieces.{counters, counting}
+use Rattle.mdl_plan.specs.Plans.{Answers, Ascend, IsLimited, IsPlanOver, IsSiteOf, Scene, has_stmts, is_crowded, or_crowded, plan_with, plan_at, site_at, sites_of, scene_of, stmts_at, counter_var, vars_of}
 use Rattle.mdl_plan.specs.declared.fault.PlanFault.{PlanFault}
 use Rattle.mdl_plan.specs.declared.fault.PlanFault.TheVariants.{TooManySites}
 
@@ -28,6 +31,17 @@ none_crowded (site ∷ sites) e k d h = go (is_crowded site) refl (none_crowded 
     go false f rest g zero d h = few_stmts site f
     go false f rest g (suc k) d h = rest g k d (omega arith)
 
+pub plan_is : (vars : List Var) (sites : List Site) (plan : Plan) → plan_with vars sites ≡ Ok plan → record { vars = vars; sites = sites } ≡ plan
+plan_is vars sites plan e = go (ltb 4096 (length sites)) (find is_crowded sites) e
+  where
+    same : {a b : Plan} → (let r : Result Plan PlanFault = Ok a in r) ≡ Ok b → a ≡ b
+    same f = cc
+
+    go : (b : Bool) (o : Option Site) → cond b (Err (TooManySites (length sites))) (or_crowded vars sites o) ≡ Ok plan → record { vars = vars; sites = sites } ≡ plan
+    go true o h = absurd cc
+    go false (Some site) h = absurd cc
+    go false None h = same h
+
 plan_limits : (vars : List Var) (sites : List Site) (plan : Plan) → plan_with vars sites ≡ Ok plan → IsLimited plan
 plan_limits vars sites plan e = go (ltb 4096 (length sites)) refl (find is_crowded sites) refl e
   where
@@ -39,10 +53,66 @@ plan_limits vars sites plan e = go (ltb 4096 (length sites)) refl (find is_crowd
     go false f (Some site) g h = absurd cc
     go false f None g h = subst IsLimited (same h) (record { sites = omega (arith, ltb-false 4096 (length sites) f); stmts = none_crowded sites g })
 
--- the definition gives only such plans
-pub limited : (cs : List Constraint) (m : Metric) (f : Focus) (t : Resources) (procs : List Proc) (points : List Point) (plan : Plan) → plan_of cs m f t procs points ≡ Ok plan → IsLimited plan
-limited cs m f t procs points plan e = go (active_of cs m f) e
+-- ---- the sites
+
+or_true : (b c : Bool) → c ≡ true → b || c ≡ true
+or_true true c h = refl
+or_true false c h = h
+
+more_points : (p : Point) (points : List Point) (sites : List Site) → AllByRecursion (IsSiteOf points) sites → AllByRecursion (IsSiteOf (p ∷ points)) sites
+more_points p points [] h = tt
+more_points p points (site ∷ sites) h =
+    (record { at = or_true (p.at == site.at) (list_any (λ q. q.at == site.at) points) h.0.at; some = h.0.some }, more_points p points sites h.1)
+
+sites_of_points : (s : Scene) (points : List Point) → AllByRecursion (IsSiteOf points) (sites_of s points)
+sites_of_points s [] = tt
+sites_of_points s (p ∷ points) = go (has_stmts (site_at s p)) refl (more_points p points (sites_of s points) (sites_of_points s points))
   where
-    go : (r : Result Active PlanFault) → plan_at t f procs points m r ≡ Ok plan → IsLimited plan
-    go (Err fault) h = absurd cc
-    go (Ok a) h = plan_limits (vars_of m a) (sites_of (scene_of t f procs m a) points) plan h
+    go : (b : Bool) → has_stmts (site_at s p) ≡ b → AllByRecursion (IsSiteOf (p ∷ points)) (sites_of s points) → AllByRecursion (IsSiteOf (p ∷ points)) (cond b (site_at s p ∷ sites_of s points) (sites_of s points))
+    go true e rest = (record { at = ap (λ (b : Bool). b || list_any (λ q. q.at == p.at) points) (eq-eqb p.at p.at refl); some = ltb-true 0 (length (stmts_at s p)) e }, rest)
+    go false e rest = rest
+
+above_sites : (s : Scene) (n : ℕ) (points : List Point) → AllByRecursion (λ m. n < m) (map (λ p. p.at) points) → AllByRecursion (λ m. n < m) (map (λ x. x.at) (sites_of s points))
+above_sites s n [] h = tt
+above_sites s n (p ∷ points) h = go (has_stmts (site_at s p)) (above_sites s n points h.1)
+  where
+    go : (b : Bool) → AllByRecursion (λ m. n < m) (map (λ x. x.at) (sites_of s points)) → AllByRecursion (λ m. n < m) (map (λ x. x.at) (cond b (site_at s p ∷ sites_of s points) (sites_of s points)))
+    go true rest = (h.0, rest)
+    go false rest = rest
+
+ascending_sites : (s : Scene) (points : List Point) → Ascend (map (λ p. p.at) points) → Ascend (map (λ x. x.at) (sites_of s points))
+ascending_sites s [] h = tt
+ascending_sites s (p ∷ points) h = go (has_stmts (site_at s p)) (ascending_sites s points h.1)
+  where
+    go : (b : Bool) → Ascend (map (λ x. x.at) (sites_of s points)) → Ascend (map (λ x. x.at) (cond b (site_at s p ∷ sites_of s points) (sites_of s points)))
+    go true rest = (above_sites s p.at points h.0, rest)
+    go false rest = rest
+
+pub few_counting : (c : Option Constraint) → length (counting c) ≤ 1
+few_counting None = omega arith
+few_counting (Some c) = go c.replace
+  where
+    go : (b : Bool) → length (cond b [] (c ∷ [])) ≤ 1
+    go true = omega arith
+    go false = omega arith
+
+few_vars : (m : Metric) (a : Active) → length (vars_of m a) ≤ 3
+few_vars m a =
+    let both = length-append (counting a.code) (counting a.object) in
+    let mapped = length-map (counters a) counter_var in
+    omega (arith, few_counting a.code, few_counting a.object, both, mapped)
+
+over : (points : List Point) (s : Scene) (m : Metric) (a : Active) (plan : Plan) → plan_with (vars_of m a) (sites_of s points) ≡ Ok plan → IsPlanOver points plan
+over points s m a plan e =
+    let limited = plan_limits (vars_of m a) (sites_of s points) plan e in
+    subst (IsPlanOver points) (plan_is (vars_of m a) (sites_of s points) plan e) (record {
+      vars = (omega arith, few_vars m a);
+      limited = subst IsLimited (sym (plan_is (vars_of m a) (sites_of s points) plan e)) limited;
+      sites = sites_of_points s points;
+      ascend = ascending_sites s points;
+    })
+
+-- an answer that is a plan is within its limits
+pub answer_over : (t : Resources) (f : Focus) (procs : List Proc) (points : List Point) (m : Metric) (a : Active) (r : Result Plan PlanFault) → Answers r (plan_at t f procs points m (Ok a)) → IfOk r (IsPlanOver points)
+answer_over t f procs points m a (Ok plan) e = over points (scene_of (part t f) procs m a) m a plan e
+answer_over t f procs points m a (Err fault) e = tt

@@ -21,11 +21,11 @@ use Rattle.mdl_plan.proofs.PointStmts.{sites_are}
 
 -- the sites of a scene
 pub scene_sites : (s : Scene) (terms : Terms) (pieces : List Piece) (t : Table) (points : List Point)
-    → pieces ≡ busy s.pieces → IsTable (scope s.code s.focus s.procs) pieces t → terms ≡ s.terms → sites_with terms pieces t points ≡ sites_of s points
+    → pieces ≡ busy s.pieces → IsTable (scope s.selected s.procs) pieces t → terms ≡ s.terms → sites_with terms pieces t points ≡ sites_of s points
 scene_sites s terms pieces t points e h f =
     ap (λ (x : Terms). sites_with x pieces t points) f
     ∙ ap (λ (ps : List Piece). sites_with s.terms ps t points) e
-    ∙ sites_are s t (subst (λ (ps : List Piece). IsTable (scope s.code s.focus s.procs) ps t) e h) points
+    ∙ sites_are s t (subst (λ (ps : List Piece). IsTable (scope s.selected s.procs) ps t) e h) points
 
 pub many_sites : (terms : Terms) (pieces : List Piece) (t : Table) (points : List Point) → length (sites_with terms pieces t points) ≡ length (filter (has_numbers t) points)
 many_sites terms pieces t points = length-map (filter (has_numbers t) points) (site_with terms pieces t)

@@ -34,20 +34,20 @@ past [] q h = omega arith
 past (x ∷ procs) zero h = cc
 past (x ∷ procs) (suc q) h = omega (arith, past procs q h)
 
-module _ (s : Scene) (kind : EventKind) (lists : List (List ℕ)) (q : ℕ) (h : AreNumbers s.procs (is_chosen s.code s.focus kind) (busy s.pieces) lists) where
+module _ (s : Scene) (kind : EventKind) (lists : List (List ℕ)) (q : ℕ) (h : AreNumbers s.procs (is_chosen s.selected kind) (busy s.pieces) lists) where
   of_kind : (o : Option Proc) → slice_get s.procs q ≡ o → flat_map (by_number s) (get_or lists q []) ≡ stmts_for s q o kind
   of_kind None e = ap (flat_map (by_number s)) (get_or_past lists q [] (omega (arith, h.len, past s.procs q e)))
   of_kind (Some p) e =
       ap (flat_map (by_number s)) (h.at q p e)
-      ∙ numbered s.terms (is_chosen s.code s.focus kind q p) [] (busy s.pieces)
-      ∙ idle s.terms (is_chosen s.code s.focus kind q p) s.pieces
+      ∙ numbered s.terms (is_chosen s.selected kind q p) [] (busy s.pieces)
+      ∙ idle s.terms (is_chosen s.selected kind q p) s.pieces
 
   some_kind : (o : Option Proc) → slice_get s.procs q ≡ o → is_some_number (get_or lists q []) ≡ is_some_stmt (stmts_for s q o kind)
   some_kind None e = ap is_some_number (get_or_past lists q [] (omega (arith, h.len, past s.procs q e)))
   some_kind (Some p) e =
       ap is_some_number (h.at q p e)
-      ∙ counted s.terms (is_chosen s.code s.focus kind q p) 0 s.pieces
-      ∙ ap is_some_stmt (idle s.terms (is_chosen s.code s.focus kind q p) s.pieces)
+      ∙ counted s.terms (is_chosen s.selected kind q p) 0 s.pieces
+      ∙ ap is_some_stmt (idle s.terms (is_chosen s.selected kind q p) s.pieces)
 
   -- if the point is one of the kind
   if_kind : (b : Bool) → flat_map (by_number s) (numbers_if b lists q) ≡ flat_map (by_kind s q) (kind_if b kind)
@@ -80,7 +80,7 @@ either {b = b} {c = c} {d = d} {w = w} {x = x} {y = y} p q r s =
     ∙ ap (λ (k : Bool). w || (x || (k || d))) r
     ∙ ap (λ (k : Bool). w || (x || (y || k))) s
 
-module _ (s : Scene) (t : Table) (h : IsTable (scope s.code s.focus s.procs) (busy s.pieces) t) (p : Point) where
+module _ (s : Scene) (t : Table) (h : IsTable (scope s.selected s.procs) (busy s.pieces) t) (p : Point) where
   -- the statements of all kinds of the point
   four_kinds : stmts_at s p ≡ flat_map (by_kind s p.proc_no) (kind_if p.entry Entry)
       ++ (flat_map (by_kind s p.proc_no) (kind_if p.after After) ++ (flat_map (by_kind s p.proc_no) (kind_if p.ret Return) ++ flat_map (by_kind s p.proc_no) (kind_if p.call Call)))
@@ -129,6 +129,6 @@ selected {X = X} {Y = Y} f k test has same each (x ∷ xs) =
     by false true e h = cc
 
 -- the sites of a table are those of the plan
-pub sites_are : (s : Scene) (t : Table) → IsTable (scope s.code s.focus s.procs) (busy s.pieces) t → (points : List Point)
+pub sites_are : (s : Scene) (t : Table) → IsTable (scope s.selected s.procs) (busy s.pieces) t → (points : List Point)
     → sites_with s.terms (busy s.pieces) t points ≡ sites_of s points
 sites_are s t h points = selected (site_at s) (site_with s.terms (busy s.pieces) t) has_stmts (has_numbers t) (same_test s t h) (same_site s t h) points

@@ -5,10 +5,9 @@ use Rattle.std.specs.List.{list_any}
 use Rattle.std.specs.Option.{option_map_or}
 use Rattle.std.proofs.lemmas.List.Folds.{list_any-append}
 use Rattle.pn_types.specs.declared.code.Proc.{Proc}
-use Rattle.pn_types.specs.declared.focus.CodePart.{CodePart}
 use Rattle.mdl_ast.specs.declared.block.Set.{Set}
 use Rattle.mdl_ast.specs.declared.block.Set.TheVariants.{Names}
-use Rattle.resource_tree.specs.Resources.{ModuleNode, CodeNodes}
+use Rattle.resource_tree.specs.Resources.{ModuleNode}
 use Rattle.mdl_plan.specs.Choosing.{in_set}
 use Rattle.mdl_plan.specs.Selecting.{AreNames, Scope, Selects, numbers_named, scope}
 
@@ -38,11 +37,11 @@ selects_named procs ns (name ∷ names) h q p e =
     ∙ ap (λ (b : Bool). bytes_eq p.name name || b) (selects_named procs ns names h q p e)
 
 -- the procedures of a set of names
-pub selects_set : (code : CodeNodes) (part : CodePart) (procs : List Proc) (ns : List ModuleNode) (s : Scope) (set : Set) (names given : List (List ℕ)) (qs : List ℕ)
-    → AreNames procs ns → scope code part procs ≡ s → set ≡ Names names → given ≡ names → qs ≡ flat_map (λ name. numbers_named name ns) given
-    → Selects s.procs (in_set s.code s.focus set) qs
-selects_set code part procs ns s set names given qs h same is gave all =
-    subst (λ (t : Scope). Selects t.procs (in_set t.code t.focus set) qs) same
-    (subst (λ (x : Set). Selects procs (in_set code part x) qs) (sym is)
+pub selects_set : (selected : List ℕ) (procs : List Proc) (ns : List ModuleNode) (s : Scope) (set : Set) (names given : List (List ℕ)) (qs : List ℕ)
+    → AreNames procs ns → scope selected procs ≡ s → set ≡ Names names → given ≡ names → qs ≡ flat_map (λ name. numbers_named name ns) given
+    → Selects s.procs (in_set s.selected set) qs
+selects_set selected procs ns s set names given qs h same is gave all =
+    subst (λ (t : Scope). Selects t.procs (in_set t.selected set) qs) same
+    (subst (λ (x : Set). Selects procs (in_set selected x) qs) (sym is)
     (subst (Selects procs (λ q p. list_any (bytes_eq p.name) names)) (sym (all ∙ ap (flat_map (λ name. numbers_named name ns)) gave))
     (selects_named procs ns names h)))

@@ -9,13 +9,9 @@ use Rattle.pn_types.specs.declared.focus.CodePart.TheVariants.{All, Module, Proc
 use Rattle.pn_types.specs.declared.focus.Focus.{Focus}
 use Rattle.mdl_ast.specs.declared.metric.Metric.{Metric}
 use Rattle.mdl_ast.specs.declared.metric.Constraint.{Constraint}
+use Rattle.mdl_check.specs.Sound.{first_named}
 use Rattle.mdl_plan.specs.declared.fault.PlanFault.{PlanFault}
 use Rattle.mdl_plan.specs.declared.fault.PlanFault.TheVariants.{NoConstraint}
-
--- the first constraint of this name
-abbrev pub constraint_named : List Constraint → List ℕ → Option Constraint
-constraint_named [] name = None
-constraint_named (c ∷ cs) name = if bytes_eq name c.name then Some c else constraint_named cs name
 
 -- the constraint, if it is one of this hierarchy
 abbrev pub in_hierarchy : List ℕ → Option Constraint → Option Constraint
@@ -25,7 +21,7 @@ in_hierarchy path (Some c) = if bytes_eq path c.path then Some c else None
 -- of the constraints of these names the first of this hierarchy
 abbrev pub constraint_for : List Constraint → List ℕ → List (List ℕ) → Option Constraint
 constraint_for cs path [] = None
-constraint_for cs path (name ∷ names) = option_or (in_hierarchy path (constraint_named cs name)) (constraint_for cs path names)
+constraint_for cs path (name ∷ names) = option_or (in_hierarchy path (first_named cs name)) (constraint_for cs path names)
 
 -- the focus is below the root of the code
 abbrev pub is_below : CodePart → Bool

@@ -1,4 +1,4 @@
--- The pieces that have statements.
+-- For proofs alone: the pieces that have statements.
 use Rattle.std.specs.Prelude.{◌&&◌, nat_lt, Bool, if◌then◌else◌, List, length}
 use Rattle.std.specs.List.{filter}
 use Rattle.mdl_plan.specs.Pieces.{Piece, is_before, is_behind}

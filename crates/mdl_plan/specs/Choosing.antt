@@ -4,27 +4,17 @@ use Rattle.std.specs.List.{list_any}
 use Rattle.std.specs.Str.{bytes_eq}
 use Rattle.pn_types.specs.declared.code.Point.{Point}
 use Rattle.pn_types.specs.declared.code.Proc.{Proc}
-use Rattle.pn_types.specs.declared.focus.CodePart.{CodePart}
-use Rattle.pn_types.specs.declared.focus.CodePart.TheVariants as part
 use Rattle.mdl_ast.specs.declared.block.EventKind.{EventKind}
 use Rattle.mdl_ast.specs.declared.block.EventKind.TheVariants.{Entry, After, Return, Call}
 use Rattle.mdl_ast.specs.declared.block.Set.{Set}
 use Rattle.mdl_ast.specs.declared.block.Set.TheVariants.{Focus, All, Names}
-use Rattle.resource_tree.specs.Resources.{CodeNodes}
-use Rattle.resource_tree.specs.Foci.{procs_of_module}
 use Rattle.mdl_plan.specs.Pieces.{Piece}
 
--- procedure number q is one of this part of the code
-abbrev pub in_part : CodeNodes → CodePart → ℕ → Bool
-in_part c part.All q = true
-in_part c (part.Module m) q = list_any (λ p. p == q) (procs_of_module c m)
-in_part c (part.Procedure p) q = p == q
-
--- procedure number q, which is p, is one of a set
-abbrev pub in_set : CodeNodes → CodePart → Set → ℕ → Proc → Bool
-in_set c focus Focus q p = in_part c focus q
-in_set c focus All q p = true
-in_set c focus (Names names) q p = list_any (bytes_eq p.name) names
+-- procedure number q, which is p, is one of a set, where the focus selects the procedures of these numbers
+abbrev pub in_set : List ℕ → Set → ℕ → Proc → Bool
+in_set selected Focus q p = list_any (λ r. r == q) selected
+in_set selected All q p = true
+in_set selected (Names names) q p = list_any (bytes_eq p.name) names
 
 -- the same kind of points
 abbrev pub is_kind : EventKind → EventKind → Bool
@@ -35,8 +25,8 @@ is_kind Call Call = true
 is_kind a b = false
 
 -- the insertion is one for the points of this kind of the procedure
-abbrev pub is_chosen : CodeNodes → CodePart → EventKind → ℕ → Proc → Piece → Bool
-is_chosen c focus kind q p piece = is_kind kind piece.insertion.kind && in_set c focus piece.set q p
+abbrev pub is_chosen : List ℕ → EventKind → ℕ → Proc → Piece → Bool
+is_chosen selected kind q p piece = is_kind kind piece.insertion.kind && in_set selected piece.set q p
 
 abbrev pub kind_if : Bool → EventKind → List EventKind
 kind_if b kind = if b then kind ∷ [] else []

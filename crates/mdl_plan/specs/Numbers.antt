@@ -1,4 +1,4 @@
--- The numbers of the pieces that are chosen, by procedure.
+-- For proofs alone: the numbers of the pieces that are chosen, by procedure.
 use Rattle.std.specs.Prelude.{ℕ, ◌≡◌, ◌+◌, ◌-◌, ◌<◌, ◌==◌, Bool, false, if◌then◌else◌, Some, List, [], ◌∷◌, ◌++◌, length, slice_get, slice_index_or}
 use Rattle.std.specs.List.{list_any}
 use Rattle.std.specs.Option.{option_map_or}

@@ -1,9 +1,8 @@
 -- The plan of a metric at a focus.
-use Rattle.std.specs.Prelude.{ℕ, ◌≤◌, ◌≡◌, ◌%◌, ◌^◌, nat_lt, Bool, false, if◌then◌else◌, Option, Some, None, unwrap_or, Result, Ok, Err, List, [], ◌∷◌, length, map, flat_map, slice_get}
-use Rattle.std.specs.List.{filter, find, All}
+use Rattle.std.specs.Prelude.{ℕ, ◌≤◌, ◌<◌, ◌≡◌, ◌==◌, ◌%◌, ◌^◌, nat_lt, Bool, true, false, if◌then◌else◌, Option, Some, None, unwrap_or, Result, Ok, Err, List, [], ◌∷◌, length, map, flat_map, slice_get}
+use Rattle.std.specs.List.{filter, find, list_any, All, AllByRecursion}
 use Rattle.pn_types.specs.declared.code.Point.{Point}
 use Rattle.pn_types.specs.declared.code.Proc.{Proc}
-use Rattle.pn_types.specs.declared.focus.CodePart.{CodePart}
 use Rattle.pn_types.specs.declared.focus.Focus.{Focus}
 use Rattle.pn_types.specs.declared.plan.Plan.{Plan}
 use Rattle.pn_types.specs.declared.plan.Site.{Site}
@@ -12,8 +11,8 @@ use Rattle.pn_types.specs.declared.plan.Var.{Var}
 use Rattle.mdl_ast.specs.declared.block.EventKind.{EventKind}
 use Rattle.mdl_ast.specs.declared.metric.Metric.{Metric}
 use Rattle.mdl_ast.specs.declared.metric.Constraint.{Constraint}
-use Rattle.resource_tree.specs.Resources.{Resources, CodeNodes}
-use Rattle.resource_tree.specs.Foci.{address_of}
+use Rattle.resource_tree.specs.Resources.{Resources}
+use Rattle.resource_tree.specs.Foci.{Selection, part}
 use Rattle.mdl_plan.specs.Active.{Active, active_of}
 use Rattle.mdl_plan.specs.Pieces.{Piece, pieces, replacement, counters, base_initially}
 use Rattle.mdl_plan.specs.Statements.{Terms, stmts_of, guards}
@@ -39,10 +38,9 @@ vars_of m a = base_var m a ∷ map counter_var (counters a)
 
 -- ---- sites
 
--- what is planned: the part of the code that the focus selects, the insertions, and what their statements have in common
+-- what is planned: the procedures that the focus selects, the insertions, and what their statements have in common
 pub record Scene : Type 0 where
-  pub code : CodeNodes
-  pub focus : CodePart
+  pub selected : List ℕ
   pub procs : List Proc
   pub pieces : List Piece
   pub terms : Terms
@@ -50,7 +48,7 @@ pub record Scene : Type 0 where
 -- the statements for the points of a kind of procedure number q
 abbrev pub stmts_for : Scene → ℕ → Option Proc → EventKind → List Stmt
 stmts_for s q None kind = []
-stmts_for s q (Some p) kind = flat_map (stmts_of s.terms) (filter (is_chosen s.code s.focus kind q p) s.pieces)
+stmts_for s q (Some p) kind = flat_map (stmts_of s.terms) (filter (is_chosen s.selected kind q p) s.pieces)
 
 -- the statements at a point, kind by kind
 abbrev pub stmts_at : Scene → Point → List Stmt
@@ -87,16 +85,16 @@ plan_with vars sites =
     if nat_lt most_sites (length sites) then Err (TooManySites (length sites))
     else or_crowded vars sites (find is_crowded sites)
 
--- the terms of a metric's statements at a focus
-abbrev pub terms_of : Resources → Focus → Active → Terms
-terms_of t f a = record { guards = guards 1 (counters a); value = unwrap_or (address_of t.objects f.object) 0 % 2 ^ 32 }
+-- what a metric's statements have in common where the focus selects this
+abbrev pub terms_of : Selection → Active → Terms
+terms_of s a = record { guards = guards 1 (counters a); value = unwrap_or s.object 0 % 2 ^ 32 }
 
-abbrev pub scene_of : Resources → Focus → List Proc → Metric → Active → Scene
-scene_of t f procs m a = record { code = t.code; focus = f.code; procs = procs; pieces = pieces m a; terms = terms_of t f a }
+abbrev pub scene_of : Selection → List Proc → Metric → Active → Scene
+scene_of s procs m a = record { selected = s.procs; procs = procs; pieces = pieces m a; terms = terms_of s a }
 
 abbrev pub plan_at : Resources → Focus → List Proc → List Point → Metric → Result Active PlanFault → Result Plan PlanFault
 plan_at t f procs points m (Err e) = Err e
-plan_at t f procs points m (Ok a) = plan_with (vars_of m a) (sites_of (scene_of t f procs m a) points)
+plan_at t f procs points m (Ok a) = plan_with (vars_of m a) (sites_of (scene_of (part t f) procs m a) points)
 
 -- The plan of a metric at a focus, or why there is none.
 abbrev pub plan_of : List Constraint → Metric → Focus → Resources → List Proc → List Point → Result Plan PlanFault
@@ -114,3 +112,21 @@ Answers (Err (TooManyStmts at)) due = due ≡ Err (TooManyStmts at)
 pub record IsLimited (plan : Plan) : Type 0 where
   pub sites : length plan.sites ≤ most_sites
   pub stmts : All (λ site. length site.stmts ≤ most_stmts) plan.sites
+
+-- a site has statements, and its address is that of one of the points
+pub record IsSiteOf (points : List Point) (site : Site) : Type 0 where
+  pub at : list_any (λ p. p.at == site.at) points ≡ true
+  pub some : 0 < length site.stmts
+
+-- numbers ascend
+abbrev pub Ascend : List ℕ → Type 0
+Ascend [] = Unit {0}
+Ascend (n ∷ ns) = AllByRecursion (λ m. n < m) ns × Ascend ns
+
+-- What every plan over these points is within: the metric's own variable and at most two counters, and sites that are
+-- limited, have statements, and ascend as the points do.
+pub record IsPlanOver (points : List Point) (plan : Plan) : Type 0 where
+  pub vars : (1 ≤ length plan.vars) × (length plan.vars ≤ 3)
+  pub limited : IsLimited plan
+  pub sites : AllByRecursion (IsSiteOf points) plan.sites
+  pub ascend : Ascend (map (λ p. p.at) points) → Ascend (map (λ s. s.at) plan.sites)

@@ -1,29 +1,22 @@
--- The procedures that are selected.
-use Rattle.std.specs.Prelude.{ℕ, ◌≡◌, ◌<◌, ◌==◌, Bool, false, if◌then◌else◌, Some, List, [], ◌∷◌, slice_get}
+-- For proofs alone: the procedures that are selected.
+use Rattle.std.specs.Prelude.{ℕ, ◌≡◌, ◌==◌, Bool, false, if◌then◌else◌, Some, List, [], ◌∷◌, slice_get}
 use Rattle.std.specs.List.{list_any}
 use Rattle.std.specs.Option.{option_map_or}
 use Rattle.std.specs.Str.{bytes_eq}
 use Rattle.pn_types.specs.declared.code.Proc.{Proc}
-use Rattle.pn_types.specs.declared.focus.CodePart.{CodePart}
-use Rattle.resource_tree.specs.Resources.{ModuleNode, CodeNodes}
-use Rattle.mdl_plan.specs.Choosing.{in_part}
+use Rattle.resource_tree.specs.Resources.{ModuleNode}
 
 -- these numbers of procedures are those of the procedures that pass the test
 abbrev pub Selects : List Proc → (ℕ → Proc → Bool) → List ℕ → Type 0
 Selects procs test qs = (q : ℕ) (p : Proc) → slice_get procs q ≡ Some p → list_any (λ r. r == q) qs ≡ test q p
 
--- what tells the procedures of a set: the modules, the part of the code that the focus selects, and the procedures
+-- what tells the procedures of a set: the numbers of those that the focus selects, and all procedures
 pub record Scope : Type 0 where
-  pub code : CodeNodes
-  pub focus : CodePart
+  pub selected : List ℕ
   pub procs : List Proc
 
-abbrev pub scope : CodeNodes → CodePart → List Proc → Scope
-scope code focus procs = record { code = code; focus = focus; procs = procs }
-
--- these numbers of procedures are those of a part of the code, where there are n procedures
-abbrev pub HasPart : CodeNodes → CodePart → ℕ → List ℕ → Type 0
-HasPart c part n qs = (q : ℕ) → q < n → list_any (λ r. r == q) qs ≡ in_part c part q
+abbrev pub scope : List ℕ → List Proc → Scope
+scope selected procs = record { selected = selected; procs = procs }
 
 -- the numbers that stand under a name
 abbrev pub numbers_named : List ℕ → List ModuleNode → List ℕ

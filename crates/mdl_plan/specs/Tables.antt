@@ -1,4 +1,4 @@
--- The pieces that are chosen at points.
+-- For proofs alone: the pieces that are chosen at points.
 use Rattle.std.specs.Prelude.{ℕ, ◌≡◌, ◌||◌, nat_lt, Some, Bool, if◌then◌else◌, List, [], ◌++◌, length, slice_index_or, map, flat_map}
 use Rattle.std.specs.List.{filter, find}
 use Rattle.std.specs.Option.{option_map}
@@ -19,10 +19,10 @@ use Rattle.mdl_plan.specs.declared.table.Table.{Table}
 
 -- the table has the numbers of the pieces that are chosen
 pub record IsTable (s : Scope) (pieces : List Piece) (t : Table) : Type 0 where
-  pub entry : AreNumbers s.procs (is_chosen s.code s.focus Entry) pieces t.entry
-  pub after : AreNumbers s.procs (is_chosen s.code s.focus After) pieces t.after
-  pub ret : AreNumbers s.procs (is_chosen s.code s.focus Return) pieces t.ret
-  pub call : AreNumbers s.procs (is_chosen s.code s.focus Call) pieces t.call
+  pub entry : AreNumbers s.procs (is_chosen s.selected Entry) pieces t.entry
+  pub after : AreNumbers s.procs (is_chosen s.selected After) pieces t.after
+  pub ret : AreNumbers s.procs (is_chosen s.selected Return) pieces t.ret
+  pub call : AreNumbers s.procs (is_chosen s.selected Call) pieces t.call
 
 -- the numbers of a procedure, if they are wanted
 abbrev pub numbers_if : Bool → List (List ℕ) → ℕ → List ℕ

@@ -1,13 +1,13 @@
 //! The procedures by name.
 
-ghost use Rattle.std.specs.Prelude.{◌≡◌, ◌≤◌, ◌<◌, ◌+◌, ◌^◌, ◌++◌, ◌∷◌, [], ℕ, IfOk, OnOk, length, map, flat_map};
+ghost use Rattle.std.specs.Prelude.{◌≡◌, ◌<◌, ◌+◌, ◌^◌, ℕ, IfOk, length, map, flat_map};
 ghost use Rattle.std.specs.Str.{bytes_eq};
 ghost use Rattle.pn_types.specs.declared.code.Proc.{Proc};
-ghost use Rattle.resource_tree.specs.Resources.{add_to, module_node};
 ghost use Rattle.mdl_plan.specs.Selecting.{AreNames, numbers_named};
 
 use indexmap::IndexMap;
 use pn_types::{NoMemory, Proc, Text};
+use resource_tree::add_to;
 use std::alloc::Global;
 use std::marker::Model;
 
@@ -24,24 +24,6 @@ impl Model for Names {
     ghost Value = { List ModuleNode };
 
     ghost view = { λ n. map (λ e. module_node e.0.items e.1.items) n.numbers.entries };
-}
-
-/// Adds the number of a procedure of this name.
-fn add_to(
-    alloc: Global,
-    numbers: &mut IndexMap<Vec<u8>, Vec<u32>>,
-    name: &[u8],
-    number: u32,
-) -> Result<(), NoMemory>
-    ensures { OnOk result (map (λ e. module_node e.0.items e.1.items) numbers.new.entries ≡ add_to name.now number (map (λ e. module_node e.0.items e.1.items) numbers.old.entries)) }
-{
-    if let Some(members) = numbers.get_mut(name) {
-        members.push(number)?;
-        return Ok(());
-    }
-    let members = vec![in alloc; number]?;
-    numbers.insert(Vec::from_slice(alloc, name)?, members)?;
-    Ok(())
 }
 
 impl Names {

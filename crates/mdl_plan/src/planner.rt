@@ -2,6 +2,7 @@
 
 ghost use Rattle.std.specs.Prelude.{◌≡◌, ◌≤◌, ◌<◌, ◌^◌, ◌++◌, ◌∷◌, [], IfOk, IfErr, OnOk, None, length, map, flat_map};
 ghost use Rattle.std.specs.List.{filter, find};
+ghost use Rattle.resource_tree.specs.Foci.{part};
 ghost use Rattle.mdl_plan.specs.Busy.{busy};
 ghost use Rattle.mdl_plan.specs.Selecting.{scope};
 ghost use Rattle.mdl_plan.specs.Pieces as spec;
@@ -57,11 +58,11 @@ impl<'a> Planner<'a> {
         requires active { map (λ c. c.now) counters.now ≡ spec.counters active.now }
         requires procs { length procs.now < 2 ^ 32 }
         ensures pieces { IfOk result (λ s. s.pieces.items ≡ busy (spec.pieces metric.now active.now)) }
-        ensures table { IfOk result (λ s. IsTable (scope tree.now.code focus.now.code procs.now) s.pieces.items s.table) }
-        ensures terms { IfOk result (λ s. s.terms ≡ terms_of tree.now focus.now active.now) }
+        ensures table { IfOk result (λ s. IsTable (scope (part tree.now focus.now).procs procs.now) s.pieces.items s.table) }
+        ensures terms { IfOk result (λ s. s.terms ≡ terms_of (part tree.now focus.now) active.now) }
     {
         let pieces = pieces(alloc, metric, active, counters)?;
-        let scope = Scope::new(alloc, tree, focus.code, procs)?;
+        let scope = Scope::new(alloc, tree, focus, procs)?;
         let table = Table::build(alloc, &scope, &pieces)?;
         let terms = Terms::new(alloc, counters, tree.object_at(focus))?;
         Ok(Planner {

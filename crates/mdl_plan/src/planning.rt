@@ -1,8 +1,10 @@
 //! The plan.
 
-ghost use Rattle.std.specs.Prelude.{◌≡◌, ◌<◌, ◌^◌, length, slice_get, Ok, Some};
+ghost use Rattle.std.specs.Prelude.{◌≡◌, ◌<◌, ◌^◌, length, slice_get, IfOk, Ok, Some};
 ghost use Rattle.mdl_ast.specs.declared.metric.Metric.{Metric};
-ghost use Rattle.mdl_plan.specs.Plans.{plan_at, plan_of, Answers};
+ghost use Rattle.mdl_check.specs.Sound.{IsSound};
+ghost use Rattle.mdl_plan.specs.Fitting.{AreFitting};
+ghost use Rattle.mdl_plan.specs.Plans.{plan_at, plan_of, Answers, IsPlanOver};
 
 use crate::active::{Active, active_at};
 use crate::fault::PlanFault;
@@ -60,6 +62,10 @@ fn planned(
 /// - `TooManySites`: more than 4,096 points have statements.
 /// - `TooManyStmts`: a point has more than 32.
 ///
+/// A plan has one to three variables, and at most 4,096 sites at addresses of the points, each with 1 to 32 statements.
+/// Where what was checked was parsed or shipped, a statement has at most 18 conditions, on counters of the plan and on
+/// the arguments 0 to 7, and it counts a counter or starts and stops a timer.
+///
 /// The tree's procedures are `procs`, and the points are theirs, by address. The work is linear in the points, the
 /// procedures and what the insertions select.
 pub fn plan(
@@ -74,8 +80,10 @@ pub fn plan(
     requires metric { metric < length checked.now.metrics }
     requires procs { length procs.now < 2 ^ 32 }
     requires points { length points.now < 2 ^ 32 }
-    ensures { (m : Metric) → slice_get checked.now.metrics metric ≡ Some m →
+    ensures answer { (m : Metric) → slice_get checked.now.metrics metric ≡ Some m →
         Answers result (plan_of checked.now.constraints m focus.now tree.now procs.now points.now) }
+    ensures within { IfOk result (IsPlanOver points.now) }
+    ensures fitting { IsSound checked.now → IfOk result AreFitting }
 {
     let metric = &checked.metrics.as_slice()[metric as usize];
     let active = active_at(checked.constraints.as_slice(), metric, focus)?;

@@ -2,21 +2,21 @@
 
 ghost use Rattle.std.specs.Prelude.{◌≡◌, ◌<◌, ◌==◌, ◌^◌, ℕ, true, IfOk, length};
 ghost use Rattle.std.specs.List.{list_any};
+ghost use Rattle.resource_tree.specs.Foci.{part};
 ghost use Rattle.mdl_plan.specs.Choosing.{in_set};
-ghost use Rattle.mdl_plan.specs.Selecting.{scope, HasPart, Selects};
+ghost use Rattle.mdl_plan.specs.Selecting.{scope, Selects};
 
 use crate::names::Names;
 use mdl_ast::Set;
-use pn_types::{CodePart, NoMemory, Proc};
+use pn_types::{Focus, NoMemory, Proc};
 use resource_tree::Tree;
 use std::alloc::Global;
 use std::marker::Model;
 
-/// What tells the procedures of a set: the tree, the part of the code that the focus selects, and the procedures.
+/// What tells the procedures of a set: the numbers of those that the focus selects, and all procedures.
 #[derive(Drop)]
 pub(crate) struct Scope<'a> {
-    tree: &'a Tree,
-    part: CodePart,
+    selected: Vec<u32>,
     procs: &'a [Proc],
     names: Names,
 }
@@ -26,7 +26,7 @@ impl<'a> Model for Scope<'a> {
 
     ghost Value = { Scope };
 
-    ghost view = { λ s. scope s.tree.now.code s.part s.procs.now };
+    ghost view = { λ s. scope s.selected.items s.procs.now };
 
     ghost invariant = { λ s. AreNames s.procs.now s.names };
 }
@@ -42,32 +42,21 @@ fn all_procs(alloc: Global, procs: u32) -> Result<Vec<u32>, NoMemory>
     Ok(all)
 }
 
-/// The numbers of the procedures of a part of the code, where there are so many procedures.
-fn part_procs(alloc: Global, tree: &Tree, part: CodePart, procs: u32) -> Result<Vec<u32>, NoMemory>
-    ensures { IfOk result (λ found. HasPart tree.now.code part procs found.items) }
-{
-    match part {
-        CodePart::All => all_procs(alloc, procs),
-        CodePart::Module(module_no) => Ok(Vec::from_slice(alloc, tree.procs_of_module(module_no))?),
-        CodePart::Procedure(proc_no) => Ok(vec![in alloc; proc_no]?),
-    }
-}
-
 impl<'a> Scope<'a> {
-    /// The scope of these procedures, where the focus selects this part of the code.
+    /// The scope of these procedures at a focus.
     pub(crate) fn new(
         alloc: Global,
-        tree: &'a Tree,
-        part: CodePart,
+        tree: &Tree,
+        focus: &Focus,
         procs: &'a [Proc],
     ) -> Result<Scope<'a>, NoMemory>
         requires { length procs.now < 2 ^ 32 }
-        ensures { IfOk result (λ made. made ≡ scope tree.now.code part procs.now) }
+        ensures { IfOk result (λ made. made ≡ scope (part tree.now focus.now).procs procs.now) }
     {
+        let selected = tree.procs(alloc, focus)?;
         let names = Names::of(alloc, procs)?;
         Ok(Scope {
-            tree,
-            part,
+            selected,
             procs,
             names,
         })
@@ -83,11 +72,11 @@ impl<'a> Scope<'a> {
     /// The numbers of the procedures of a set. One can stand there more than once.
     pub(crate) fn selected(&self, alloc: Global, set: &Set) -> Result<Vec<u32>, NoMemory>
         requires { length self.now.procs < 2 ^ 32 }
-        ensures { IfOk result (λ found. Selects self.now.procs (in_set self.now.code self.now.focus set.now) found.items) }
+        ensures { IfOk result (λ found. Selects self.now.procs (in_set self.now.selected set.now) found.items) }
     {
         let procs = self.procs.len() as u32;
         match set {
-            Set::Focus => part_procs(alloc, self.tree, self.part, procs),
+            Set::Focus => Ok(Vec::from_slice(alloc, &self.selected)?),
             Set::All => all_procs(alloc, procs),
             Set::Names(names) => self.names.with_any(alloc, names.as_slice()),
         }

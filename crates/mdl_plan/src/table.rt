@@ -48,7 +48,7 @@ fn add(
     piece: &Piece<'_>,
 ) -> Result<(), NoMemory>
     requires { length scope.now.procs < 2 ^ 32 }
-    ensures { OnOk result (Added scope.now.procs (λ q p. is_chosen scope.now.code scope.now.focus kind q p piece.now) number lists.old lists.new) }
+    ensures { OnOk result (Added scope.now.procs (λ q p. is_chosen scope.now.selected kind q p piece.now) number lists.old lists.new) }
 {
     if !is_kind(kind, piece.insertion().kind) {
         return Ok(());
@@ -66,7 +66,7 @@ fn chosen(
     pieces: &[Piece<'_>],
 ) -> Result<Lists, NoMemory>
     requires { length scope.now.procs < 2 ^ 32 }
-    ensures { IfOk result (AreNumbers scope.now.procs (is_chosen scope.now.code scope.now.focus kind) pieces.now) }
+    ensures { IfOk result (AreNumbers scope.now.procs (is_chosen scope.now.selected kind) pieces.now) }
 {
     let mut lists = Lists::empty(alloc, scope.len())?;
     for (number, piece) in pieces.iter().enumerate() {

@@ -15,8 +15,6 @@ mod steps;
 mod sure_files;
 mod sure_sink;
 mod system;
-#[cfg(test)]
-mod tests;
 mod traits;
 mod writing;
 

@@ -1,13 +1,15 @@
 //! The program: it makes the real files and sinks and hands them to the top call.
 #![tactic(auto)]
 
-use outside::{DropSink, FileSink, OsFiles, StdSink};
-use paradyn_top::{log_name, serve};
+use outside::{FileSink, OsFiles, StdSink};
+use paradyn_top::{Words, log_name, run_program};
+use pn_types::NoMemory;
+use std::alloc::Global;
 use std::process::ExitCode;
 use std::{env, io};
 
 /// The words of the command line, without the program's name.
-fn words(rt: &HostRuntime) -> Result<Vec<String>, io::Error> {
+fn read_words(rt: &HostRuntime) -> Result<Vec<String>, io::Error> {
     let mut words = Vec::new(rt.alloc());
     for word in env::args(rt)?.skip(1) {
         words.push(word)?;
@@ -15,26 +17,35 @@ fn words(rt: &HostRuntime) -> Result<Vec<String>, io::Error> {
     Ok(words)
 }
 
-fn run(rt: HostRuntime) -> u8 {
-    let alloc = rt.alloc();
-    let words = match words(&rt) {
-        Ok(words) => words,
-        Err(fault) if fault.kind() == io::ErrorKind::OutOfMemory => return 8,
-        // Words that aren't text are no command.
-        Err(_) => Vec::new(alloc),
-    };
-    let mut files = OsFiles::new(rt);
-    let mut out = StdSink::new(rt);
-    let Some(name) = log_name(&words) else {
-        return serve(alloc, &words, &mut files, &mut out, &mut DropSink);
-    };
-    let Ok(name) = String::from_str(alloc, name) else {
-        return 8;
-    };
-    let mut log = FileSink::new(rt, name);
-    serve(alloc, &words, &mut files, &mut out, &mut log)
+/// The words, as far as they could be read.
+fn words(rt: &HostRuntime) -> Words {
+    match read_words(rt) {
+        Ok(words) => Words::Read(words),
+        Err(fault) if fault.kind() == io::ErrorKind::OutOfMemory => Words::NoMemory,
+        Err(_) => Words::NotText,
+    }
+}
+
+/// The name of the log's file, and no name where none is asked for: nothing is written to it then.
+fn log_file(alloc: Global, words: &Words) -> Result<String, NoMemory> {
+    match words {
+        Words::Read(words) => String::from_str(alloc, log_name(words).unwrap_or("")),
+        _ => String::from_str(alloc, ""),
+    }
 }
 
 fn main(rt: HostRuntime) -> ExitCode {
-    ExitCode::from(run(rt))
+    let alloc = rt.alloc();
+    let mut words = words(&rt);
+    let name = match log_file(alloc, &words) {
+        Ok(name) => name,
+        Err(_) => {
+            words = Words::NoMemory;
+            String::new(alloc)
+        }
+    };
+    let mut files = OsFiles::new(rt);
+    let mut out = StdSink::new(rt);
+    let mut log = FileSink::new(rt, name);
+    run_program(alloc, &words, &mut files, &mut out, &mut log)
 }

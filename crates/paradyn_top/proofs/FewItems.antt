@@ -1,4 +1,4 @@
--- A configuration has no more items than its text has bytes.
+-- A configuration has no more items than its text has bytes, and few come with the program.
 use Rattle.std.proofs.Common.{◌≡◌, ℕ, ◌≤◌, suc, List, [], ◌∷◌, length, map, refl, ap, arith}
 use Rattle.std.specs.List.{flat_map}
 use Rattle.std.proofs.lemmas.List.{length-append}
@@ -11,6 +11,7 @@ use Rattle.mdl_ast.specs.declared.items.Item.TheVariants as item
 use Rattle.mdl_parse.specs.Spots.{Spot, Mark, Spells, token_spot, text_spots}
 use Rattle.mdl_parse.specs.ItemGrammar.{item_marks, conf_marks}
 use Rattle.mdl_parse.specs.Meaning.{IsConf}
+use Rattle.mdl_parse.specs.Shipped.{shipped_conf}
 
 spots_many : (text : List ℕ) (tokens : List Token) → length (map (token_spot text) tokens) ≡ length tokens
 spots_many text [] = refl
@@ -39,3 +40,7 @@ items_few (i ∷ items) = omega (arith, has_marks i, items_few items, length-app
 pub few_items : (text : List ℕ) (c : Conf) → IsConf text c → length text ≤ 1048576 → length c.items ≤ 1048576
 few_items text c h short =
     omega (arith, short, items_few c.items, marks_many (conf_marks c) (text_spots text) h.spelled.words, spots_many text (tokens_of text).tokens, length-tokens_of text)
+
+pub shipped_few : length shipped_conf.items ≤ 1000
+unfolding shipped_conf
+shipped_few = omega arith

@@ -1,5 +1,3 @@
-pub mod DueLemmas
-pub mod SizedTexts
-mod CountableImages
-pub mod FewItems
+mod FewItems
+mod SightSteps
 mod PlanLemmas

@@ -1,18 +1,18 @@
--- Answers of the top call.
-use Rattle.std.specs.Prelude.{ℕ, List, []}
-use Rattle.paradyn_top.specs.declared.faults.Fault.{Fault}
-use Rattle.paradyn_top.specs.Faults.{fault_line, fault_status}
+-- What an answer of the top call leaves: the status, and the bytes for the output and for the log.
+use Rattle.std.specs.Prelude.{ℕ, List, [], Result, Ok, Err}
+use Rattle.refusals.specs.Faults.{fault_line, fault_status}
+use Rattle.refusals.specs.declared.fault.Fault.{Fault}
+use Rattle.paradyn_top.specs.declared.texts.Texts.{Texts}
 
--- An answer: the status, the bytes for the output, and the bytes for the log.
-pub record Answer : Type 0 where
-  pub status : ℕ
-  pub out : List ℕ
-  pub log : List ℕ
+-- a text for the output, and nothing for the log
+abbrev pub output : List ℕ → Texts
+output text = record { out = text; log = [] }
 
--- a refusal: its line is the output, and the log gains nothing
-abbrev pub refusal : Fault → Answer
-refusal fault = record { status = fault_status fault; out = fault_line fault; log = [] }
+-- An answer gives texts, or refuses with a fault, whose line is the output.
+abbrev pub status_of : Result Texts Fault → ℕ
+status_of (Ok texts) = 0
+status_of (Err fault) = fault_status fault
 
--- a text that is the output at status 0
-abbrev pub success : List ℕ → Answer
-success text = record { status = 0; out = text; log = [] }
+abbrev pub texts_of : Result Texts Fault → Texts
+texts_of (Ok texts) = texts
+texts_of (Err fault) = output (fault_line fault)

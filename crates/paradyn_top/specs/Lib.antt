@@ -1,13 +1,9 @@
-pub mod Configurations
-pub mod Faults
-pub mod Programs
 pub mod Answers
-pub mod Checks
+pub mod Sights
+pub mod Inputs
+pub mod Found
 pub mod Costs
 pub mod Plans
 pub mod Due
-pub mod Founds
-pub mod Works
 pub mod Delivery
-pub mod Replies
-pub mod Reading
+pub mod Serving

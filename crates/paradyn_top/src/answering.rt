@@ -1,88 +1,52 @@
 //! The answers for requests and words.
 
-ghost use Rattle.std.specs.Prelude.{◌≡◌, ◌⊎◌, List, ℕ, IfOk, map, string_bytes, Some, None};
-ghost use Rattle.outside.specs.Outside.{IsCalm};
+ghost use Rattle.std.specs.Prelude.{◌≡◌, Some, map, string_bytes};
 ghost use Rattle.command_words.specs.Asked.{asked};
 ghost use Rattle.command_words.specs.Requests.{HasRanges};
-ghost use Rattle.paradyn_top.specs.Due.{IsDue, IsDueFor, IsUnreadable, IsUnreadableFor, IsPointsDue, IsAsmDue, NamesFault};
-ghost use Rattle.paradyn_top.specs.Replies.{answer_of};
+ghost use Rattle.paradyn_top.specs.Due.{IsDue, IsDueFor};
+ghost use Rattle.paradyn_top.specs.Sights.{seen, Looks};
+ghost use Rattle.refusals.specs.Refusals.{Comes};
 
-use crate::faults::Fault;
-use crate::listing::list_points;
-use crate::reading::{Unread, read_program, read_text};
-use crate::reply::{Reply, cannot_read, refuse, succeed};
-use crate::working::{Work, answer_work};
+use crate::listing::{list_points, write_elf};
+use crate::planning::show_plan;
+use crate::running::run;
+use crate::texts::Texts;
 use command_words::{Request, WordFault, read_request};
 use outside::Files;
-use pn_types::NoMemory;
+use refusals::{Fault, Refusal};
 use std::alloc::Global;
 
-/// The answer that lists the points of the program of a name.
-fn answer_points<F: Files>(alloc: Global, name: &str, files: &mut F) -> Result<Reply, NoMemory>
-    ensures answer { IfOk result (λ reply. IsPointsDue name.now (F.holds files.old) (answer_of reply)
-        ⊎ NamesFault name.now (F.faults files.old) (F.faults files.new) (answer_of reply)) }
-    ensures calm { IfOk result (λ reply. (reply.status ≡ 3 → ⊥) → IsCalm F.faults files.old files.new) }
-{
-    match read_program(alloc, files, name) {
-        Ok(Ok(image)) => Ok(succeed(alloc, list_points(alloc, &image)?)),
-        Ok(Err(fault)) => Ok(refuse(alloc, &Fault::BadProgram(fault))?),
-        Err(Unread::Failed) => Ok(cannot_read(alloc, name)?),
-        Err(Unread::NoMemory) => Err(NoMemory {}),
-    }
-}
-
-/// The answer that gives the ELF file of the text of a name.
-fn answer_asm<F: Files>(alloc: Global, name: &str, files: &mut F) -> Result<Reply, NoMemory>
-    ensures answer { IfOk result (λ reply. IsAsmDue name.now (F.holds files.old) (answer_of reply)
-        ⊎ NamesFault name.now (F.faults files.old) (F.faults files.new) (answer_of reply)) }
-    ensures calm { IfOk result (λ reply. (reply.status ≡ 3 → ⊥) → IsCalm F.faults files.old files.new) }
-{
-    match read_text(alloc, files, name) {
-        Ok(Ok(file)) => Ok(succeed(alloc, file.into_vec())),
-        Ok(Err(fault)) => Ok(refuse(alloc, &Fault::BadProgram(fault))?),
-        Err(Unread::Failed) => Ok(cannot_read(alloc, name)?),
-        Err(Unread::NoMemory) => Err(NoMemory {}),
-    }
-}
-
-/// The answer for a request.
+/// What is due for a request.
 fn answer_request<F: Files>(
     alloc: Global,
     request: &Request<'_>,
     files: &mut F,
-) -> Result<Reply, NoMemory>
+) -> Result<Texts, Refusal>
     requires { HasRanges (asked request.now) }
-    ensures answer { IfOk result (λ reply. IsDueFor (Some (asked request.now)) (F.holds files.old) (answer_of reply)
-        ⊎ IsUnreadableFor (Some (asked request.now)) (F.holds files.old) (F.faults files.old) (F.faults files.new) (answer_of reply)) }
-    ensures calm { IfOk result (λ reply. (reply.status ≡ 3 → ⊥) → IsCalm F.faults files.old files.new) }
+    ensures due { Comes result (IsDueFor (Some (asked request.now)) (seen (F.holds files.old) (F.faults files.old) (F.faults files.new))) }
+    ensures looks { Looks F.holds F.faults files.old files.new result }
 {
     match request {
-        Request::Run(run) => match run.log {
-            None => {
-                let work = Work::Run(&run.settings);
-                Ok(answer_work(alloc, run.program, run.conf, &work, files)?)
-            }
-            Some(_) => Ok(refuse(alloc, &Fault::NotYet)?),
-        },
-        Request::Plan(plan) => {
-            let work = Work::Plan(plan);
-            Ok(answer_work(alloc, plan.program, plan.conf, &work, files)?)
-        }
-        Request::Points(name) => Ok(answer_points(alloc, name, files)?),
-        Request::Asm(name) => Ok(answer_asm(alloc, name, files)?),
-        Request::Later => Ok(refuse(alloc, &Fault::NotYet)?),
+        Request::Run(request) => run(alloc, request, files),
+        Request::Plan(request) => show_plan(alloc, request, files),
+        Request::Points(program) => list_points(alloc, program, files),
+        Request::Asm(text) => write_elf(alloc, text, files),
+        Request::Later => Err(Refusal::Fault(Fault::NotYet)),
     }
 }
 
-/// The answer for words and files: what is due, or that a file could not be read.
-pub fn answer<F: Files>(alloc: Global, words: &[String], files: &mut F) -> Result<Reply, NoMemory>
-    ensures answer { IfOk result (λ reply. IsDue (map string_bytes words.now) (F.holds files.old) (answer_of reply)
-        ⊎ IsUnreadable (map string_bytes words.now) (F.holds files.old) (F.faults files.old) (F.faults files.new) (answer_of reply)) }
-    ensures calm { IfOk result (λ reply. (reply.status ≡ 3 → ⊥) → IsCalm F.faults files.old files.new) }
+/// What is due for words.
+pub(crate) fn answer<F: Files>(
+    alloc: Global,
+    words: &[String],
+    files: &mut F,
+) -> Result<Texts, Refusal>
+    ensures due { Comes result (IsDue (map string_bytes words.now) (seen (F.holds files.old) (F.faults files.old) (F.faults files.new))) }
+    ensures looks { Looks F.holds F.faults files.old files.new result }
 {
     match read_request(alloc, words) {
-        Ok(request) => Ok(answer_request(alloc, &request, files)?),
-        Err(WordFault::Usage) => Ok(refuse(alloc, &Fault::Usage)?),
-        Err(WordFault::NoMemory) => Err(NoMemory {}),
+        Ok(request) => answer_request(alloc, &request, files),
+        Err(WordFault::Usage) => Err(Refusal::Fault(Fault::Usage)),
+        Err(WordFault::NoMemory) => Err(Refusal::NoMemory),
     }
 }

@@ -1,116 +1,36 @@
-//! Configurations and their faults.
+//! Configurations from bytes.
 
 ghost use Rattle.std.specs.Prelude.{◌≡◌, ◌≤◌, IfOk, length};
-ghost use Rattle.paradyn_top.specs.Configurations.{kind_of, kind_text, check_kind, MeansConf};
+ghost use Rattle.paradyn_top.specs.Inputs.{MeansConf};
+ghost use Rattle.refusals.specs.Kinds.{fault_at};
+ghost use Rattle.refusals.specs.Refusals.{Comes};
 
 use mdl_ast::Conf;
-use mdl_check::CheckKind;
-use mdl_parse::{ParseFault, SyntaxKind, parse};
-use pn_types::NoMemory;
+use mdl_parse::{ParseFault, parse};
+use refusals::{ConfFault, ConfKind, Fault, Refusal, syntax_kind};
 use std::alloc::Global;
 
-/// What is wrong with a configuration.
-#[derive(Clone, Copy, Debug, PartialEq, Eq, Drop)]
-pub enum ConfKind {
-    /// A byte with which no word begins or goes on.
-    BadByte,
-    /// A string without its second quote.
-    OpenString,
-    /// A number above 2,147,483,647.
-    BigNumber,
-    /// A word that can't stand where it stands, or the end where more has to come.
-    Unexpected,
-    /// The seventeenth nested `if`.
-    TooDeep,
-    /// More than 1,048,576 bytes.
-    TooLong,
-    /// A name that the configuration doesn't have, or a variable that isn't the item's own.
-    UnknownName,
-    /// A name or a demand that an item before it has already.
-    TwiceNamed,
-    /// What is named can't be used so, or a number is out of its range.
-    WrongKind,
-    /// A hypothesis that is its own ancestor.
-    CyclicParent,
-    /// A focus that selects nothing.
-    BadFocus,
-}
+/// The greatest length of a configuration in bytes.
+pub(crate) const CONFIGURATION_LIMIT: u64 = 1_048_576;
 
-impl ConfKind {
-    /// The kind as the line of its fault says it.
-    pub(crate) fn text(self) -> &'static [u8]
-        ensures { result.now ≡ kind_text self }
-    {
-        match self {
-            ConfKind::BadByte => b"bad byte",
-            ConfKind::OpenString => b"open string",
-            ConfKind::BigNumber => b"number too large",
-            ConfKind::Unexpected => b"unexpected",
-            ConfKind::TooDeep => b"nesting too deep",
-            ConfKind::TooLong => b"too long",
-            ConfKind::UnknownName => b"unknown name",
-            ConfKind::TwiceNamed => b"named twice",
-            ConfKind::WrongKind => b"wrong kind",
-            ConfKind::CyclicParent => b"cyclic parent",
-            ConfKind::BadFocus => b"bad focus",
-        }
-    }
-}
-
-/// A fault of a configuration and where it stands.
-#[derive(Clone, Copy, Debug, PartialEq, Eq, Drop)]
-pub struct ConfFault {
-    /// The line, from 1, or 0 for the whole text.
-    pub line: u32,
-    /// The column in bytes, from 1, or 0.
-    pub col: u32,
-    pub kind: ConfKind,
-}
-
-/// The fault of a text that is too long.
-pub(crate) const TOO_LONG: ConfFault = ConfFault {
-    line: 0,
-    col: 0,
-    kind: ConfKind::TooLong,
-};
-
-fn kind_of(kind: SyntaxKind) -> ConfKind
-    ensures { result ≡ kind_of kind }
+/// The refusal of a configuration at a line and a column.
+pub(crate) fn bad_configuration(line: u32, col: u32, kind: ConfKind) -> Refusal
+    ensures { result ≡ Refusal.Fault (Fault.BadConf (fault_at line col kind)) }
 {
-    match kind {
-        SyntaxKind::BadByte => ConfKind::BadByte,
-        SyntaxKind::OpenString => ConfKind::OpenString,
-        SyntaxKind::BigNumber => ConfKind::BigNumber,
-        SyntaxKind::Unexpected => ConfKind::Unexpected,
-        SyntaxKind::TooDeep => ConfKind::TooDeep,
-    }
+    Refusal::Fault(Fault::BadConf(ConfFault { line, col, kind }))
 }
 
-pub(crate) fn check_kind(kind: CheckKind) -> ConfKind
-    ensures { result ≡ check_kind kind }
-{
-    match kind {
-        CheckKind::UnknownName => ConfKind::UnknownName,
-        CheckKind::TwiceNamed => ConfKind::TwiceNamed,
-        CheckKind::WrongKind => ConfKind::WrongKind,
-        CheckKind::CyclicParent => ConfKind::CyclicParent,
-        CheckKind::BadFocus => ConfKind::BadFocus,
-    }
-}
-
-/// The configuration of a text, or its first fault.
-pub(crate) fn configuration(alloc: Global, text: &[u8]) -> Result<Result<Conf, ConfFault>, NoMemory>
+/// The configuration of a text.
+pub(crate) fn configuration(alloc: Global, text: &[u8]) -> Result<Conf, Refusal>
     requires { length text.now ≤ 1048576 }
-    ensures conf { IfOk result (λ conf. MeansConf text.now conf) }
-    ensures few { IfOk result (λ conf. IfOk conf (λ c. length c.items ≤ 1048576)) }
+    ensures means { Comes result (MeansConf text.now) }
+    ensures few { IfOk result (λ conf. length conf.items ≤ 1048576) }
 {
     match parse(alloc, text) {
-        Ok(conf) => Ok(Ok(conf)),
-        Err(ParseFault::NoMemory) => Err(NoMemory {}),
-        Err(ParseFault::At { line, col, kind }) => Ok(Err(ConfFault {
-            line,
-            col,
-            kind: kind_of(kind),
-        })),
+        Ok(conf) => Ok(conf),
+        Err(ParseFault::NoMemory) => Err(Refusal::NoMemory),
+        Err(ParseFault::At { line, col, kind }) => {
+            Err(bad_configuration(line, col, syntax_kind(kind)))
+        }
     }
 }

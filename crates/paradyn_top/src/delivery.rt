@@ -1,16 +1,18 @@
-ghost use Rattle.std.specs.Prelude.{◌≡◌, ◌⊎◌, OnOk, OnErr};
-ghost use Rattle.paradyn_top.specs.Delivery.{IsTorn, Gained};
+ghost use Rattle.std.specs.Prelude.{OnOk, OnErr};
+ghost use Rattle.paradyn_top.specs.Serving.{AreGained, AreTorn};
 
-use crate::reply::Reply;
+use crate::texts::Texts;
 use outside::{Failed, Sink, write_all};
 
-/// Writes an answer, first to the log and then to the output.
-pub fn deliver<K: Sink, L: Sink>(reply: &Reply, out: &mut K, log: &mut L) -> Result<(), Failed>
-    ensures out { OnOk result (Gained K.has K.faults out.old out.new reply.now.out.items) }
-    ensures log { OnOk result (Gained L.has L.faults log.old log.new reply.now.log.items) }
-    ensures torn { OnErr result (((out.new ≡ out.old) × IsTorn L.has L.faults log.old log.new reply.now.log.items)
-        ⊎ (Gained L.has L.faults log.old log.new reply.now.log.items × IsTorn K.has K.faults out.old out.new reply.now.out.items)) }
+/// Writes texts, first to the log and then to the output.
+pub(crate) fn deliver<K: Sink, L: Sink>(
+    texts: &Texts,
+    out: &mut K,
+    log: &mut L,
+) -> Result<(), Failed>
+    ensures gained { OnOk result (AreGained K.has K.faults out.old out.new L.has L.faults log.old log.new texts.now) }
+    ensures torn { OnErr result (AreTorn K.has K.faults out.old out.new L.has L.faults log.old log.new texts.now) }
 {
-    write_all(log, &reply.log)?;
-    write_all(out, &reply.out)
+    write_all(log, texts.log.as_slice())?;
+    write_all(out, texts.out.as_slice())
 }

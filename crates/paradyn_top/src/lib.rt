@@ -1,25 +1,22 @@
-//! The top call: words and files in, a status and the bytes of two sinks out.
+//! The top call: all that the program does, over files and sinks that are handed in.
 #![tactic(auto)]
 
 mod answering;
-mod checking;
 mod configuration;
 mod costs;
 mod delivery;
-mod faults;
+mod files;
+mod finding;
+mod inputs;
 mod listing;
 mod loading;
 mod planning;
-mod reading;
-mod reply;
+mod program;
 mod running;
+mod texts;
 mod top;
-mod working;
 
 pub use command_words::log_name;
-pub use configuration::{ConfFault, ConfKind};
-pub use faults::{Fault, ProgramFault, faults_text};
+pub use program::{Words, run_program};
+pub use refusals::{ConfFault, ConfKind, Fault, ProgramFault, faults_text};
 pub use top::serve;
-
-#[cfg(test)]
-mod tests;

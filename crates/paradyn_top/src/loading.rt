@@ -1,18 +1,30 @@
-ghost use Rattle.std.specs.Prelude.{◌≡◌, ◌≢◌, ◌≤◌, IfOk, MatchResult, Ok, Err, length};
-ghost use Rattle.elf_form.specs.Meaning.{meaning_of};
-ghost use Rattle.rv_asm.specs.Assembly.{assembled};
-ghost use Rattle.paradyn_top.specs.Programs.{IsProgram, begins_elf, elf_image, text_image, image_of, text_file};
-ghost use Rattle.asm_file.specs.Made.{elf_of};
+//! Programs from bytes.
 
-use crate::faults::ProgramFault;
+ghost use Rattle.std.specs.Prelude.{◌≡◌, ◌≤◌, IfOk, length};
+ghost use Rattle.asm_file.specs.Made.{elf_of};
+ghost use Rattle.code_points.specs.Procedures.{AreModulesGood};
+ghost use Rattle.elf_form.specs.Meaning.{meaning_of};
+ghost use Rattle.paradyn_top.specs.Inputs.{begins_elf, or_bad_elf, or_bad_text, image_of, file_of};
+ghost use Rattle.pn_types.specs.Images.{IsImage};
+ghost use Rattle.refusals.specs.Refusals.{Comes};
+ghost use Rattle.rv_asm.specs.Assembly.{assembled};
+
 use asm_file::elf_of_text;
 use elf_form::ElfFault;
-use pn_types::{Image, NoMemory, Seq};
+use pn_types::{Image, Seq};
+use refusals::{Fault, ProgramFault, Refusal};
 use rv_asm::{AsmFault, assemble};
 use std::alloc::Global;
 
 /// The greatest length of a program file in bytes.
-pub const PROGRAM_LIMIT: u64 = 33_554_432;
+pub(crate) const PROGRAM_LIMIT: u64 = 33_554_432;
+
+/// The refusal of a program.
+pub(crate) fn bad_program(fault: ProgramFault) -> Refusal
+    ensures { result ≡ Refusal.Fault (Fault.BadProgram fault) }
+{
+    Refusal::Fault(Fault::BadProgram(fault))
+}
 
 /// Whether the bytes begin as those of an ELF file.
 fn begins_elf(bytes: &[u8]) -> bool
@@ -21,53 +33,56 @@ fn begins_elf(bytes: &[u8]) -> bool
     4 <= bytes.len() && &bytes[..4] == b"\x7fELF".as_slice()
 }
 
-/// The image of an ELF file, or its fault.
-fn load_elf(alloc: Global, bytes: &[u8]) -> Result<Result<Image, ProgramFault>, NoMemory>
+/// The image of an ELF file.
+fn load_elf(alloc: Global, bytes: &[u8]) -> Result<Image, Refusal>
     requires { length bytes.now ≤ 33554432 }
-    ensures image { IfOk result (λ image. image ≡ elf_image (meaning_of bytes.now)) }
-    ensures program { IfOk result (λ image. IfOk image IsProgram) }
+    ensures loads { Comes result (λ image. image ≡ or_bad_elf (meaning_of bytes.now)) }
+    ensures image { IfOk result IsImage }
+    ensures modules { IfOk result AreModulesGood }
 {
     match elf_load::load(alloc, bytes) {
-        Ok(image) => Ok(Ok(image)),
-        Err(ElfFault::NoMemory) => Err(NoMemory {}),
-        Err(fault) => Ok(Err(ProgramFault::Elf(fault))),
+        Ok(image) => Ok(image),
+        Err(ElfFault::NoMemory) => Err(Refusal::NoMemory),
+        Err(fault) => Err(bad_program(ProgramFault::Elf(fault))),
     }
 }
 
-/// The image of an assembly text, or its fault.
-fn load_text(alloc: Global, bytes: &[u8]) -> Result<Result<Image, ProgramFault>, NoMemory>
+/// The image of an assembly text.
+fn load_text(alloc: Global, bytes: &[u8]) -> Result<Image, Refusal>
     requires { length bytes.now ≤ 33554432 }
-    ensures image { IfOk result (λ image. image ≡ text_image (assembled bytes.now)) }
-    ensures program { IfOk result (λ image. IfOk image IsProgram) }
+    ensures loads { Comes result (λ image. image ≡ or_bad_text (assembled bytes.now)) }
+    ensures image { IfOk result IsImage }
+    ensures modules { IfOk result AreModulesGood }
 {
     match assemble(alloc, bytes) {
-        Ok(image) => Ok(Ok(image)),
-        Err(AsmFault::NoMemory) => Err(NoMemory {}),
-        Err(fault) => Ok(Err(ProgramFault::Asm(fault))),
+        Ok(image) => Ok(image),
+        Err(AsmFault::NoMemory) => Err(Refusal::NoMemory),
+        Err(fault) => Err(bad_program(ProgramFault::Asm(fault))),
     }
 }
 
-/// The ELF file of an assembly text, or its fault.
-pub fn make_file(alloc: Global, text: &[u8]) -> Result<Result<Seq<u8>, ProgramFault>, NoMemory>
-    requires { length text.now ≤ 33554432 }
-    ensures { IfOk result (λ file. file ≡ text_file (elf_of text.now)) }
-{
-    match elf_of_text(alloc, text) {
-        Ok(file) => Ok(Ok(Seq::from_vec(file))),
-        Err(AsmFault::NoMemory) => Err(NoMemory {}),
-        Err(fault) => Ok(Err(ProgramFault::Asm(fault))),
-    }
-}
-
-/// The image of a program's bytes, or why there is none.
-pub fn load(alloc: Global, bytes: &[u8]) -> Result<Result<Image, ProgramFault>, NoMemory>
+/// The image of a program's bytes.
+pub(crate) fn load(alloc: Global, bytes: &[u8]) -> Result<Image, Refusal>
     requires { length bytes.now ≤ 33554432 }
-    ensures image { IfOk result (λ image. image ≡ image_of bytes.now) }
-    ensures program { IfOk result (λ image. IfOk image IsProgram) }
+    ensures loads { Comes result (λ image. image ≡ image_of bytes.now) }
+    ensures image { IfOk result IsImage }
+    ensures modules { IfOk result AreModulesGood }
 {
     if begins_elf(bytes) {
         load_elf(alloc, bytes)
     } else {
         load_text(alloc, bytes)
+    }
+}
+
+/// The ELF file of an assembly text.
+pub(crate) fn make_file(alloc: Global, text: &[u8]) -> Result<Seq<u8>, Refusal>
+    requires { length text.now ≤ 33554432 }
+    ensures { Comes result (λ file. file ≡ file_of text.now) }
+{
+    match elf_of_text(alloc, text) {
+        Ok(file) => Ok(Seq::from_vec(file)),
+        Err(AsmFault::NoMemory) => Err(Refusal::NoMemory),
+        Err(fault) => Err(bad_program(ProgramFault::Asm(fault))),
     }
 }

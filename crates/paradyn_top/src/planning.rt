@@ -1,46 +1,30 @@
-//! The answer that shows a plan.
+//! The command `plan`.
 
-ghost use Rattle.std.specs.Prelude.{◌≡◌, ◌<◌, ◌^◌, IfOk, MatchOption, length, slice_get, Some, None};
+ghost use Rattle.std.specs.Prelude.{◌≡◌, ◌<◌, ◌^◌, MatchOption, length, slice_get, Some, None};
 ghost use Rattle.code_points.specs.Procedures.{AreProcsOf};
 ghost use Rattle.command_words.specs.Asked.{asked_plan};
+ghost use Rattle.command_words.specs.Requests.{HasRanges, make_plan};
 ghost use Rattle.mdl_ast.specs.declared.metric.Metric.{Metric};
-ghost use Rattle.mdl_check.specs.Checking.{Selects};
-ghost use Rattle.mdl_plan.specs.Plans.{plan_of};
-ghost use Rattle.code_points.specs.Points.{points_of};
-ghost use Rattle.paradyn_top.specs.Plans.{IsPlan, IsPlanned, metric_named, unmeasured};
-ghost use Rattle.paradyn_top.specs.Founds.{IsFoundIn};
-ghost use Rattle.resource_tree.specs.Foci.{canonical};
-ghost use Rattle.paradyn_top.specs.Programs.{IsProgram};
-ghost use Rattle.paradyn_top.specs.Replies.{answer_of};
+ghost use Rattle.paradyn_top.specs.Due.{IsPlanDue};
+ghost use Rattle.paradyn_top.specs.Plans.{metric_named, IsSelected, IsPlanAt, IsPlan};
+ghost use Rattle.paradyn_top.specs.Sights.{seen, Looks};
+ghost use Rattle.pn_types.specs.Images.{IsImage};
+ghost use Rattle.refusals.specs.Refusals.{Comes};
 
-use crate::checking::Found;
-use crate::configuration::{ConfFault, ConfKind};
+use crate::configuration::bad_configuration;
 use crate::costs::predicted;
-use crate::faults::Fault;
-use crate::reply::{Reply, refuse, succeed};
-use code_points::points;
+use crate::files::text_of;
+use crate::finding::{Found, find};
+use crate::inputs::read_inputs;
+use crate::texts::Texts;
 use command_words::PlanRequest;
 use mdl_ast::Metric;
-use mdl_check::Checked;
 use mdl_plan::{PlanFault, plan};
-use pn_types::{Focus, Image, NoMemory, PickCause, Text};
+use outside::Files;
+use pn_types::{Focus, Image, PickCause, Text};
+use refusals::{ConfKind, Fault, Refusal};
 use report::plan_text;
-use resource_tree::Tree;
 use std::alloc::Global;
-
-/// The fault of a metric's name that the configuration doesn't have.
-const UNKNOWN_NAME: ConfFault = ConfFault {
-    line: 0,
-    col: 0,
-    kind: ConfKind::UnknownName,
-};
-
-/// The fault of a focus that selects nothing.
-const BAD_FOCUS: ConfFault = ConfFault {
-    line: 0,
-    col: 0,
-    kind: ConfKind::BadFocus,
-};
 
 /// The number of the first metric of this name.
 fn metric_number(metrics: &[Metric], name: &[u8]) -> Option<u32>
@@ -57,90 +41,92 @@ fn metric_number(metrics: &[Metric], name: &[u8]) -> Option<u32>
 }
 
 /// What a text selects.
-fn selected(tree: &Tree, text: &[u8]) -> Option<Focus>
-    ensures { Selects tree.now text.now result }
+fn select(found: &Found, text: &str) -> Result<Focus, Refusal>
+    ensures { Comes result (IsSelected found.now.tree text.now) }
 {
-    match tree.focus(text) {
-        Ok(focus) => Some(focus),
-        Err(_) => None,
+    match found.tree.selected(text.as_bytes()) {
+        Some(focus) => Ok(focus),
+        None => Err(bad_configuration(0, 0, ConfKind::BadFocus)),
     }
 }
 
-/// The answer that a metric can't be measured at a focus.
-fn refuse_pick(
-    alloc: Global,
-    metric: &str,
-    focus: Text,
-    cause: PickCause,
-) -> Result<Reply, NoMemory>
-    ensures { IfOk result (λ reply. answer_of reply ≡ unmeasured metric.now focus cause) }
+/// The refusal of a metric at a focus.
+fn bad_pick(metric: Text, focus: Text, cause: PickCause) -> Refusal
+    ensures { result ≡ Refusal.Fault (Fault.BadPick metric focus cause) }
 {
-    let metric = Text::from_vec(metric.as_bytes().to_vec(alloc)?);
-    refuse(alloc, &Fault::BadPick(metric, focus, cause))
+    Refusal::Fault(Fault::BadPick(metric, focus, cause))
 }
 
-/// The answer for a metric, which has this name and number, at a focus.
-fn answer_pick(
+/// The plan of a metric, which has this name and number, at a focus.
+fn plan_at(
     alloc: Global,
-    image: &Image,
     found: &Found,
     name: &str,
     number: u32,
     focus: &Focus,
-) -> Result<Reply, NoMemory>
-    requires program { IsProgram image.now }
-    requires procs { AreProcsOf image.now found.now.procs.items }
+) -> Result<Texts, Refusal>
+    requires procs { length found.now.procs < 2 ^ 32 }
+    requires points { length found.now.points < 2 ^ 32 }
     requires number { number < length found.now.checked.metrics }
-    ensures { (m : Metric) → slice_get found.now.checked.metrics number ≡ Some m → IfOk result (λ reply.
-        IsPlanned name.now (canonical found.now.tree focus.now) (plan_of found.now.checked.constraints m focus.now found.now.tree found.now.procs.items (points_of image.now found.now.procs.items)) (answer_of reply)) }
+    ensures { (m : Metric) → slice_get found.now.checked.metrics number ≡ Some m → Comes result (IsPlanAt name.now found.now m focus.now) }
 {
-    let points = points(alloc, image, &found.procs)?;
     let text = found.tree.focus_text(alloc, focus)?;
+    let metric = text_of(alloc, name)?;
+    let procs = found.procs.as_slice();
+    let points = found.points.as_slice();
     match plan(
         alloc,
         &found.checked,
         number,
         focus,
         &found.tree,
-        &found.procs,
-        &points,
+        procs,
+        points,
     ) {
         Ok(plan) => {
             let words = predicted(&plan);
-            let shown = plan_text(alloc, name.as_bytes(), text.bytes(), words, &plan)?;
-            Ok(succeed(alloc, shown))
+            let shown = plan_text(alloc, metric.bytes(), text.bytes(), words, &plan)?;
+            Ok(Texts::output(alloc, shown))
         }
-        Err(PlanFault::NoMemory) => Err(NoMemory {}),
+        Err(PlanFault::NoMemory) => Err(Refusal::NoMemory),
         Err(PlanFault::NoConstraint(axis)) => {
-            refuse_pick(alloc, name, text, PickCause::NoConstraint(axis))
+            Err(bad_pick(metric, text, PickCause::NoConstraint(axis)))
         }
         Err(PlanFault::TooManySites(count)) => {
-            refuse_pick(alloc, name, text, PickCause::TooManySites(count))
+            Err(bad_pick(metric, text, PickCause::TooManySites(count)))
         }
         Err(PlanFault::TooManyStmts(at)) => {
-            refuse_pick(alloc, name, text, PickCause::TooManyStmts(at))
+            Err(bad_pick(metric, text, PickCause::TooManyStmts(at)))
         }
     }
 }
 
-/// The answer that shows how a metric is measured at a focus, or why it can't be. First its name is looked for, and then
-/// what the focus selects.
-pub(crate) fn answer_plan(
-    alloc: Global,
-    image: &Image,
-    found: &Found,
-    request: &PlanRequest<'_>,
-) -> Result<Reply, NoMemory>
-    requires program { IsProgram image.now }
-    requires found { IsFoundIn image.now found.now }
-    ensures { IfOk result (λ reply. IsPlan (asked_plan request.now) image.now found.now.tree found.now.checked (answer_of reply)) }
+/// The plan of the named metric at the focus of the text. First the name is looked for, and then what the text selects.
+fn plan_found(alloc: Global, request: &PlanRequest<'_>, found: &Found) -> Result<Texts, Refusal>
+    requires procs { length found.now.procs < 2 ^ 32 }
+    requires points { length found.now.points < 2 ^ 32 }
+    requires metrics { length found.now.checked.metrics < 2 ^ 32 }
+    ensures { Comes result (IsPlan (asked_plan request.now) found.now) }
 {
     let metrics = found.checked.metrics.as_slice();
     let Some(number) = metric_number(metrics, request.metric.as_bytes()) else {
-        return refuse(alloc, &Fault::BadConf(UNKNOWN_NAME));
+        return Err(bad_configuration(0, 0, ConfKind::UnknownName));
     };
-    let Some(focus) = selected(&found.tree, request.focus.as_bytes()) else {
-        return refuse(alloc, &Fault::BadConf(BAD_FOCUS));
-    };
-    answer_pick(alloc, image, found, request.metric, number, &focus)
+    let focus = select(found, request.focus)?;
+    plan_at(alloc, found, request.metric, number, &focus)
+}
+
+/// What is due for `plan`.
+pub(crate) fn show_plan<F: Files>(
+    alloc: Global,
+    request: &PlanRequest<'_>,
+    files: &mut F,
+) -> Result<Texts, Refusal>
+    requires { HasRanges (make_plan (asked_plan request.now)) }
+    ensures due { Comes result (IsPlanDue (asked_plan request.now) (seen (F.holds files.old) (F.faults files.old) (F.faults files.new))) }
+    ensures looks { Looks F.holds F.faults files.old files.new result }
+{
+    let inputs = read_inputs(alloc, files, request.program, request.conf)?;
+    let found = find(alloc, &inputs.image, request.harts, &inputs.conf)?;
+    plan_found(alloc, request, &found)
 }

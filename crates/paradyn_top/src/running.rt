@@ -1,34 +1,84 @@
-ghost use Rattle.std.specs.Prelude.{◌≡◌, IfOk};
-ghost use Rattle.command_words.specs.Requests.{AreInRange};
-ghost use Rattle.plain_report.specs.Reports.{IsReport, IsInRange};
-ghost use Rattle.paradyn_top.specs.Due.{run_settings};
-ghost use Rattle.paradyn_top.specs.Programs.{IsProgram};
+//! The command `run`.
 
-use command_words::Settings;
-use plain_report::{RunSettings, report_of_run};
-use pn_types::{Image, NoMemory};
+ghost use Rattle.std.specs.Prelude.{◌≡◌, option_map};
+ghost use Rattle.command_words.specs.Asked.{asked_run};
+ghost use Rattle.command_words.specs.Requests.{HasRanges, run};
+ghost use Rattle.paradyn_top.specs.Due.{asks_instruments, IsRun, IsRunOf, IsRunDue};
+ghost use Rattle.paradyn_top.specs.Sights.{seen, Looks};
+ghost use Rattle.pn_types.specs.Images.{IsImage};
+ghost use Rattle.refusals.specs.Refusals.{Comes};
+
+use crate::finding::{Found, find};
+use crate::inputs::read_inputs;
+use crate::texts::Texts;
+use command_words::RunRequest;
+use mdl_check::Checked;
+use outside::Files;
+use plain_report::report_of_run;
+use pn_types::Image;
+use refusals::{Fault, Refusal};
 use std::alloc::Global;
 
-/// The settings of a run without instruments.
-fn run_settings(settings: &Settings) -> RunSettings
-    requires { AreInRange settings.now }
-    ensures same { result ≡ run_settings settings.now }
-    ensures range { IsInRange result }
+/// Whether the configuration asks for what needs instruments.
+fn asks_instruments(checked: &Checked) -> bool
+    ensures { result ≡ asks_instruments checked.now }
 {
-    RunSettings {
-        harts: settings.harts as u32,
-        seed: settings.seed as u32,
-        quantum: settings.quantum as u32,
-        budget: settings.budget,
-        width: settings.width,
-    }
+    !checked.wishes.as_slice().is_empty()
+        || checked.search.is_some()
+        || !checked.phases.as_slice().is_empty()
 }
 
-/// Runs an image, and reports the run.
-pub fn run_image(alloc: Global, image: &Image, settings: &Settings) -> Result<Vec<u8>, NoMemory>
-    requires program { IsProgram image.now }
-    requires settings { AreInRange settings.now }
-    ensures { IfOk result (λ text. IsReport image.now (run_settings settings.now) text.items) }
+/// The report of a run of what was found.
+fn run_found(
+    alloc: Global,
+    request: &RunRequest<'_>,
+    image: &Image,
+    found: &Found,
+) -> Result<Texts, Refusal>
+    requires ranges { HasRanges (run (asked_run request.now)) }
+    requires image { IsImage image.now }
+    ensures { Comes result (IsRun (asked_run request.now) image.now found.now) }
 {
-    report_of_run(alloc, image, &run_settings(settings))
+    if asks_instruments(&found.checked) {
+        return Err(Refusal::Fault(Fault::NotYet));
+    }
+    let text = report_of_run(
+        alloc,
+        image,
+        &request.settings,
+        request.seed,
+        request.quantum,
+    )?;
+    Ok(Texts::output(alloc, text))
+}
+
+/// The report of a run of the files.
+fn run_files<F: Files>(
+    alloc: Global,
+    request: &RunRequest<'_>,
+    files: &mut F,
+) -> Result<Texts, Refusal>
+    requires ranges { HasRanges (run (asked_run request.now)) }
+    ensures due { Comes result (IsRunOf (asked_run request.now) (seen (F.holds files.old) (F.faults files.old) (F.faults files.new))) }
+    ensures looks { Looks F.holds F.faults files.old files.new result }
+{
+    let inputs = read_inputs(alloc, files, request.program, request.conf)?;
+    let found = find(alloc, &inputs.image, request.settings.harts, &inputs.conf)?;
+    run_found(alloc, request, &inputs.image, &found)
+}
+
+/// What is due for `run`.
+pub(crate) fn run<F: Files>(
+    alloc: Global,
+    request: &RunRequest<'_>,
+    files: &mut F,
+) -> Result<Texts, Refusal>
+    requires ranges { HasRanges (run (asked_run request.now)) }
+    ensures due { Comes result (IsRunDue (asked_run request.now) (option_map (λ s. s.now) request.now.log) (seen (F.holds files.old) (F.faults files.old) (F.faults files.new))) }
+    ensures looks { Looks F.holds F.faults files.old files.new result }
+{
+    match request.log {
+        Some(_) => Err(Refusal::Fault(Fault::NotYet)),
+        None => run_files(alloc, request, files),
+    }
 }

@@ -1,13 +1,46 @@
-ghost use Rattle.std.specs.Prelude.{◌≡◌, ◌≢◌, ◌⊎◌, List, ℕ, map, string_bytes};
-ghost use Rattle.outside.specs.Outside.{IsCalm};
-ghost use Rattle.paradyn_top.specs.Answers.{Answer};
-ghost use Rattle.paradyn_top.specs.Due.{IsDue, IsUnreadable};
-ghost use Rattle.paradyn_top.specs.Delivery.{IsTorn, Gained};
+ghost use Rattle.std.specs.Prelude.{◌≡◌, ◌≢◌, IfOk, OnErr, Result, Err, map, string_bytes};
+ghost use Rattle.paradyn_top.specs.Answers.{status_of, texts_of};
+ghost use Rattle.paradyn_top.specs.Serving.{IsOwed, IsUntold, IsReply, AreGained, AreTorn};
+ghost use Rattle.paradyn_top.specs.declared.texts.Texts.{Texts as texts};
+ghost use Rattle.refusals.specs.declared.fault.Fault.{Fault as fault};
 
 use crate::answering::answer;
 use crate::delivery::deliver;
+use crate::texts::Texts;
 use outside::{Files, Sink};
+use pn_types::NoMemory;
+use refusals::{Fault, Refusal, faults_text};
 use std::alloc::Global;
+
+/// A status with the bytes that go with it.
+#[derive(Drop)]
+pub struct Reply {
+    pub status: u8,
+    pub texts: Texts,
+}
+
+/// The reply of a fault.
+fn refuse(alloc: Global, fault: &Fault) -> Result<Reply, NoMemory>
+    ensures { IfOk result (IsReply (Err fault.now)) }
+{
+    Ok(Reply {
+        status: fault.status(),
+        texts: Texts::output(alloc, faults_text(alloc, fault)?),
+    })
+}
+
+/// The reply for words and files.
+fn reply_to<F: Files>(alloc: Global, words: &[String], files: &mut F) -> Result<Reply, NoMemory>
+    ensures owed { IfOk result (λ reply. (answer : Result texts fault)
+        × IsOwed F.holds F.faults files.old files.new (map string_bytes words.now) answer × IsReply answer reply) }
+    ensures untold { OnErr result (IsUntold F.holds F.faults files.old files.new (map string_bytes words.now)) }
+{
+    match answer(alloc, words, files) {
+        Ok(texts) => Ok(Reply { status: 0, texts }),
+        Err(Refusal::Fault(fault)) => Ok(refuse(alloc, &fault)?),
+        Err(Refusal::NoMemory) => Err(NoMemory {}),
+    }
+}
 
 /// All that the program does: it takes the words of the command line without the program's name, reads the files that
 /// they name, and writes to the output and the log. It answers the program's status:
@@ -29,31 +62,22 @@ pub fn serve<F: Files, K: Sink, L: Sink>(
     out: &mut K,
     log: &mut L,
 ) -> u8
-    // 0, 2, 4, 5, 6, 10: both sinks gained all that is due for the words and the files.
-    ensures due { result ≢ 3 → result ≢ 7 → result ≢ 8 → (answer : Answer)
-        × IsDue (map string_bytes words.now) (F.holds files.old) answer
-        × (result ≡ answer.status)
-        × Gained K.has K.faults out.old out.new answer.out
-        × Gained L.has L.faults log.old log.new answer.log }
-    // 3: a file that was to be read could not be, and its count of faults rose.
-    ensures unreadable { result ≡ 3 → (answer : Answer)
-        × IsUnreadable (map string_bytes words.now) (F.holds files.old) (F.faults files.old) (F.faults files.new) answer
-        × Gained K.has K.faults out.old out.new answer.out
-        × Gained L.has L.faults log.old log.new answer.log }
+    // All but 7 and 8: the answer that is due was given, and both sinks gained its bytes.
+    ensures answered { result ≢ 7 → result ≢ 8 → (answer : Result texts fault)
+        × IsOwed F.holds F.faults files.old files.new (map string_bytes words.now) answer
+        × (result ≡ status_of answer)
+        × AreGained K.has K.faults out.old out.new L.has L.faults log.old log.new (texts_of answer) }
     // 7: a sink lacks a part of what was due, and its count of faults rose.
-    ensures torn { result ≡ 7 → (answer : Answer)
-        × (IsDue (map string_bytes words.now) (F.holds files.old) answer
-        ⊎ IsUnreadable (map string_bytes words.now) (F.holds files.old) (F.faults files.old) (F.faults files.new) answer)
-        × (((out.new ≡ out.old) × IsTorn L.has L.faults log.old log.new answer.log)
-        ⊎ (Gained L.has L.faults log.old log.new answer.log × IsTorn K.has K.faults out.old out.new answer.out)) }
-    // 8: nothing was written.
-    ensures memory { result ≡ 8 → (out.new ≡ out.old) × (log.new ≡ log.old) }
-    // Where it answers neither 3, 7 nor 8, no reading failed.
-    ensures calm { result ≢ 3 → result ≢ 7 → result ≢ 8 → IsCalm F.faults files.old files.new }
+    ensures torn { result ≡ 7 → (answer : Result texts fault)
+        × IsOwed F.holds F.faults files.old files.new (map string_bytes words.now) answer
+        × AreTorn K.has K.faults out.old out.new L.has L.faults log.old log.new (texts_of answer) }
+    // 8: nothing was written, and nothing was read beyond what is due.
+    ensures memory { result ≡ 8 → (out.new ≡ out.old) × (log.new ≡ log.old)
+        × IsUntold F.holds F.faults files.old files.new (map string_bytes words.now) }
 {
-    match answer(alloc, words, files) {
+    match reply_to(alloc, words, files) {
         Err(_) => 8,
-        Ok(reply) => match deliver(&reply, out, log) {
+        Ok(reply) => match deliver(&reply.texts, out, log) {
             Ok(()) => reply.status,
             Err(_) => 7,
         },

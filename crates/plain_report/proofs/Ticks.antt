@@ -8,13 +8,16 @@ use Rattle.rv_word.specs.Exec.{done}
 use Rattle.rv_word.specs.Plain.{Words, PlainHart, Plain, plain, may_go, turn_of, hart_after, fetched, program_word}
 use Rattle.rv_word.specs.declared.outcome.Next.{Next}
 use Rattle.rv_word.specs.declared.outcome.Next.TheVariants.{Go, Stop}
-use Rattle.rv_exec.specs.Start.{harts_from, program_of, start}
+use Rattle.rv_mem.specs.Start.{program_of}
+use Rattle.rv_exec.specs.Start.{harts_from, start}
 use Rattle.rv_exec.specs.Run.{run_from, LegalFrom}
-use Rattle.rv_exec.proofs.Runs.{run_from-append, length-plain}
-use Rattle.plain_run.specs.Schedules.{Taken, turns_of, all_turns, InOrder, order_after, order_of_seed}
+use Rattle.rv_exec.proofs.Runs.{run_from-append, length-run_from}
+use Rattle.plain_run.specs.Schedules.{Taken, turns_of, all_turns, InOrder}
+use Rattle.turn_order.specs.Orders.{order_after, order_of_seed}
 use Rattle.plain_run.specs.Machines.{Machine}
 use Rattle.plain_run.specs.Scheduled.{Schedules}
-use Rattle.plain_run.specs.declared.order.Order.{Order}
+use Rattle.turn_order.specs.declared.order.Order.{Order}
+use Rattle.pn_types.specs.declared.limits.TheConstants.{MAX_HARTS, MAX_BUDGET}
 use Rattle.plain_run.proofs.Harts.{ticks_below}
 use Rattle.report.specs.declared.parts.HartPart.{HartPart}
 use Rattle.report.specs.declared.parts.ReportParts.{ReportParts}
@@ -60,10 +63,6 @@ pub length-harts_from : (image : Image) (n more h : ℕ) → length (harts_from 
 length-harts_from image n zero h = refl
 length-harts_from image n (suc more) h = ap suc (length-harts_from image n more (h + 1))
 
-pub length-run_from : (t : Words) (turns : List ℕ) (s : Plain) → length (run_from t turns s).harts ≡ length s.harts
-length-run_from t [] s = refl
-length-run_from t (h ∷ hs) s = length-run_from t hs (plain t h s) ∙ length-plain t h s
-
 -- the ticks of all harts together
 sum_from : (budget limit : ℕ) (hs : List PlainHart) (a : ℕ) → budget ≤ limit → AtMost budget hs → fold (λ n (part : HartPart). n + part.ticks) a (map (hart_part budget) hs) ≤ a + length hs * limit
 sum_from budget limit [] a l h = omega arith
@@ -73,9 +72,9 @@ sum_from budget limit (x ∷ xs) a l h =
     let more = suc-mul (length xs) limit in
     omega arith
 
-pub sum_below : (budget : ℕ) (hs : List PlainHart) → budget ≤ 100000000 → length hs ≤ 16 → AtMost budget hs → sum_by (λ part. part.ticks) (map (hart_part budget) hs) < 2 ^ 64
+pub sum_below : (budget : ℕ) (hs : List PlainHart) → budget ≤ MAX_BUDGET → length hs ≤ MAX_HARTS → AtMost budget hs → sum_by (λ part. part.ticks) (map (hart_part budget) hs) < 2 ^ 64
 sum_below budget hs l few h =
-    let sum = sum_from budget 100000000 hs 0 l h in
+    let sum = sum_from budget MAX_BUDGET hs 0 l h in
     omega arith
 
 -- ---- a machine that took a whole list of quanta from its start
@@ -99,7 +98,7 @@ module _ (old new : Machine) (image : Image) (n budget seed most width samples :
   pub parts_are : (parts : ReportParts) → parts ≡ parts_of new.budget samples new.state → length parts.harts ≡ n
   parts_are parts e = ap (λ (p : ReportParts). length p.harts) e ∙ length-map new.state.harts (hart_part new.budget) ∙ sym harts_are
 
-  pub ticks_are : (parts : ReportParts) → parts ≡ parts_of new.budget samples new.state → budget ≤ 100000000 → n ≤ 16 → sum_by (λ part. part.ticks) parts.harts < 2 ^ 64
+  pub ticks_are : (parts : ReportParts) → parts ≡ parts_of new.budget samples new.state → budget ≤ MAX_BUDGET → n ≤ MAX_HARTS → sum_by (λ part. part.ticks) parts.harts < 2 ^ 64
   ticks_are parts e small few =
       let is : new.budget ≡ old.budget = ap (λ (m : Machine). m.budget) ran.after in
       let most_is : AtMost new.budget new.state.harts = subst (λ b. AtMost b new.state.harts) (sym is) at_most in

@@ -1,10 +1,10 @@
 //! Runs a program without instruments, and reports the run.
 #![tactic(auto)]
 
+mod laws;
 mod parts;
 mod running;
-mod settings;
 mod skipping;
 
+pub use laws::one_report;
 pub use running::report_of_run;
-pub use settings::RunSettings;

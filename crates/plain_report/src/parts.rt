@@ -3,7 +3,7 @@ ghost use Rattle.rv_word.specs.Plain.{can};
 ghost use Rattle.plain_report.specs.Reports.{ended_by, hart_part, parts_of};
 
 use plain_run::PlainMachine;
-use pn_types::{HartNo, NoMemory, Seq, StopText, Text};
+use pn_types::{HartNo, MAX_HARTS, NoMemory, Seq, StopText, Text};
 use report::{HartPart, ReportParts};
 use rv_word::Cause;
 use std::alloc::Global;
@@ -37,23 +37,15 @@ fn hart_part(machine: &PlainMachine, hart: HartNo) -> HartPart
     }
 }
 
-/// The hart of a number that is in range.
-fn hart(number: u32) -> HartNo
-    requires { number < 16 }
-    ensures { result ≡ number }
-{
-    HartNo::new(number).unwrap()
-}
-
 /// What a report says of each hart.
 fn hart_parts(alloc: Global, machine: &PlainMachine, harts: u32) -> Result<Vec<HartPart>, NoMemory>
     requires harts { harts ≡ length machine.now.state.harts }
-    requires few { harts ≤ 16 }
+    requires few { harts ≤ MAX_HARTS }
     ensures { IfOk result (λ parts. parts.items ≡ map (hart_part machine.now.budget) machine.now.state.harts) }
 {
     let mut parts = Vec::new(alloc);
     for number in 0..harts {
-        parts.push(hart_part(machine, hart(number)))?;
+        parts.push(hart_part(machine, HartNo::numbered(number)))?;
     }
     Ok(parts)
 }
@@ -66,7 +58,7 @@ pub fn report_parts(
     samples: u64,
 ) -> Result<ReportParts, NoMemory>
     requires harts { harts ≡ length machine.now.state.harts }
-    requires few { harts ≤ 16 }
+    requires few { harts ≤ MAX_HARTS }
     ensures { IfOk result (λ parts. parts ≡ parts_of machine.now.budget samples machine.now.state) }
 {
     let output = machine.output().to_vec(alloc)?;

@@ -1,34 +1,34 @@
-ghost use Rattle.std.specs.Prelude.{◌≡◌, IfOk};
-ghost use Rattle.std.specs.List.{All};
-ghost use Rattle.rv_mem.specs.Start.{IsSized};
-ghost use Rattle.code_points.specs.Procedures.{IsCountable};
-ghost use Rattle.plain_report.specs.Reports.{IsReport, IsInRange};
+ghost use Rattle.std.specs.Prelude.{◌≤◌, IfOk};
+ghost use Rattle.pn_types.specs.Images.{IsImage};
+ghost use Rattle.pn_types.specs.Settings.{AreInRange};
+ghost use Rattle.plain_report.specs.Reports.{IsReport};
 
 use crate::parts::report_parts;
-use crate::settings::RunSettings;
 use crate::skipping::skipped;
 use plain_run::{PlainMachine, run_schedule};
-use pn_types::{Image, NoMemory};
+use pn_types::{Image, MAX_QUANTUM, NoMemory, Settings};
 use report::report;
 use std::alloc::Global;
 
-/// Runs an image without instruments, and reports the run.
+/// Runs an image without instruments, its harts taking quanta of at most `quantum` turns, from 1 to [`MAX_QUANTUM`], in
+/// the order of a seed, and reports the run.
 pub fn report_of_run(
     alloc: Global,
     image: &Image,
-    settings: &RunSettings,
+    settings: &Settings,
+    seed: u32,
+    quantum: u32,
 ) -> Result<Vec<u8>, NoMemory>
-    requires segments { All IsSized image.now.segments }
-    requires countable { IsCountable image.now }
-    requires settings { IsInRange settings.now }
-    ensures { IfOk result (λ text. IsReport image.now settings.now text.items) }
+    requires image { IsImage image.now }
+    requires settings { AreInRange settings.now }
+    requires quantum { (1 ≤ quantum) × (quantum ≤ MAX_QUANTUM) }
+    ensures { IfOk result (λ text. IsReport image.now settings.now seed quantum text.items) }
 {
-    let RunSettings {
+    let Settings {
         harts,
-        seed,
-        quantum,
         budget,
         width,
+        ..
     } = *settings;
     let mut machine = PlainMachine::new(alloc, image, harts, budget)?;
     let samples = run_schedule(&mut machine, harts, seed, quantum, width);

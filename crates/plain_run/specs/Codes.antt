@@ -1,4 +1,4 @@
--- The code of a machine's value, from the codes of its parts.
+-- For proofs alone: the code of a machine's value, from the codes of its parts.
 use Rattle.std.specs.Prelude.{ℕ, List, Option}
 use mathlib.Core.Path.{refl}
 use Rattle.std.specs.Coded.{Coded, code_by, coded×, coded_ℕ, coded_list, coded_option}

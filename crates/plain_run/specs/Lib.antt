@@ -3,3 +3,4 @@ pub mod Views
 pub mod Codes
 pub mod Schedules
 pub mod Scheduled
+pub mod Alone

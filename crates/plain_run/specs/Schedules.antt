@@ -1,45 +1,10 @@
--- The order in which harts take their quanta, each of so many turns, and the samples that are counted then.
-use Rattle.std.specs.Prelude.{ℕ, zero, suc, ◌<◌, ◌≡◌, ◌⊎◌, ◌≤◌, ◌+◌, ◌-◌, ◌*◌, ◌/◌, ◌%◌, ◌^◌, nat_le, nat_lt, if◌then◌else◌, Bool, false, Option, Some, None, List, [], ◌∷◌, ◌++◌, length, min, find, filter, map, replicate, slice_get, sum_by}
-use Rattle.rv_word.specs.Plain.{Words, Plain, plain, can}
+-- The quanta that harts take in an order, each of so many turns, and the samples that are counted then.
+use Rattle.std.specs.Prelude.{ℕ, ◌<◌, ◌≡◌, ◌⊎◌, ◌≤◌, ◌+◌, ◌*◌, ◌/◌, ◌^◌, nat_le, nat_lt, if◌then◌else◌, false, Some, List, [], ◌∷◌, ◌++◌, length, replicate}
+use Rattle.rv_word.specs.Plain.{Words, Plain, can}
 use Rattle.rv_exec.specs.Run.{run_from, LegalFrom, HasEnded}
 use Rattle.plain_run.specs.declared.samples.Samples.{Samples}
-use Rattle.plain_run.specs.declared.order.Order.{Order}
-use Rattle.plain_run.specs.declared.order.Order.TheVariants.{RoundRobin, Random}
-
--- k numbers from a on
-abbrev pub numbers : ℕ → ℕ → List ℕ
-numbers a zero = []
-numbers a (suc k) = a ∷ numbers (a + 1) k
-
--- ---- which hart is next, of n
-
--- the harts from `next` on, and then those before it
-abbrev pub round : ℕ → ℕ → List ℕ
-round next n = numbers next (n - next) ++ numbers 0 (min next n)
-
--- the harts that can take a turn, by number
-abbrev pub runnable_harts : ℕ → Plain → ℕ → List ℕ
-runnable_harts budget s n = filter (can budget s) (numbers 0 n)
-
--- the next value of the generator
-abbrev pub generated : ℕ → ℕ
-generated x = (x * 6364136223846793005 + 1442695040888963407) % 2 ^ 64
-
--- The hart that is next: the first in the round that can take a turn, or the one at the generator's place among those
--- that can; none where none can.
-abbrev pub picked : Order → ℕ → Plain → ℕ → Option ℕ
-picked (RoundRobin next) budget s n = find (can budget s) (round next n)
-picked (Random x) budget s n = slice_get (runnable_harts budget s n) (generated x / 2 ^ 33 % length (runnable_harts budget s n))
-
--- the order after hart h was picked
-abbrev pub order_after : Order → ℕ → Order
-order_after (RoundRobin next) h = RoundRobin (h + 1)
-order_after (Random x) h = Random (generated x)
-
--- the order of a seed: 0 goes round, another begins the generator
-abbrev pub order_of_seed : ℕ → Order
-order_of_seed zero = RoundRobin 0
-order_of_seed (suc seed) = Random (suc seed)
+use Rattle.turn_order.specs.declared.order.Order.{Order}
+use Rattle.turn_order.specs.Orders.{picked, order_after}
 
 -- ---- quanta
 
@@ -67,7 +32,7 @@ pub record IsQuantum (t : Words) (budget most : ℕ) (s : Plain) (taken : Taken)
 abbrev pub InOrder : Words → ℕ → ℕ → ℕ → Order → Plain → List Taken → Type 0
 InOrder t budget n most order s [] = Unit {0}
 InOrder t budget n most order s (taken ∷ rest) =
-    (picked order budget s n ≡ Some taken.hart) × IsQuantum t budget most s taken
+    (picked order (can budget s) n ≡ Some taken.hart) × IsQuantum t budget most s taken
     × InOrder t budget n most (order_after order taken.hart) (run_from t (turns_of taken) s) rest
 
 -- A whole list of quanta: in order, and at its end no hart can go on, or the list has its greatest length.
@@ -75,6 +40,11 @@ pub record IsWholeSchedule (t : Words) (budget n most limit : ℕ) (order : Orde
   pub ordered : InOrder t budget n most order s quanta
   pub bound : length quanta ≤ limit
   pub ended : HasEnded budget (run_from t (all_turns quanta) s) ⊎ (length quanta ≡ limit)
+
+-- there is at most one whole list of quanta
+abbrev pub OneSchedule : Type 0
+OneSchedule =
+    (t : Words) (budget n most limit : ℕ) (order : Order) (s : Plain) (quanta others : List Taken) → IsWholeSchedule t budget n most limit order s quanta → IsWholeSchedule t budget n most limit order s others → quanta ≡ others
 
 -- ---- samples
 

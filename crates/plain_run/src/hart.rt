@@ -1,12 +1,13 @@
-ghost use Rattle.std.specs.Prelude.{◌≡◌, ◌<◌, ◌^◌, length, ◌+◌};
-ghost use Rattle.rv_word.specs.Exec.{prog_of, done};
-ghost use Rattle.rv_word.specs.Plain.{fetched, after_done};
-ghost use Rattle.plain_run.specs.Views.{hart_of};
+ghost use Rattle.std.specs.Prelude.{◌≡◌, ◌*◌, ◌<◌, ◌^◌, ◌+◌, Some, length};
+ghost use Rattle.rv_word.specs.Plain.{may_go};
+ghost use Rattle.plain_run.specs.Views.{hart_of, alone_of};
+ghost use Rattle.plain_run.specs.Alone.{TakesAlone};
 
+use crate::program::{fetch, place_of, word_at};
 use pn_types::HartNo;
-use rv_exec::{Output, Regs, Reservations, exec};
+use rv_exec::{Decoded, Output, Regs, Reservations};
 use rv_mem::Mem;
-use rv_word::{Cause, Next};
+use rv_word::Cause;
 
 /// What one hart has.
 #[derive(Drop)]
@@ -17,27 +18,69 @@ pub struct HartState {
     pub stop: Option<Cause>,
 }
 
-/// One turn of a hart at a fetched word, or at none.
-pub fn turn(
+impl HartState {
+    /// Whether the hart isn't stopped, and has fewer ticks than the budget.
+    pub fn may_go(&self, budget: u64) -> bool
+        ensures { result ≡ may_go (Some (hart_of self.now)) budget }
+    {
+        self.stop.is_none() && self.ticks < budget
+    }
+}
+
+/// Turns of a hart by itself, at most `most`, until it is stopped or has the budget's ticks. It answers how many.
+pub fn take_turns(
     hart: &mut HartState,
     number: HartNo,
-    word: Option<u32>,
+    words: &[Decoded],
+    text_at: u64,
+    budget: u64,
+    most: u32,
     mem: &mut Mem,
     resv: &mut Reservations,
     out: &mut Output,
-)
+) -> u32
     requires hart { number < length resv.old }
-    requires ticks { hart.old.ticks + 1 < 2 ^ 64 }
-    ensures value { after_done (done (fetched word number (hart_of hart.old) (prog_of mem.old resv.old out.old)) hart.old.regs (prog_of mem.old resv.old out.old)) (hart_of hart.old) ≡ record { hart = hart_of hart.new; prog = prog_of mem.new resv.new out.new } }
+    requires ends { text_at + 4 * length words.now < 2 ^ 64 }
+    ensures taken { TakesAlone (record { at = text_at; words = words.now }) number budget most (alone_of hart.old mem.old resv.old out.old) (alone_of hart.new mem.new resv.new out.new) result }
     ensures harts { length resv.new ≡ length resv.old }
 {
-    hart.ticks += 1;
-    let Some(word) = word else {
-        hart.stop = Some(Cause::FetchOutside);
-        return;
-    };
-    match exec(word, hart.pc, number, &mut hart.regs, mem, resv, out) {
-        Next::Go(pc) => hart.pc = pc,
-        Next::Stop(cause) => hart.stop = Some(cause),
+    if !hart.may_go(budget) {
+        return 0;
     }
+    let ticks = hart.ticks;
+    let limit = (budget - ticks).min(most as u64);
+    let mut pc = hart.pc;
+    for turns in 0..limit as u32 {
+        let at = pc;
+        let i = place_of(text_at, at);
+        let word = if i < words.len() as u64 {
+            word_at(words, i, text_at, at)
+        } else {
+            match fetch(words, text_at, at) {
+                Some(word) => word,
+                None => {
+                    hart.pc = at;
+                    hart.ticks = ticks + turns as u64 + 1;
+                    hart.stop = Some(Cause::FetchOutside);
+                    return turns + 1;
+                }
+            }
+        };
+        if !word.run(
+            number,
+            &mut pc,
+            &mut hart.stop,
+            &mut hart.regs,
+            mem,
+            resv,
+            out,
+        ) {
+            hart.pc = at;
+            hart.ticks = ticks + turns as u64 + 1;
+            return turns + 1;
+        }
+    }
+    hart.pc = pc;
+    hart.ticks = ticks + limit;
+    limit as u32
 }

@@ -2,14 +2,13 @@
 #![tactic(auto)]
 
 mod hart;
+mod laws;
 mod machine;
-mod order;
-mod picking;
 mod program;
 mod quanta;
 mod samples;
 
+pub use laws::one_schedule;
 pub use machine::PlainMachine;
-pub use order::Order;
-pub use quanta::{QUANTA_LIMIT, run_schedule};
+pub use quanta::run_schedule;
 pub use samples::Samples;

@@ -1,20 +1,23 @@
-ghost use Rattle.std.specs.Prelude.{◌≡◌, ◌<◌, ◌≤◌, IsTrue, IfOk, Some, length, slice_get};
+ghost use Rattle.std.specs.Prelude.{◌≡◌, ◌<◌, ◌≤◌, ◌==◌, not, if◌then◌else◌, IfOk, Some, length, slice_get};
+ghost use Rattle.std.specs.List.{filter};
 ghost use Rattle.std.specs.Option.{option_map};
-ghost use Rattle.std.specs.List.{All};
-ghost use Rattle.rv_word.specs.Plain.{plain, can};
-ghost use Rattle.rv_mem.specs.Start.{IsSized, heap_len, stack_len, heap_at, stack_at};
-ghost use Rattle.rv_exec.specs.Start.{program_of, start, start_regs, harts_from};
-ghost use Rattle.plain_run.specs.Machines.{Machine, turned};
-ghost use Rattle.plain_run.specs.Views.{harts_of};
+ghost use Rattle.pn_types.specs.Images.{IsImage};
+ghost use Rattle.rv_word.specs.Plain.{can, may_go};
+ghost use Rattle.rv_mem.specs.Start.{program_of, heap_len, stack_len};
+ghost use Rattle.rv_exec.specs.Start.{start, start_regs, harts_from};
+ghost use Rattle.turn_order.specs.Orders.{ready_of};
+ghost use Rattle.plain_run.specs.Views.{hart_of, harts_of, ready_harts};
+ghost use Rattle.plain_run.specs.Scheduled.{TakesQuantum};
 
-use crate::hart::{HartState, turn};
-use crate::program::{fetch, words};
-use pn_types::{HartNo, Image, NoMemory};
-use rv_exec::{Output, Regs, Reservations};
-use rv_mem::Mem;
+use crate::hart::{HartState, take_turns};
+use crate::program::words;
+use pn_types::{HartNo, Image, MAX_HARTS, NoMemory};
+use rv_exec::{Decoded, Output, Regs, Reservations};
+use rv_mem::{FIRST_STACK_AT, HEAP_AT, HEAP_LEN, Mem, STACK_DISTANCE, STACK_LEN};
 use rv_word::Cause;
 use std::alloc::Global;
 use std::marker::Model;
+use turn_order::Ready;
 
 /// A program on its harts, each of which has a budget of ticks. Contracts see the program's words, the budget and the
 /// state of the unpatched machine.
@@ -25,16 +28,18 @@ pub struct PlainMachine {
     resv: Reservations,
     out: Output,
     text_at: u64,
-    words: Vec<u32>,
+    words: Vec<Decoded>,
     budget: u64,
+    /// The harts that can take a turn.
+    ready: Ready,
 }
 
 impl Model for PlainMachine {
-    ghost use Rattle.std.specs.Prelude.{◌≡◌, ◌≤◌, length};
+    ghost use Rattle.std.specs.Prelude.{◌≡◌, ◌+◌, ◌*◌, ◌<◌, ◌^◌, length};
     ghost use Rattle.rv_word.specs.Exec.{prog_of};
     ghost use Rattle.plain_run.specs.Machines.{Machine};
     ghost use Rattle.plain_run.specs.Codes.{machine_code};
-    ghost use Rattle.plain_run.specs.Views.{harts_of};
+    ghost use Rattle.plain_run.specs.Views.{harts_of, ready_harts};
 
     ghost Value = { Machine };
 
@@ -42,12 +47,12 @@ impl Model for PlainMachine {
 
     ghost view = { λ m. record { program = record { at = m.text_at; words = m.words.items }; budget = m.budget; state = record { harts = harts_of m.harts.items; prog = prog_of m.mem m.resv m.out } } };
 
-    ghost invariant = { λ m. length m.resv ≡ length m.harts.items };
+    ghost invariant = { λ m. (length m.resv ≡ length m.harts.items) × (m.text_at + 4 * length m.words.items < 2 ^ 64) × (m.ready ≡ ready_harts m.budget m.harts.items) };
 }
 
 /// The registers with which a hart starts.
 fn first_regs(number: u32, harts: u32, heap: u32, stack: u32) -> Regs
-    requires number { number < 16 }
+    requires number { number < MAX_HARTS }
     requires heap { heap ≡ heap_len }
     requires stack { stack ≡ stack_len }
     ensures { result ≡ start_regs number harts }
@@ -55,9 +60,10 @@ fn first_regs(number: u32, harts: u32, heap: u32, stack: u32) -> Regs
     let mut regs = Regs::new();
     regs.set(10, number as u64);
     regs.set(11, harts as u64);
-    regs.set(12, 0x6000_0000);
+    regs.set(12, HEAP_AT);
     regs.set(13, heap as u64);
-    regs.set(2, 0x7000_0000 + number as u64 * 0x20000 + stack as u64);
+    let stack_at = FIRST_STACK_AT + number as u64 * STACK_DISTANCE;
+    regs.set(2, stack_at + stack as u64);
     regs
 }
 
@@ -69,7 +75,7 @@ fn first_harts(
     heap: u32,
     stack: u32,
 ) -> Result<Vec<HartState>, NoMemory>
-    requires harts { harts ≤ 16 }
+    requires harts { harts ≤ MAX_HARTS }
     requires heap { heap ≡ heap_len }
     requires stack { stack ≡ stack_len }
     ensures states { IfOk result (λ states. harts_of states.items ≡ harts_from harts 0 image.now harts) }
@@ -87,6 +93,30 @@ fn first_harts(
     Ok(states)
 }
 
+/// The harts that can take a turn.
+fn ready(alloc: Global, harts: &Vec<HartState>, budget: u64) -> Result<Ready, NoMemory>
+    requires { length harts.now.items ≤ MAX_HARTS }
+    ensures { IfOk result (λ ready. ready ≡ ready_harts budget harts.now.items) }
+{
+    let mut ready = Ready::new(alloc);
+    for number in 0..harts.len() {
+        if !harts[number].may_go(budget) {
+            continue;
+        }
+        ready.push(HartNo::numbered(number as u32))?;
+    }
+    Ok(ready)
+}
+
+/// Takes out a hart that can take no more turns.
+fn keep_ready(ready: &mut Ready, hart: HartNo, state: &HartState, budget: u64)
+    ensures { ready.new ≡ (if may_go (Some (hart_of state.now)) budget then ready.old else filter (λ h. not (h == hart)) ready.old) }
+{
+    if !state.may_go(budget) {
+        ready.remove(hart);
+    }
+}
+
 impl PlainMachine {
     /// The machine in which an image starts, on so many harts and with so many ticks for each.
     pub fn new(
@@ -95,18 +125,22 @@ impl PlainMachine {
         harts: u32,
         budget: u64,
     ) -> Result<PlainMachine, NoMemory>
-        requires segments { All IsSized image.now.segments }
-        requires harts { harts ≤ 16 }
+        requires image { IsImage image.now }
+        requires harts { harts ≤ MAX_HARTS }
         ensures { IfOk result (λ m. m ≡ record { program = program_of image.now; budget = budget; state = start image.now harts }) }
     {
+        let words = words(alloc, image.text_bytes())?;
+        let states = first_harts(alloc, image, harts, HEAP_LEN as u32, STACK_LEN as u32)?;
+        let ready = ready(alloc, &states, budget)?;
         Ok(PlainMachine {
-            harts: first_harts(alloc, image, harts, 1_048_576, 65_536)?,
+            harts: states,
             mem: Mem::new(alloc, image, harts)?,
             resv: Reservations::new(alloc, harts)?,
             out: Output::new(alloc)?,
             text_at: image.text_at,
-            words: words(alloc, image.text_bytes())?,
+            words,
             budget,
+            ready,
         })
     }
 
@@ -115,26 +149,36 @@ impl PlainMachine {
         requires { hart < length self.now.state.harts }
         ensures { result ≡ can self.now.budget self.now.state hart }
     {
-        let state = &self.harts[hart.get() as usize];
-        state.stop.is_none() && state.ticks < self.budget
+        self.harts[hart.get() as usize].may_go(self.budget)
     }
 
-    /// One turn of the hart, which is one tick: its word is executed, or it stops where no word is.
-    pub fn step(&mut self, hart: HartNo)
-        requires hart { hart < length self.old.state.harts }
-        requires runnable { IsTrue (can self.old.budget self.old.state hart) }
-        ensures { self.new ≡ turned self.old hart }
+    /// The harts that can take a turn.
+    pub(crate) fn ready(&self) -> &Ready
+        ensures { result.now ≡ ready_of (can self.now.budget self.now.state) (length self.now.state.harts) }
+    {
+        &self.ready
+    }
+
+    /// Turns of the hart, at most `most`, until it can take no more. It answers how many.
+    pub(crate) fn take_turns(&mut self, hart: HartNo, most: u32) -> u32
+        requires { hart < length self.old.state.harts }
+        ensures taken { TakesQuantum self.old self.new hart most result }
+        ensures harts { length self.new.state.harts ≡ length self.old.state.harts }
     {
         let state = &mut self.harts[hart.get() as usize];
-        let word = fetch(&self.words, self.text_at, state.pc);
-        turn(
+        let turns = take_turns(
             state,
             hart,
-            word,
+            &self.words,
+            self.text_at,
+            self.budget,
+            most,
             &mut self.mem,
             &mut self.resv,
             &mut self.out,
         );
+        keep_ready(&mut self.ready, hart, state, self.budget);
+        turns
     }
 
     /// How many words the hart executed.

@@ -1,31 +1,55 @@
-ghost use Rattle.std.specs.Prelude.{◌≡◌, IfOk, length};
+ghost use Rattle.std.specs.Prelude.{◌≡◌, ℕ, ◌<◌, ◌+◌, ◌*◌, ◌^◌, Some, IfOk, length};
 ghost use Rattle.rv_word.specs.Names.{words_of};
 ghost use Rattle.rv_word.specs.Plain.{program_word};
+ghost use Rattle.std.specs.Option.{option_copied};
 
 use pn_types::NoMemory;
+use rv_exec::Decoded;
 use rv_word::split_word;
 use std::alloc::Global;
 
-/// The words of the text.
-pub fn words(alloc: Global, text: &[u8]) -> Result<Vec<u32>, NoMemory>
+/// The words of the text, each with its instruction.
+pub fn words(alloc: Global, text: &[u8]) -> Result<Vec<Decoded>, NoMemory>
     ensures { IfOk result (λ words. words.items ≡ words_of text.now) }
 {
     let mut words = Vec::new(alloc);
     let mut rest = text;
     for _ in 0..text.len() / 4 {
         let (word, others) = split_word(rest);
-        words.push(word)?;
+        words.push(Decoded::new(word))?;
         rest = others;
     }
     Ok(words)
 }
 
 /// The word at an address, where the text has one there.
-pub fn fetch(words: &[u32], text_at: u64, pc: u64) -> Option<u32>
-    ensures { result ≡ program_word (record { at = text_at; words = words.now }) pc }
+#[inline(never)]
+pub fn fetch(words: &[Decoded], text_at: u64, pc: u64) -> Option<&Decoded>
+    ensures { option_copied result ≡ program_word (record { at = text_at; words = words.now }) pc }
 {
     if pc < text_at || (pc - text_at) % 4 != 0 {
         return None;
     }
-    words.get(((pc - text_at) / 4) as usize).copied()
+    words.get(((pc - text_at) / 4) as usize)
+}
+
+/// The number of the word at the pc, if the text has one there, and else a number that is too great. The distance from the
+/// text's begin is turned by two bits, so that one that is no multiple of 4, or is below 0, is great, and one test finds
+/// all of these.
+#[inline(always)]
+pub fn place_of(text_at: u64, pc: u64) -> u64
+    ensures { (len : ℕ) → text_at + 4 * len < 2 ^ 64 → result < len → pc ≡ text_at + 4 * result }
+{
+    let away = pc.wrapping_sub(text_at);
+    away / 4 + away % 4 * 0x4000_0000_0000_0000
+}
+
+/// The word of a number, which is that at the pc.
+#[inline(always)]
+pub fn word_at(words: &[Decoded], i: u64, text_at: u64, pc: u64) -> &Decoded
+    requires listed { i < length words.now }
+    requires place { pc ≡ text_at + 4 * i }
+    ensures { Some result.now ≡ program_word (record { at = text_at; words = words.now }) pc }
+{
+    &words[i as usize]
 }

@@ -1,6 +1,8 @@
 ghost use Rattle.std.specs.Prelude.{◌≡◌, ◌≤◌, ◌<◌, ◌+◌, ◌^◌};
 ghost use Rattle.plain_run.specs.Schedules.{sampled, no_samples, closed, IsEarly};
 
+use pn_types::MAX_WIDTH;
+
 /// The samples that are counted while a run goes on.
 #[derive(Clone, Copy, Debug, PartialEq, Eq, Drop)]
 pub struct Samples {
@@ -30,7 +32,7 @@ impl Samples {
     /// The samples after a quantum of so many turns.
     pub fn after(self, width: u64, turns: u32) -> Samples
         requires early { IsEarly self }
-        requires width { (1 ≤ width) × (width ≤ 1000000) }
+        requires width { (1 ≤ width) × (width ≤ MAX_WIDTH) }
         ensures { result ≡ sampled self width turns }
     {
         let time = self.time + turns as u64;

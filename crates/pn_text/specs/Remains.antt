@@ -1,4 +1,4 @@
--- What a scanner has still to read.
+-- For proofs alone: what a scanner has still to read.
 use Rattle.std.specs.Prelude.{◌+◌, ◌<◌, ◌≤◌, ◌^◌, drop, length}
 use Rattle.pn_text.specs.Places.{IsWithin}
 use Rattle.pn_text.specs.Scans.{Scan, scan}

@@ -7,8 +7,6 @@ mod line;
 mod numbers;
 mod place;
 mod scanner;
-#[cfg(test)]
-mod tests;
 mod token;
 
 pub use line::next_line;

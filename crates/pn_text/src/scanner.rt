@@ -1,8 +1,5 @@
 //! The tokens of a text, one after another.
 
-#[cfg(test)]
-mod tests;
-
 ghost use Rattle.std.specs.Prelude.{◌≡◌, ◌+◌, ◌<◌, ◌≤◌, ◌^◌, length, drop};
 ghost use Rattle.pn_text.specs.Scans.{tokens_of, next_of, rest_of, place_of, AreSpans, behind_blanks};
 ghost use Rattle.pn_text.specs.Places.{IsWithin};

@@ -2,9 +2,7 @@
 use Rattle.std.specs.Prelude.{ℕ, if◌then◌else◌, List, [], ◌++◌, codes, flat_map, slice_get}
 use Rattle.std.specs.Fmt.{decimal}
 use Rattle.std.specs.Option.{option_map_or}
-use Rattle.pn_types.specs.Texts.{address}
-use Rattle.pn_types.specs.declared.compare.Cmp.{Cmp}
-use Rattle.pn_types.specs.declared.compare.Cmp.TheVariants.{Eq, Ne, Lt, Le, Gt, Ge}
+use Rattle.pn_types.specs.Texts.{address, cmp_text}
 use Rattle.pn_types.specs.declared.plan.Act.{Act}
 use Rattle.pn_types.specs.declared.plan.Act.TheVariants.{Up, Down, Put, Start, Stop}
 use Rattle.pn_types.specs.declared.plan.Cond.{Cond}
@@ -18,14 +16,6 @@ use Rattle.pn_types.specs.declared.plan.Var.{Var}
 -- the name of variable number v
 abbrev pub var_name : List Var → ℕ → List ℕ
 var_name vars v = option_map_or (λ var. var.name) (slice_get vars v) []
-
-abbrev pub cmp_text : Cmp → List ℕ
-cmp_text Eq = codes "=="
-cmp_text Ne = codes "!="
-cmp_text Lt = codes "<"
-cmp_text Le = codes "<="
-cmp_text Gt = codes ">"
-cmp_text Ge = codes ">="
 
 abbrev pub left_text : List Var → Left → List ℕ
 left_text vars (Counter v) = var_name vars v

@@ -5,8 +5,6 @@ mod lines;
 mod parts;
 mod plan_lines;
 mod point_lines;
-#[cfg(test)]
-mod tests;
 
 pub use lines::report;
 pub use parts::{HartPart, ReportParts};

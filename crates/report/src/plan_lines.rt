@@ -1,8 +1,8 @@
 ghost use Rattle.std.specs.Prelude.{◌≡◌, ◌++◌, if◌then◌else◌, codes, flat_map, OnOk, IfOk};
 ghost use Rattle.std.specs.Fmt.{decimal};
-ghost use Rattle.report.specs.PlanTexts.{var_name, cmp_text, left_text, cond_text, act_text, stmt_line, site_lines, var_line, plan_head, plan_text};
+ghost use Rattle.report.specs.PlanTexts.{var_name, left_text, cond_text, act_text, stmt_line, site_lines, var_line, plan_head, plan_text};
 
-use pn_types::{Act, Cmp, Cond, Left, NoMemory, Plan, Site, Stmt, Var};
+use pn_types::{Act, Cond, Left, NoMemory, Plan, Site, Stmt, Var};
 use std::alloc::Global;
 
 /// The first line.
@@ -72,20 +72,6 @@ fn add_name(out: &mut Vec<u8>, vars: &[Var], number: u32) -> Result<(), NoMemory
     }
 }
 
-/// How a condition compares.
-fn add_cmp(out: &mut Vec<u8>, cmp: Cmp) -> Result<(), NoMemory>
-    ensures { OnOk result (out.new.items ≡ out.old.items ++ cmp_text cmp) }
-{
-    match cmp {
-        Cmp::Eq => out.extend_from_slice(b"=="),
-        Cmp::Ne => out.extend_from_slice(b"!="),
-        Cmp::Lt => out.extend_from_slice(b"<"),
-        Cmp::Le => out.extend_from_slice(b"<="),
-        Cmp::Gt => out.extend_from_slice(b">"),
-        Cmp::Ge => out.extend_from_slice(b">="),
-    }
-}
-
 /// An argument of the procedure.
 fn add_argument(alloc: Global, out: &mut Vec<u8>, number: u8) -> Result<(), NoMemory>
     ensures { OnOk result (out.new.items ≡ out.old.items ++ (codes "$arg[" ++ (decimal number ++ codes "]"))) }
@@ -111,7 +97,7 @@ fn add_cond(alloc: Global, out: &mut Vec<u8>, vars: &[Var], cond: &Cond) -> Resu
     out.extend_from_slice(b"if (")?;
     add_left(alloc, out, vars, cond.left)?;
     out.extend_from_slice(b" ")?;
-    add_cmp(out, cond.cmp)?;
+    out.extend_from_slice(cond.cmp.text())?;
     let right = cond.right;
     let rest = format!(in alloc; " {right}) ")?;
     out.extend_from_slice(rest.as_bytes())

@@ -11,6 +11,7 @@ use Rattle.std.proofs.lemmas.List.FromFn.{length-map-range_with_len}
 use Rattle.std.specs.List.{list_all, position_from}
 use Rattle.std.specs.Option.{option_map}
 use Rattle.std.proofs.lemmas.Iterator.Adapters.{position_from-zero}
+use Rattle.pn_types.specs.declared.limits.TheConstants.{MAX_HARTS}
 use Rattle.pn_types.specs.GoodNames.{is_name_byte, is_good_name}
 use Rattle.pn_types.specs.declared.focus.Axis.TheVariants.{Code, Machine, SyncObject}
 use Rattle.pn_types.specs.declared.focus.CodePart.{CodePart}
@@ -134,7 +135,7 @@ digit_byte (suc (suc (suc (suc (suc (suc (suc (suc zero)))))))) h = refl
 digit_byte (suc (suc (suc (suc (suc (suc (suc (suc (suc zero))))))))) h = refl
 digit_byte (suc (suc (suc (suc (suc (suc (suc (suc (suc (suc n)))))))))) h = absurd (omega (arith, h))
 
-decimal_good : (k : ℕ) → k < 16 → is_good_name (104 ∷ 97 ∷ 114 ∷ 116 ∷ decimal k) ≡ true
+decimal_good : (k : ℕ) → k < 100 → is_good_name (104 ∷ 97 ∷ 114 ∷ 116 ∷ decimal k) ≡ true
 decimal_good k h = by (nat_lt k 10) refl
   where
     by : (b : Bool) → nat_lt k 10 ≡ b → is_good_name (104 ∷ 97 ∷ 114 ∷ 116 ∷ decimal k) ≡ true
@@ -143,13 +144,13 @@ decimal_good k h = by (nat_lt k 10) refl
         ap (λ (ds : List ℕ). is_good_name (104 ∷ 97 ∷ 114 ∷ 116 ∷ ds)) (decimal_digit k lt) ∙ rw (digit_byte k lt) refl
     by false q =
         let ge : 10 ≤ k = ltb-false k 10 q in
-        let one : k / 10 ≡ 1 = omega arith in
-        let lt : k % 10 < 10 = omega arith in
-        let two : decimal k ≡ 49 ∷ (48 + k % 10) ∷ [] =
-        decimal_step k ge (omega arith) ∙ ap (λ (m : ℕ). decimal m ++ ((48 + k % 10) ∷ [])) one ∙ ap (λ (ds : List ℕ). ds ++ ((48 + k % 10) ∷ [])) (decimal_digit 1 (omega arith)) in
-        ap (λ (ds : List ℕ). is_good_name (104 ∷ 97 ∷ 114 ∷ 116 ∷ ds)) two ∙ rw (digit_byte (k % 10) lt) refl
+        let high : k / 10 < 10 = omega arith in
+        let low : k % 10 < 10 = omega arith in
+        let two : decimal k ≡ (48 + k / 10) ∷ (48 + k % 10) ∷ [] =
+        decimal_step k ge (omega arith) ∙ ap (λ (ds : List ℕ). ds ++ ((48 + k % 10) ∷ [])) (decimal_digit (k / 10) high) in
+        ap (λ (ds : List ℕ). is_good_name (104 ∷ 97 ∷ 114 ∷ 116 ∷ ds)) two ∙ rw (digit_byte (k / 10) high, digit_byte (k % 10) low) refl
 
-same_name : (j k : ℕ) → j < 16 → k < 16 → hart_name j ≡ hart_name k → j ≡ k
+same_name : (j k : ℕ) → j < MAX_HARTS → k < MAX_HARTS → hart_name j ≡ hart_name k → j ≡ k
 same_name j k h g e =
     let same : decimal j ≡ decimal k = cc in
     sym (decimal_is_IsNumeral j (omega arith)).1 ∙ ap (digits_value 10) same ∙ (decimal_is_IsNumeral k (omega arith)).1
@@ -157,7 +158,7 @@ same_name j k h g e =
 some_equal : (a b name : List ℕ) → Some a ≡ Some name → Some b ≡ Some name → a ≡ b
 some_equal a b name h g = cc
 
-harts_apart : (n : ℕ) → n ≤ 16 → AreApart (map (λ (q : List ℕ). q) (hart_names n))
+harts_apart : (n : ℕ) → n ≤ MAX_HARTS → AreApart (map (λ (q : List ℕ). q) (hart_names n))
 harts_apart n le j k name h g =
     let names = hart_names n in
     let len = length-map-range_with_len hart_name 0 n in
@@ -167,7 +168,7 @@ harts_apart n le j k name h g =
     let b : k < n = omega (arith, slice_get_within names k name g', len) in
     same_name j k (omega (arith, a, le)) (omega (arith, b, le)) (some_equal (hart_name j) (hart_name k) name (sym (range_at hart_name n j a) ∙ h') (sym (range_at hart_name n k b) ∙ g'))
 
-pub hart_read : (harts : ℕ) (node : Option ℕ) → harts ≤ 16 → IsBelow harts node → HartRead harts node
+pub hart_read : (harts : ℕ) (node : Option ℕ) → harts ≤ MAX_HARTS → IsBelow harts node → HartRead harts node
 hart_read harts None le h = record { names = []; few = omega arith; good = refl; text = refl; found = refl }
 hart_read harts (Some k) le h = record {
   names = hart_name k ∷ [];
@@ -211,7 +212,7 @@ le_test : (a b : ℕ) → a ≤ b → nat_le a b ≡ true
 le_test a b h = search rules
 
 -- a canonical text is read as its focus
-pub canonical_reads : (t : Resources) (f : Focus) → t.harts ≤ 16 → IsNamed t → IsFocusOf t f → IsTextOf t (canonical t f) f
+pub canonical_reads : (t : Resources) (f : Focus) → t.harts ≤ MAX_HARTS → IsNamed t → IsFocusOf t f → IsTextOf t (canonical t f) f
 canonical_reads t f le n h =
     let a = code_read t f.code n h.code in
     let b = hart_read t.harts f.hart le h.hart in

@@ -8,6 +8,7 @@ pub mod PathNumbers
 pub mod Ranges
 pub mod PartNames
 pub mod Parts
+pub mod Spellings
 pub mod Copies
 pub mod Canonical
 pub mod InTree

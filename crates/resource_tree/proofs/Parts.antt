@@ -52,7 +52,7 @@ axis_comma Code = refl
 axis_comma Machine = refl
 axis_comma SyncObject = refl
 
-part_comma : (p : Part) → is_part p ≡ true → list_any is_comma (part_text p) ≡ false
+pub part_comma : (p : Part) → is_part p ≡ true → list_any is_comma (part_text p) ≡ false
 part_comma p h =
     let g = both (nat_le (length p.names) (depth p.axis)) (list_all is_good_name p.names) h in
     any_append is_comma (axis_name p.axis) (below_text p.names) ∙ ap (λ (c : Bool). c || list_any is_comma (below_text p.names)) (axis_comma p.axis) ∙ below_comma p.names g.1
@@ -153,6 +153,9 @@ good_parts axes (p ∷ ps) h =
     let rest = good_parts (without axes p.axis) ps a.1 in
     let k = count_without axes p.axis b.0 in
     (rw b.1 rest.0, omega (arith, rest.1, k))
+
+pub all_good : (ps : List Part) → AreParts ps → list_all is_part ps ≡ true
+all_good ps h = (good_parts every_axis ps h.1).0
 
 three : axes_count every_axis ≡ 3
 unfolding axes_count bit

@@ -1,5 +1,5 @@
 -- The elements of a list of numbers.
-use Rattle.std.proofs.Common.{◌≡◌, ℕ, ◌<◌, ◌≤◌, [], map, slice_get, Option, Some, None, ap, ◌∙◌, arith}
+use Rattle.std.proofs.Common.{◌≡◌, ℕ, zero, suc, ◌+◌, ◌<◌, ◌≤◌, List, [], ◌∷◌, ◌++◌, map, slice_get, Option, Some, None, ap, ◌∙◌, arith}
 use Rattle.std.specs.List.{range_with_len}
 use Rattle.std.specs.Option.{option_map, option_map_or, option_and_then}
 use Rattle.pn_types.specs.declared.focus.CodePart.TheVariants.{Module, Procedure}
@@ -27,3 +27,11 @@ member_at c m i = by (slice_get c.modules m)
     by : (o : Option ModuleNode) → slice_get (map Procedure (option_map_or (λ n. n.procs) o [])) i ≡ option_map Procedure (option_and_then (λ n. slice_get n.procs i) o)
     by None = past_none i
     by (Some n) = slice_get-map Procedure n.procs i
+
+-- one more number
+pub range_more : (a n : ℕ) → range_with_len a (n + 1) ≡ range_with_len a n ++ (a + n) ∷ []
+range_more a zero = let e : a ≡ a + 0 = omega arith in ap (λ (k : ℕ). k ∷ []) e
+range_more a (suc n) =
+    let e : a + 1 + n ≡ a + suc n = omega arith in
+    let k : suc n + 1 ≡ suc (n + 1) = omega arith in
+    ap (range_with_len a) k ∙ ap (λ (l : List ℕ). a ∷ l) (range_more (a + 1) n ∙ ap (λ (k : ℕ). range_with_len (a + 1) n ++ k ∷ []) e)

@@ -9,10 +9,10 @@ use Rattle.pn_types.specs.declared.focus.Axis.TheVariants.{Code, Machine, SyncOb
 use Rattle.pn_types.specs.declared.focus.CodePart.{CodePart}
 use Rattle.pn_types.specs.declared.focus.CodePart.TheVariants.{All, Module, Procedure}
 use Rattle.pn_types.specs.declared.focus.Focus.{Focus}
-use Rattle.resource_tree.specs.FocusTexts.{Part, AreParts, parts_text}
+use Rattle.resource_tree.specs.FocusTexts.{Part, AreParts, parts_text, IsFaultAt}
 use Rattle.resource_tree.specs.Resources.{Resources, CodeNodes, ObjectNode}
 use Rattle.resource_tree.specs.declared.fault.FocusFault.{FocusFault}
-use Rattle.resource_tree.specs.declared.fault.FocusFault.TheVariants.{NoSuchNode}
+use Rattle.resource_tree.specs.declared.fault.FocusFault.TheVariants.{Form, NoSuchNode}
 
 -- the focus of the three roots
 abbrev pub root : Focus
@@ -73,12 +73,35 @@ with_nodes t n f (p ∷ ps) = elim (with_node t f p.axis p.names) [
 abbrev pub focus_of : Resources → List Part → Result Focus FocusFault
 focus_of t parts = with_nodes t 0 root parts
 
--- parts that spell the text select the focus
-pub record IsTextOf (t : Resources) (text : List ℕ) (f : Focus) : Type 0 where
+-- parts that spell the text have this focus, or this one that names no node
+pub record IsSpelled (t : Resources) (text : List ℕ) (r : Result Focus FocusFault) : Type 0 where
   pub parts : List Part
   pub are_parts : AreParts parts
   pub spelled : text ≡ parts_text parts
-  pub selected : focus_of t parts ≡ Ok f
+  pub selected : focus_of t parts ≡ r
+
+-- the text selects the focus
+abbrev pub IsTextOf : Resources → List ℕ → Focus → Type 0
+IsTextOf t text f = IsSpelled t text (Ok f)
+
+-- what a text selects: one focus, or nothing
+abbrev pub Selects : Resources → List ℕ → Option Focus → Type 0
+Selects t text None = (f : Focus) → IsTextOf t text f → ⊥
+Selects t text (Some f) = IsTextOf t text f
+
+-- what a text is read as: the focus that it selects; or where its form ends, or else its first part that names no node
+abbrev pub IsReading : Resources → List ℕ → Result Focus FocusFault → Type 0
+IsReading t text (Ok f) = IsTextOf t text f
+IsReading t text (Err (Form place)) = IsFaultAt text place
+IsReading t text (Err (NoSuchNode n)) = IsSpelled t text (Err (NoSuchNode n))
+
+-- a text selects one focus, or none
+abbrev pub OneSelection : Type 0
+OneSelection = (t : Resources) (text : List ℕ) (f g : Option Focus) → Selects t text f → Selects t text g → f ≡ g
+
+-- a text is read as one thing
+abbrev pub OneReading : Type 0
+OneReading = (t : Resources) (text : List ℕ) (r s : Result Focus FocusFault) → IsReading t text r → IsReading t text s → r ≡ s
 
 -- the nodes of a focus are the tree's
 abbrev pub IsCodeOf : CodeNodes → CodePart → Type 0

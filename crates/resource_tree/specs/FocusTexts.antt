@@ -81,6 +81,10 @@ pub record IsFocusText (text : List ℕ) : Type 0 where
   pub are_parts : AreParts parts
   pub spelled : text ≡ parts_text parts
 
+-- a focus text has one spelling
+abbrev pub OneSpelling : Type 0
+OneSpelling = (ps qs : List Part) → AreParts ps → AreParts qs → parts_text ps ≡ parts_text qs → ps ≡ qs
+
 -- some focus text begins so
 abbrev pub GoesOn : List ℕ → Type 0
 GoesOn text = (rest : List ℕ) × IsFocusText (text ++ rest)

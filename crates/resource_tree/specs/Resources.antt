@@ -2,6 +2,7 @@
 use Rattle.std.specs.Prelude.{ℕ, ◌≡◌, ◌<◌, ◌≤◌, ◌+◌, ◌&&◌, nat_eq, if◌then◌else◌, Bool, List, [], ◌∷◌, ◌++◌, length, map, codes, slice_get, Some}
 use Rattle.std.specs.List.{list_any, starts_with}
 use Rattle.std.specs.Str.{bytes_eq}
+use Rattle.pn_types.specs.declared.limits.TheConstants.{MAX_HARTS}
 use Rattle.pn_types.specs.GoodNames.{is_good_name}
 use Rattle.pn_types.specs.declared.code.Proc.{Proc}
 use Rattle.pn_types.specs.declared.image.Symbol.{Symbol}
@@ -90,7 +91,7 @@ tree_of procs symbols harts prefixes = record {
   harts = harts;
 }
 
--- at most 16 harts, and each module's procedures are the tree's
+-- no more harts than a machine can have, and each module's procedures are the tree's
 pub record IsBounded (t : Resources) : Type 0 where
-  pub harts : t.harts ≤ 16
+  pub harts : t.harts ≤ MAX_HARTS
   pub members : HasMembersBelow (length t.code.paths) t.code.modules

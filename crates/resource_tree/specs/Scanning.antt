@@ -1,4 +1,4 @@
--- How a scan along a focus text goes on.
+-- For proofs alone: how a scan along a focus text goes on.
 use Rattle.std.specs.Prelude.{ℕ, ◌+◌, ◌-◌, ◌==◌, ◌&&◌, ◌||◌, nat_lt, Bool, true, false, if◌then◌else◌, List, [], ◌∷◌, length, slice_get, Option, Some, None, option_and_then}
 use Rattle.std.specs.Option.{option_map}
 use Rattle.pn_types.specs.GoodNames.{is_name_byte}

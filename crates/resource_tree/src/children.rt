@@ -4,9 +4,8 @@ ghost use Rattle.std.specs.Prelude.{◌≡◌, ◌≤◌, IfSome, slice_get};
 ghost use Rattle.resource_tree.specs.Foci.{code_children, children, flat_children, IsFocusOf};
 
 use crate::code::CodeTree;
-use crate::harts::hart_numbered;
 use crate::tree::Tree;
-use pn_types::{Axis, CodePart, Focus, HartNo};
+use pn_types::{Axis, CodePart, Focus, HartNo, MAX_HARTS};
 
 /// The child of a node of the code.
 fn code_child(code: &CodeTree, node: CodePart, number: u32) -> Option<CodePart>
@@ -29,7 +28,7 @@ fn code_child(code: &CodeTree, node: CodePart, number: u32) -> Option<CodePart>
 
 /// The child of the machine's root, or of a hart.
 fn hart_child(harts: u32, node: Option<HartNo>, number: u32) -> Option<Option<HartNo>>
-    requires { harts ≤ 16 }
+    requires { harts ≤ MAX_HARTS }
     ensures { result ≡ slice_get (flat_children harts node) number }
 {
     match node {
@@ -38,7 +37,7 @@ fn hart_child(harts: u32, node: Option<HartNo>, number: u32) -> Option<Option<Ha
             if number >= harts {
                 return None;
             }
-            Some(hart_numbered(number))
+            Some(Some(HartNo::numbered(number)))
         }
     }
 }

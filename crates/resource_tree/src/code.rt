@@ -1,12 +1,14 @@
 //! The modules and procedures of a tree.
 
 ghost use Rattle.std.specs.Prelude.{◌≡◌, ◌≤◌, ◌<◌, ◌+◌, ◌^◌, ◌++◌, ◌∷◌, [], IfOk, IfSome, OnOk, length, map, position, slice_get};
+ghost use Rattle.std.specs.List.{range_with_len};
 ghost use Rattle.std.specs.Option.{option_map, option_and_then};
 ghost use Rattle.std.specs.Str.{bytes_eq};
-ghost use Rattle.resource_tree.specs.Resources.{add_to, code_of, module_node, path_of};
+ghost use Rattle.resource_tree.specs.Resources.{code_of, module_node, path_of};
 ghost use Rattle.resource_tree.specs.CodeMaps.{with_number};
 ghost use Rattle.resource_tree.specs.Foci.{procs_of_module};
 
+use crate::members::add_to;
 use indexmap::IndexMap;
 use pn_types::{NoMemory, Proc};
 use std::alloc::Global;
@@ -46,24 +48,6 @@ fn path_of(alloc: Global, proc: &Proc) -> Result<Vec<u8>, NoMemory>
     Ok(path)
 }
 
-/// Adds a procedure's number to its module, which comes last where it is new.
-fn add_to(
-    alloc: Global,
-    modules: &mut IndexMap<Vec<u8>, Vec<u32>>,
-    name: &[u8],
-    number: u32,
-) -> Result<(), NoMemory>
-    ensures { OnOk result (map (λ e. module_node e.0.items e.1.items) modules.new.entries ≡ add_to name.now number (map (λ e. module_node e.0.items e.1.items) modules.old.entries)) }
-{
-    if let Some(members) = modules.get_mut(name) {
-        members.push(number)?;
-        return Ok(());
-    }
-    let members = vec![in alloc; number]?;
-    modules.insert(Vec::from_slice(alloc, name)?, members)?;
-    Ok(())
-}
-
 /// Notes the number of a procedure's path, unless the path has one.
 fn add_number(
     alloc: Global,
@@ -77,6 +61,17 @@ fn add_number(
         numbers.insert(Vec::from_slice(alloc, path)?, number)?;
     }
     Ok(())
+}
+
+/// The numbers below a count.
+fn numbers_below(alloc: Global, count: u32) -> Result<Vec<u32>, NoMemory>
+    ensures { IfOk result (λ all. all.items ≡ range_with_len 0 count) }
+{
+    let mut all = Vec::new(alloc);
+    for number in 0..count {
+        all.push(number)?;
+    }
+    Ok(all)
 }
 
 impl CodeTree {
@@ -125,6 +120,13 @@ impl CodeTree {
         ensures { result ≡ position (bytes_eq path.now) self.now.paths }
     {
         self.numbers.get(path).copied()
+    }
+
+    /// The numbers of all procedures.
+    pub(crate) fn all(&self, alloc: Global) -> Result<Vec<u32>, NoMemory>
+        ensures { IfOk result (λ all. all.items ≡ range_with_len 0 (length self.now.paths)) }
+    {
+        numbers_below(alloc, self.paths.len() as u32)
     }
 
     /// The name of a module.

@@ -1,10 +1,10 @@
 //! The focus that a text selects.
 
-ghost use Rattle.std.specs.Prelude.{◌≡◌, ◌<◌, ◌≤◌, ◌⊎◌, ◌∷◌, [], List, ℕ, true, length, Ok, Err, Some, IfOk, MatchOption, position};
+ghost use Rattle.std.specs.Prelude.{◌≡◌, ◌<◌, ◌≤◌, ◌∷◌, [], List, ℕ, true, length, IfOk, IfSome, MatchOption, position};
 ghost use Rattle.std.specs.List.{list_all};
 ghost use Rattle.pn_types.specs.GoodNames.{is_good_name};
-ghost use Rattle.resource_tree.specs.FocusTexts.{Part, AreParts, IsFocusText, IsFaultAt, is_comma, is_part, below_text, part_text, parts_text};
-ghost use Rattle.resource_tree.specs.Foci.{code_named, hart_named, object_named, with_node, focus_of, IsFocusOf};
+ghost use Rattle.resource_tree.specs.FocusTexts.{Part, AreParts, OneSpelling, is_comma, is_part, below_text, part_text, parts_text};
+ghost use Rattle.resource_tree.specs.Foci.{code_named, hart_named, object_named, with_node, focus_of, IsFocusOf, IsReading, OneReading, OneSelection, Selects};
 
 use crate::code::CodeTree;
 use crate::fault::FocusFault;
@@ -12,7 +12,7 @@ use crate::form::form_fault;
 use crate::harts::hart_named;
 use crate::objects::Objects;
 use crate::tree::Tree;
-use pn_types::{Axis, CodePart, Focus, HartNo};
+use pn_types::{Axis, CodePart, Focus, HartNo, MAX_HARTS};
 
 /// The greatest number of parts of a focus text.
 const MOST_PARTS: u32 = 3;
@@ -46,7 +46,7 @@ fn code_node(code: &CodeTree, below: &[u8]) -> Option<CodePart>
 
 /// The node of the machine that names select.
 fn hart_node(harts: u32, below: &[u8]) -> Option<Option<HartNo>>
-    requires { harts ≤ 16 }
+    requires { harts ≤ MAX_HARTS }
     ensures { (names : List (List ℕ)) → length names ≤ 1 → below.now ≡ below_text names → result ≡ hart_named harts names }
 {
     let Some((_, name)) = below.split_first() else {
@@ -101,8 +101,8 @@ impl Tree {
     }
 
     /// The focus of a focus text, or the first part that names no node.
-    fn selected(&self, text: &[u8]) -> Result<Focus, FocusFault>
-        ensures parts { (ps : List Part) → AreParts ps → text.now ≡ parts_text ps → result ≡ focus_of self.now ps }
+    fn named(&self, text: &[u8]) -> Result<Focus, FocusFault>
+        ensures { (ps : List Part) → AreParts ps → text.now ≡ parts_text ps → result ≡ focus_of self.now ps }
     {
         let mut focus = Focus {
             code: CodePart::All,
@@ -127,13 +127,30 @@ impl Tree {
     /// The focus of a text: one to three parts joined by commas, each hierarchy at most once, in any order, where an
     /// omitted one is selected as a whole. `Form` comes before `NoSuchNode`.
     pub fn focus(&self, text: &[u8]) -> Result<Focus, FocusFault>
-        ensures parts { (ps : List Part) → AreParts ps → text.now ≡ parts_text ps → result ≡ focus_of self.now ps }
-        ensures form { IsFocusText text.now ⊎ ((place : ℕ) × IsFaultAt text.now place × (result ≡ Err (FocusFault.Form place))) }
+        ensures reading { IsReading self.now text.now result }
         ensures in_tree { IfOk result (IsFocusOf self.now) }
     {
         if let Some(place) = form_fault(text) {
             return Err(FocusFault::Form(place as u64));
         }
-        self.selected(text)
+        self.named(text)
+    }
+
+    /// The focus that a text selects. None exactly where the text hasn't the form of a focus, or names no node.
+    pub fn selected(&self, text: &[u8]) -> Option<Focus>
+        ensures selects { Selects self.now text.now result }
+        ensures in_tree { IfSome result (IsFocusOf self.now) }
+    {
+        match self.focus(text) {
+            Ok(focus) => Some(focus),
+            Err(_) => None,
+        }
     }
 }
+
+/// A focus text is spelled by one list of parts, and any text is read as one focus or has one fault.
+pub fn one_reading()
+    ensures spelling { OneSpelling }
+    ensures reading { OneReading }
+    ensures selection { OneSelection }
+{}

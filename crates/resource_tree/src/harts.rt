@@ -1,40 +1,33 @@
 //! The names of harts.
 
-ghost use Rattle.std.specs.Prelude.{◌≡◌, ◌<◌, ◌≤◌, ◌++◌, OnOk, Some, position};
+ghost use Rattle.std.specs.Prelude.{◌≡◌, ◌<◌, ◌≤◌, ◌++◌, OnOk, position};
 ghost use Rattle.std.specs.Str.{bytes_eq};
 ghost use Rattle.resource_tree.specs.Foci.{hart_name, hart_names, hart_text};
 
-use pn_types::{HartNo, NoMemory};
+use pn_types::{HartNo, MAX_HARTS, NoMemory};
 use std::alloc::Global;
-
-/// The hart of this number.
-pub(crate) fn hart_numbered(number: u32) -> Option<HartNo>
-    requires { number < 16 }
-    ensures { result ≡ Some number }
-{
-    HartNo::new(number).ok()
-}
 
 /// Whether the name is that of the hart.
 fn is_hart(name: &[u8], number: u32) -> bool
-    requires { number < 16 }
+    requires { number < MAX_HARTS }
     ensures { result ≡ bytes_eq name.now (hart_name number) }
 {
-    let digit = b'0' + (number % 10) as u8;
+    let ones = b'0' + (number % 10) as u8;
     if number < 10 {
-        return name == [b'h', b'a', b'r', b't', digit].as_slice();
+        return name == [b'h', b'a', b'r', b't', ones].as_slice();
     }
-    name == [b'h', b'a', b'r', b't', b'1', digit].as_slice()
+    let tens = b'0' + (number / 10) as u8;
+    name == [b'h', b'a', b'r', b't', tens, ones].as_slice()
 }
 
 /// The hart of this name, out of so many harts.
 pub(crate) fn hart_named(name: &[u8], harts: u32) -> Option<HartNo>
-    requires { harts ≤ 16 }
+    requires { harts ≤ MAX_HARTS }
     ensures { result ≡ position (bytes_eq name.now) (hart_names harts) }
 {
     for number in 0..harts {
         if is_hart(name, number) {
-            return hart_numbered(number);
+            return Some(HartNo::numbered(number));
         }
     }
     None

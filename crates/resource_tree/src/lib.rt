@@ -8,11 +8,12 @@ mod focus;
 mod form;
 mod harts;
 mod hierarchy;
+mod members;
 mod objects;
-#[cfg(test)]
-mod tests;
 mod text;
 mod tree;
 
 pub use fault::FocusFault;
+pub use focus::one_reading;
+pub use members::add_to;
 pub use tree::Tree;

@@ -10,7 +10,7 @@ use crate::fault::FocusFault;
 use crate::harts::add_hart;
 use crate::objects::Objects;
 use crate::tree::Tree;
-use pn_types::{CodePart, Focus, NoMemory, Text};
+use pn_types::{CodePart, Focus, MAX_HARTS, NoMemory, Text};
 use std::alloc::Global;
 
 /// Adds a name behind a `/`, where there is one.
@@ -49,7 +49,7 @@ impl Tree {
     /// The bytes of the canonical text of a focus.
     fn canonical(&self, alloc: Global, focus: &Focus) -> Result<Vec<u8>, NoMemory>
         ensures text { IfOk result (λ text. text.items ≡ canonical self.now focus.now) }
-        ensures harts { OnOk result (self.now.harts ≤ 16) }
+        ensures harts { OnOk result (self.now.harts ≤ MAX_HARTS) }
     {
         let mut text = Vec::new(alloc);
         text.extend_from_slice(b"/Code")?;

@@ -4,11 +4,11 @@ ghost use Rattle.std.specs.Prelude.{◌≡◌, ◌<◌, ◌≤◌, ◌^◌, IfOk
 ghost use Rattle.std.specs.Option.{option_and_then};
 ghost use Rattle.resource_tree.specs.Resources.{tree_of};
 ghost use Rattle.resource_tree.specs.Names.{AreNamed, IsNamed};
-ghost use Rattle.resource_tree.specs.Foci.{address_of, harts_of, procs_of_module};
+ghost use Rattle.resource_tree.specs.Foci.{harts_of, part};
 
 use crate::code::CodeTree;
 use crate::objects::Objects;
-use pn_types::{Focus, NoMemory, Proc, Symbol, Text};
+use pn_types::{CodePart, Focus, MAX_HARTS, NoMemory, Proc, Symbol, Text};
 use std::alloc::Global;
 use std::marker::Model;
 
@@ -41,7 +41,7 @@ impl Tree {
         harts: u32,
         prefixes: &[Text],
     ) -> Result<Tree, NoMemory>
-        requires harts { harts ≤ 16 }
+        requires harts { harts ≤ MAX_HARTS }
         requires procs { length procs.now < 2 ^ 32 }
         requires objects { length objects.now < 2 ^ 32 }
         ensures tree { IfOk result (λ tree. tree ≡ tree_of procs.now objects.now harts prefixes.now) }
@@ -75,16 +75,23 @@ impl Tree {
         }
     }
 
-    /// The numbers of the procedures of a module, in the order of the tree. Empty where there is no such module.
-    pub fn procs_of_module(&self, module_no: u32) -> &[u32]
-        ensures { result.now ≡ procs_of_module self.now.code module_no }
+    /// The numbers of the procedures that the focus selects, in the order of the tree.
+    pub fn procs(&self, alloc: Global, focus: &Focus) -> Result<Vec<u32>, NoMemory>
+        ensures { IfOk result (λ procs. procs.items ≡ (part self.now focus.now).procs) }
     {
-        self.code.members(module_no as usize)
+        match focus.code {
+            CodePart::All => self.code.all(alloc),
+            CodePart::Module(module_no) => {
+                let members = self.code.members(module_no as usize);
+                Ok(Vec::from_slice(alloc, members)?)
+            }
+            CodePart::Procedure(proc_no) => Ok(vec![in alloc; proc_no]?),
+        }
     }
 
     /// The address of the object that the focus selects. None exactly where it selects none.
     pub fn object_at(&self, focus: &Focus) -> Option<u64>
-        ensures { result ≡ address_of self.now.objects focus.now.object }
+        ensures { result ≡ (part self.now focus.now).object }
     {
         self.objects.at(focus.object? as usize)
     }

@@ -1,10 +1,11 @@
 -- How long the data and the names of a text can be.
-use Rattle.std.proofs.Common.{◌≡◌, ℕ, zero, suc, ◌+◌, ◌-◌, ◌*◌, ◌<◌, ◌≤◌, ◌==◌, ◌&&◌, ◌⊎◌, inl, inr, cond, not, min, Bool, true, false, Option, Some, None, Result, Ok, Err, List, [], ◌∷◌, ◌++◌, length, take, replicate, refl, ap, sym, ◌∙◌, subst, arith}
-use Rattle.std.specs.List.{sum_by, onto_first, filter}
+use Rattle.std.proofs.Common.{◌≡◌, ℕ, ◌+◌, ◌*◌, ◌≤◌, ◌==◌, ◌&&◌, ◌⊎◌, inl, inr, cond, not, Bool, true, false, Option, Some, None, Result, Ok, Err, List, [], ◌∷◌, ◌++◌, length, take, refl, ap, subst, arith}
+use Rattle.std.specs.List.{sum_by, onto_first}
 use Rattle.std.specs.Option.{is_some}
 use Rattle.std.specs.Int.{w64, to_le_bytes}
 use Rattle.std.specs.Prelude.{nat_le}
 use Rattle.std.proofs.lemmas.Bool.{leb-true}
+use Rattle.std.proofs.lemmas.Grind.{common_steps}
 use Rattle.std.proofs.lemmas.List.{length-take, length-replicate, length-append}
 use Rattle.std.proofs.lemmas.List.Sums.{sum_by-cons, sum_by_push}
 use Rattle.pn_text.specs.Lines.{lines, begins_with_lf}
@@ -16,9 +17,10 @@ use Rattle.rv_asm.specs.declared.statement.Statement.{Statement}
 use Rattle.rv_asm.specs.declared.statement.Statement.TheVariants as the
 use Rattle.rv_asm.specs.Numbers.{wrapped}
 use Rattle.rv_asm.specs.Checks.{in_text, stands, numbers_fit, has_x31}
-use Rattle.rv_asm.specs.Layout.{width_len, value_bytes, padding, unescaped, len_of, data_of}
+use Rattle.rv_asm.specs.Layout.{width_len, value_bytes, padding, len_of, data_of}
 use Rattle.rv_asm.specs.Parsing.{Line, line_of}
-use Rattle.rv_asm.specs.FirstPass.{◌>>=◌, Placed, Mark, Draft, blank_draft, data_start, here, faultless, judged_form, judged, define_all, define_own, good_module, placed_after, marked, ended, after, stepped, passed, program}
+use Rattle.rv_asm.specs.FirstPass.{◌>>=◌, Placed, Mark, Draft, blank_draft, data_start, here, faultless, judged_form, judged, define_all, define_own, good_module, placed_after, after, stepped, passed}
+use Rattle.pn_types.specs.GoodNames.{is_good_name, program_module}
 use Rattle.rv_asm.specs.Assembly.{data_bytes}
 use Rattle.rv_asm.proofs.Shorter.{Fits, line_fits}
 
@@ -76,11 +78,12 @@ pub record IsTight (d : Draft) : Type 0 where
 
 -- a line of so many bytes leads from one draft to another
 record Leads (len : ℕ) (d e : Draft) : Type 0 where
+  count : length e.marks ≤ length d.marks + 1
   room : marks_room e ≤ marks_room d + 127 * (len + 1)
   tight : IsTight e
 
 stays : (len : ℕ) (d e : Draft) → e.marks ≡ d.marks → IsTight e → Leads len d e
-stays len d e same tight = record { room = let g : marks_room e ≡ marks_room d = ap (sum_by mark_room) same in omega arith; tight = tight }
+stays len d e same tight = record { count = let n = ap (λ ms. length ms) same in omega arith; room = let g : marks_room e ≡ marks_room d = ap (sum_by mark_room) same in omega arith; tight = tight }
 
 placed_by : (b : Bool) (n len : ℕ) (d : Draft) (s : Statement) (text : List ℕ) → in_text d.section ≡ b → IsTight d → Leads len d (placed_after n d s text)
 placed_by true n len d s text e tight = rw e (stays len d _ refl (record { inside = tight.inside; short = tight.short }))
@@ -100,12 +103,12 @@ placed_leads n len d s text tight = placed_by (in_text d.section) n len d s text
 marked_room : (m : Mark) (ms : List Mark) → sum_by mark_room (ms ++ m ∷ []) ≡ sum_by mark_room ms + mark_room m
 marked_room m ms = sum_by_push mark_room ms m
 
-good_by : (b : Bool) (name : List ℕ) → nat_le (length name) 200 ≡ b → length (cond b name program) ≤ 200
-good_by true name e = leb-true (length name) 200 e
+good_by : (b : Bool) (name : List ℕ) → is_good_name name ≡ b → length (cond b name program_module) ≤ 200
+good_by true name e = let short : nat_le (length name) 200 ≡ true = grind (arith, common_steps) in leb-true (length name) 200 short
 good_by false name e = omega arith
 
 good_short : (name : List ℕ) → length (good_module name) ≤ 200
-good_short name = good_by (nat_le (length name) 200) name refl
+good_short name = good_by (is_good_name name) name refl
 
 after_leads : (n len : ℕ) (d : Draft) (s : Statement) (text : List ℕ) → Fits s text len → IsTight d → Leads len d (after n d s text)
 unfolding after
@@ -113,6 +116,7 @@ after_leads n len d the.Empty text fits tight = stays len d d refl tight
 after_leads n len d the.Text text fits tight = stays len d _ refl (record { inside = tight.inside; short = tight.short })
 after_leads n len d the.Data text fits tight = stays len d _ refl (record { inside = tight.inside; short = tight.short })
 after_leads n len d the.Procedure text fits tight = record {
+  count = omega (arith, length-append d.marks (record { name = text; kind = kind.Procedure; at = d.text_end; «module» = d.module } ∷ []));
   room =
       let g = marked_room (record { name = text; kind = kind.Procedure; at = d.text_end; «module» = d.module }) d.marks in
       let h = fits.within in
@@ -127,6 +131,7 @@ after_leads n len d the.Procedure text fits tight = record {
     nonempty (inr l) = l
 after_leads n len d the.End text fits tight = stays len d _ refl (record { inside = tight.inside; short = tight.short })
 after_leads n len d (the.Object size) text fits tight = record {
+  count = omega (arith, length-append d.marks (record { name = text; kind = kind.Object size.size; at = d.data_end; «module» = d.module } ∷ []));
   room =
       let g = marked_room (record { name = text; kind = kind.Object size.size; at = d.data_end; «module» = d.module }) d.marks in
       let h = fits.within in
@@ -189,7 +194,7 @@ step_leads n d e bytes h tight =
     let is = ok_is (after n (record d { labels = all.0 }) line.0.statement line.0.text) e all.1.1 in
     let fits = line_fits bytes line.0 (judged_line n d.section (is_some d.opened) bytes line.0 line.1.0) in
     let leads = after_leads n (length bytes) (record d { labels = all.0 }) line.0.statement line.0.text fits (record { inside = tight.inside; short = tight.short }) in
-    subst (λ (e : Draft). Leads (length bytes) d e) is (record { room = leads.room; tight = leads.tight })
+    subst (λ (e : Draft). Leads (length bytes) d e) is (record { count = leads.count; room = leads.room; tight = leads.tight })
 
 -- ---- the lines
 
@@ -198,11 +203,12 @@ abbrev pub lines_len : List (List ℕ) → ℕ
 lines_len ls = sum_by (λ (l : List ℕ). length l + 1) ls
 
 pub record Passes (len : ℕ) (d e : Draft) : Type 0 where
+  pub count : length e.marks ≤ length d.marks + len
   pub room : marks_room e ≤ marks_room d + 127 * len
   pub tight : IsTight e
 
 pub passed_leads : (n : ℕ) (d e : Draft) (ls : List (List ℕ)) → passed n d ls ≡ Ok e → IsTight d → Passes (lines_len ls) d e
-passed_leads n d e [] h tight = subst (λ (e : Draft). Passes 0 d e) (ok_is d e h) (record { room = omega arith; tight = tight })
+passed_leads n d e [] h tight = subst (λ (e : Draft). Passes 0 d e) (ok_is d e h) (record { count = omega arith; room = omega arith; tight = tight })
 passed_leads n d e (line ∷ ls) h tight =
     let more = ok_step (stepped n d line) (λ (more : Draft). passed (n + 1) more ls) e h in
     let first = step_leads n d more.0 line more.1.0 tight in
@@ -210,7 +216,9 @@ passed_leads n d e (line ∷ ls) h tight =
     let sum = sum_cons (λ (l : List ℕ). length l + 1) line ls in
     let f = first.room in
     let r = rest.room in
-    record { room = omega arith; tight = rest.tight }
+    let fc = first.count in
+    let rc = rest.count in
+    record { count = omega arith; room = omega arith; tight = rest.tight }
 
 first_longer : (byte : ℕ) (ls : List (List ℕ)) (n : ℕ) → lines_len ls ≤ n + 1 → lines_len (onto_first byte ls) ≤ n + 2
 first_longer byte [] n h = let e = sum_cons (λ (l : List ℕ). length l + 1) (byte ∷ []) [] in omega arith

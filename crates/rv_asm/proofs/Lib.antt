@@ -3,6 +3,12 @@ pub mod LineLabels
 pub mod Entries
 pub mod Strings
 pub mod Codes
+pub mod FormatFields
+pub mod Scratch
+pub mod WordBounds
+pub mod CleanCode
+pub mod SoundDrafts
+mod ShorterOperands
 mod Shorter
 mod Lengths
-pub mod SmallImages
+pub mod AssembledImages

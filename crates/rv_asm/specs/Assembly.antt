@@ -1,5 +1,7 @@
 -- The program that a text stands for, or why it is none.
-use Rattle.std.specs.Prelude.{ℕ, ◌-◌, ◌==◌, nat_lt, not, if◌then◌else◌, Bool, true, false, Option, Some, None, Result, Ok, Err, List, [], ◌∷◌, ◌++◌, length, drop, filter, codes, bytes_eq}
+use Rattle.std.specs.Prelude.{ℕ, ◌+◌, ◌-◌, ◌==◌, nat_lt, not, if◌then◌else◌, Bool, true, false, Option, Some, None, Result, Ok, Err, List, [], ◌∷◌, ◌++◌, length, drop, filter, sum_by, codes, bytes_eq}
+use Rattle.pn_types.specs.GoodNames.{program_module}
+use Rattle.pn_types.specs.declared.limits.TheConstants.{MAX_TEXT_LEN}
 use Rattle.pn_types.specs.declared.image.Image.{Image}
 use Rattle.pn_types.specs.declared.image.Segment.{Segment}
 use Rattle.pn_types.specs.declared.image.Symbol.{Symbol}
@@ -9,11 +11,12 @@ use Rattle.pn_text.specs.Lines.{lines}
 use Rattle.rv_word.specs.Values.{wrap}
 use Rattle.rv_asm.specs.declared.fault.AsmFault.{AsmFault}
 use Rattle.rv_asm.specs.declared.fault.AsmFault.TheVariants.{BadLine, NoText, TextTooLong, DataTooLong}
+use Rattle.rv_asm.specs.declared.assembling.TheConstants.{MAX_DATA_LEN}
 use Rattle.rv_asm.specs.declared.draft.MarkKind.{MarkKind}
 use Rattle.rv_asm.specs.declared.draft.MarkKind.TheVariants as kind
 use Rattle.rv_asm.specs.Registers.{named}
 use Rattle.rv_asm.specs.Layout.{data_of}
-use Rattle.rv_asm.specs.FirstPass.{◌>>=◌, Placed, Mark, Draft, blank_draft, passed, program, text_start, data_start}
+use Rattle.rv_asm.specs.FirstPass.{◌>>=◌, Placed, Mark, Draft, blank_draft, passed, text_start, data_start}
 use Rattle.rv_asm.specs.SecondPass.{code}
 
 -- ---- symbols
@@ -48,7 +51,7 @@ symbols_from ends (m ∷ ms) = symbol_of m ends ∷ symbols_from (ends_after m.k
 
 -- whether a module is the program's own
 abbrev pub is_own : List ℕ → Bool
-is_own name = bytes_eq name program
+is_own name = bytes_eq name program_module
 
 abbrev pub belongs : Bool → List ℕ → Bool
 belongs true name = is_own name
@@ -61,6 +64,13 @@ belonging own symbols = filter (λ s. belongs own s.«module») symbols
 -- the symbols of other modules, and then those of the program
 abbrev pub symbols_of : Draft → List Symbol
 symbols_of d = belonging false (symbols_from d.ends d.marks) ++ belonging true (symbols_from d.ends d.marks)
+
+-- how many bytes the names of symbols and of their modules have together, each with one more for its end
+abbrev pub name_room : Symbol → ℕ
+name_room s = length s.name + length s.module + 2
+
+abbrev pub names_room : List Symbol → ℕ
+names_room symbols = sum_by name_room symbols
 
 -- ---- the image
 
@@ -105,8 +115,8 @@ closed d = closed_by d d.opened
 unfoldable pub sized : Draft → List ℕ → Result Image AsmFault
 sized d text =
     if length text == 0 then Err NoText
-    else if nat_lt 524288 (length text) then Err (TextTooLong (length text))
-    else if nat_lt 16777216 (d.data_end - data_start) then Err (DataTooLong (d.data_end - data_start))
+    else if nat_lt MAX_TEXT_LEN (length text) then Err (TextTooLong (length text))
+    else if nat_lt MAX_DATA_LEN (d.data_end - data_start) then Err (DataTooLong (d.data_end - data_start))
     else Ok (image_of d text)
 
 -- the program of a text, or the first fault

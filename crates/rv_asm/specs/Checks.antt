@@ -1,5 +1,5 @@
 -- Where a statement stands, which numbers fit, and what names x31.
-use Rattle.std.specs.Prelude.{◌-◌, ◌%◌, ◌^◌, ◌==◌, ◌&&◌, not, Bool, true, false}
+use Rattle.std.specs.Prelude.{◌-◌, ◌%◌, ◌^◌, ◌&&◌, not, Bool, true, false}
 use Rattle.rv_word.specs.declared.instr.Instr.{Instr}
 use Rattle.rv_word.specs.declared.instr.Instr.TheVariants.{Lui, Auipc, ShiftImm, ShiftImm32}
 use Rattle.rv_word.specs.Names.{has_scratch}
@@ -73,12 +73,12 @@ abbrev pub value_has_x31 : ValueWidth → Section → Number → Bool
 value_has_x31 width.Word s n = in_text s && has_scratch (wrapped n % 2 ^ 32)
 value_has_x31 w s n = false
 
--- the statement names x31 in the text
+-- the statement names x31 in the text: its word does, and of `li` and `la` a `lui` of their register
 unfoldable pub has_x31 : Section → Statement → Bool
 has_x31 s (the.Value w n) = value_has_x31 w s n
 has_x31 s (the.Instruction i) = has_scratch (coded i)
 has_x31 s (the.Numbered i n) = has_scratch (coded i)
 has_x31 s (the.Jump i) = has_scratch (coded i)
-has_x31 s (the.LoadNumber rd n) = rd == 31
-has_x31 s (the.LoadAddress rd) = rd == 31
+has_x31 s (the.LoadNumber rd n) = has_scratch (coded (Lui rd 0))
+has_x31 s (the.LoadAddress rd) = has_scratch (coded (Lui rd 0))
 has_x31 s other = false

@@ -1,4 +1,4 @@
--- What the code's draft holds, with names and strings as lists.
+-- For proofs alone: what the code's draft holds, with names and strings as lists.
 use Rattle.rv_asm.specs.FirstPass.{Placed, Mark}
 use Rattle.rv_asm.specs.declared.draft.Placed.{Placed as CodePlaced}
 use Rattle.rv_asm.specs.declared.draft.Mark.{Mark as CodeMark}

@@ -1,5 +1,6 @@
 -- The first pass: the lines in order, each with its place, and the first that is faulty.
-use Rattle.std.specs.Prelude.{ℕ, ◌+◌, nat_le, not, if◌then◌else◌, Bool, Option, Some, None, is_some, Result, Ok, Err, List, [], ◌∷◌, ◌++◌, length, codes}
+use Rattle.std.specs.Prelude.{ℕ, ◌+◌, not, if◌then◌else◌, Bool, Option, Some, None, is_some, Result, Ok, Err, List, [], ◌∷◌, ◌++◌}
+use Rattle.pn_types.specs.GoodNames.{is_good_name, program_module}
 use Rattle.rv_asm.specs.declared.fault.AsmFault.{AsmFault}
 use Rattle.rv_asm.specs.declared.fault.AsmFault.TheVariants.{BadLine, BadNumber, UsesScratch, TwiceNamed}
 use Rattle.rv_asm.specs.declared.draft.MarkKind.{MarkKind}
@@ -54,9 +55,6 @@ text_start = 0x10000
 abbrev pub data_start : ℕ
 data_start = 0x1000000
 
-abbrev pub program : List ℕ
-program = codes "program"
-
 -- before the first line
 abbrev pub blank_draft : Draft
 blank_draft =
@@ -65,7 +63,7 @@ blank_draft =
       text_end = text_start;
       data_end = data_start;
       opened = None;
-      «module» = program;
+      «module» = program_module;
       labels = [];
       marks = [];
       ends = [];
@@ -112,9 +110,9 @@ define_own n at other name labels = Ok labels
 
 -- ---- what a line adds
 
--- a module's name of more than 200 bytes is no good one
+-- the module of a name, which is `program` where the name isn't good
 abbrev pub good_module : List ℕ → List ℕ
-good_module name = if nat_le (length name) 200 then name else program
+good_module name = if is_good_name name then name else program_module
 
 -- the statement stands at the end of its section
 abbrev pub placed_after : ℕ → Draft → Statement → List ℕ → Draft

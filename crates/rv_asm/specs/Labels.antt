@@ -1,4 +1,4 @@
--- Names and their addresses.
+-- For proofs alone: names and their addresses.
 use Rattle.std.specs.Prelude.{◌≡◌, ◌≢◌, ℕ, Bool, true, false, None, List, [], ◌∷◌, ◌++◌}
 use Rattle.rv_asm.specs.Registers.{named}
 

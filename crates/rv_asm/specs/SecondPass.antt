@@ -4,7 +4,7 @@ use Rattle.std.specs.Int.{w32, to_le_bytes}
 use Rattle.rv_word.specs.Fields.{extended}
 use Rattle.rv_word.specs.Words.{word_of as coded}
 use Rattle.rv_word.specs.declared.instr.Instr.{Instr}
-use Rattle.rv_word.specs.declared.instr.Instr.TheVariants.{Lui, Auipc, Jal, Jalr, Branch, Load, Store, OpImm, ShiftImm, Addiw, ShiftImm32, Op, Op32, Fence, Ecall, Ebreak, Amo}
+use Rattle.rv_word.specs.declared.instr.Instr.TheVariants.{Lui, Auipc, Jal, Jalr, Branch, Load, Store, OpImm, ShiftImm, Addiw, ShiftImm32, Op, Op32, Fence, Ecall, Ebreak, Lr, Sc, Amo}
 use Rattle.rv_word.specs.declared.instr.ImmOp.TheVariants.{Addi}
 use Rattle.rv_asm.specs.declared.fault.AsmFault.{AsmFault}
 use Rattle.rv_asm.specs.declared.fault.AsmFault.TheVariants.{UnknownName, OutOfReach}
@@ -41,6 +41,8 @@ with_number (Op32 op rd rs1 rs2) n = Op32 op rd rs1 rs2
 with_number (Fence rd rs1 high) n = Fence rd rs1 high
 with_number Ecall n = Ecall
 with_number Ebreak n = Ebreak
+with_number (Lr width rd rs1 order) n = Lr width rd rs1 order
+with_number (Sc width rd rs1 rs2 order) n = Sc width rd rs1 rs2 order
 with_number (Amo op width rd rs1 rs2 order) n = Amo op width rd rs1 rs2 order
 
 -- a number as a multiple of 4096 and a rest from -2048 to 2047

@@ -1,4 +1,4 @@
--- What the code holds, with names and strings as lists.
+-- For proofs alone: what the code holds, with names and strings as lists.
 use Rattle.std.specs.Prelude.{◌≡◌, ◌≢◌, map, Result, Ok, Err}
 use Rattle.std.specs.Result.{MatchResult}
 use Rattle.rv_asm.specs.Parsing.{Line}

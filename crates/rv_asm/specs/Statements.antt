@@ -2,7 +2,6 @@
 use Rattle.std.specs.Prelude.{ℕ, ◌-◌, if◌then◌else◌, Option, Some, None, List, [], ◌∷◌, take, drop, length, codes, bytes_eq}
 use Rattle.std.specs.Option.{option_map, option_or}
 use Rattle.rv_word.specs.declared.instr.AmoOp.{AmoOp}
-use Rattle.rv_word.specs.declared.instr.AmoOp.TheVariants as amo
 use Rattle.rv_word.specs.declared.instr.AtomicWidth.{AtomicWidth}
 use Rattle.rv_word.specs.declared.instr.ImmOp.TheVariants as imm
 use Rattle.rv_word.specs.declared.instr.Instr.TheVariants as instr
@@ -78,28 +77,36 @@ stem name = take (length name - 2) name
 abbrev pub ending : List ℕ → List ℕ
 ending name = drop (length name - 2) name
 
--- an access with a second register: `sc` or `amo` with an operation
-abbrev pub atomic_named : List ℕ → Option AmoOp
-atomic_named name =
-    if bytes_eq name (codes "sc") then Some amo.Sc
-    else if bytes_eq (take 3 name) (codes "amo") then named (drop 3 name) atomic_ops
-    else None
+-- an AMO, which begins with `amo`
+abbrev pub amo_named : List ℕ → Option AmoOp
+amo_named name = if bytes_eq (take 3 name) (codes "amo") then named (drop 3 name) atomic_ops else None
 
 abbrev pub reserve_statement : AtomicWidth → List ℕ → Option Statement
 reserve_statement size text = do
   r ← register_pointer text
-  Some (the.Instruction (instr.Amo amo.Lr size r.0 r.1 0 0))
+  Some (the.Instruction (instr.Lr size r.0 r.1 0))
 
-abbrev pub access_statement : AtomicWidth → List ℕ → List ℕ → Option Statement
-access_statement size name text = do
-  op ← atomic_named name
+abbrev pub conditional_statement : AtomicWidth → List ℕ → Option Statement
+conditional_statement size text = do
+  r ← registers_pointer text
+  Some (the.Instruction (instr.Sc size r.0 r.2 r.1 0))
+
+abbrev pub amo_statement : AtomicWidth → List ℕ → List ℕ → Option Statement
+amo_statement size name text = do
+  op ← amo_named name
   r ← registers_pointer text
   Some (the.Instruction (instr.Amo op size r.0 r.2 r.1 0))
+
+abbrev pub access_statement : AtomicWidth → List ℕ → List ℕ → Option Statement
+access_statement size name text =
+    if bytes_eq name (codes "lr") then reserve_statement size text
+    else if bytes_eq name (codes "sc") then conditional_statement size text
+    else amo_statement size name text
 
 unfoldable pub atomic_statement : List ℕ → List ℕ → Option Statement
 atomic_statement name text = do
   size ← named (ending name) atomic_widths
-  if bytes_eq (stem name) (codes "lr") then reserve_statement size text else access_statement size (stem name) text
+  access_statement size (stem name) text
 
 -- `addiw rd, rs1, N`
 unfoldable pub addiw_statement : List ℕ → Option Statement

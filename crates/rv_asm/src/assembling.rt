@@ -1,26 +1,24 @@
 //! The assembler.
 
-ghost use Rattle.std.specs.Prelude.{◌≡◌, ◌≢◌, ◌<◌, ◌^◌, Ok, Err, MatchResult, length};
-ghost use Rattle.rv_asm.specs.Assembly.{sized, assembled};
+ghost use Rattle.std.specs.Prelude.{◌≡◌, ◌≢◌, ◌+◌, ◌*◌, ◌<◌, ◌≤◌, ◌^◌, true, None, Ok, Err, MatchResult, IfOk, length};
+ghost use Rattle.rv_word.specs.Names.{words_of, scratch_in};
+ghost use Rattle.pn_types.specs.Images.{IsImage, text_of};
+ghost use Rattle.pn_types.specs.GoodNames.{is_good_name};
+ghost use Rattle.std.specs.List.{All};
+ghost use Rattle.rv_asm.specs.Assembly.{sized, assembled, names_room};
 ghost use Rattle.rv_asm.specs.Seen.{Gives};
 ghost use Rattle.rv_asm.specs.declared.fault.AsmFault.TheVariants.{NoMemory};
 
-use crate::draft::Draft;
+use crate::draft::{DATA_START, Draft};
 use crate::fault::AsmFault;
 use crate::first_pass::pass;
 use crate::image::image;
 use crate::second_pass::code;
-use pn_types::Image;
+use pn_types::{Image, MAX_TEXT_LEN};
 use std::alloc::Global;
 
-/// The greatest length of a text in bytes.
-const TEXT_LIMIT: usize = 524_288;
-
 /// The greatest length of the data in bytes.
-const DATA_LIMIT: u128 = 16_777_216;
-
-/// Where the data begins.
-const DATA_START: u128 = 0x100_0000;
+const MAX_DATA_LEN: u128 = 16_777_216;
 
 /// The image of the draft, whose text has these bytes, if the text is there, and neither it nor the data is too long.
 #[tactic(auto, unfolding(crate::specs::Assembly::sized))]
@@ -30,11 +28,11 @@ fn sized(alloc: Global, draft: &Draft, text: Vec<u8>) -> Result<Image, AsmFault>
     if text.is_empty() {
         return Err(AsmFault::NoText);
     }
-    if text.len() > TEXT_LIMIT {
+    if text.len() as u64 > MAX_TEXT_LEN {
         return Err(AsmFault::TextTooLong(text.len() as u64));
     }
-    let data_len = draft.data_end.saturating_sub(DATA_START);
-    if data_len > DATA_LIMIT {
+    let data_len = draft.data_end.saturating_sub(DATA_START as u128);
+    if data_len > MAX_DATA_LEN {
         return Err(AsmFault::DataTooLong(data_len));
     }
     Ok(image(alloc, draft, text)?)
@@ -45,7 +43,12 @@ fn sized(alloc: Global, draft: &Draft, text: Vec<u8>) -> Result<Image, AsmFault>
 #[tactic(auto, unfolding(crate::specs::Assembly::assembled))]
 pub fn assemble(alloc: Global, text: &[u8]) -> Result<Image, AsmFault>
     requires { length text.now < 2 ^ 31 }
-    ensures { MatchResult result (λ image. assembled text.now ≡ Ok image) (λ fault. fault ≢ NoMemory → assembled text.now ≡ Err fault) }
+    ensures meaning { MatchResult result (λ image. assembled text.now ≡ Ok image) (λ fault. fault ≢ NoMemory → assembled text.now ≡ Err fault) }
+    ensures image { IfOk result IsImage }
+    // No word of the text names x31.
+    ensures unscratched { IfOk result (λ image. scratch_in (words_of (text_of image)) image.text_at ≡ None) }
+    ensures modules { IfOk result (λ image. All (λ s. is_good_name s.«module» ≡ true) image.symbols) }
+    ensures named { IfOk result (λ image. names_room image.symbols ≤ 127 * (length text.now + 1)) }
 {
     let draft = pass(alloc, text)?;
     if let Some(line) = draft.opened {

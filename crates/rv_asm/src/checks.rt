@@ -112,7 +112,9 @@ pub(crate) fn has_x31(section: Section, statement: &Statement) -> bool
         Statement::Instruction(instr) | Statement::Numbered(instr, _) | Statement::Jump(instr) => {
             names_x31(encode(&instr))
         }
-        Statement::LoadNumber(rd, _) | Statement::LoadAddress(rd) => rd == 31,
+        Statement::LoadNumber(rd, _) | Statement::LoadAddress(rd) => {
+            names_x31(encode(&Instr::Lui { rd, imm: 0 }))
+        }
         _ => false,
     }
 }

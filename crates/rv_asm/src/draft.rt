@@ -7,8 +7,15 @@ ghost use Rattle.rv_asm.specs.FirstPass.{here, good_module, placed_after, marked
 use crate::addresses::Labels;
 use crate::layout::len;
 use crate::statement::{Section, Statement};
+use pn_types::{PROGRAM_MODULE, SEGMENTS_FROM, is_good_name};
 use std::alloc::{AllocError, Global};
 use std::marker::Model;
+
+/// Where the text begins: at the lowest address of a segment.
+pub(crate) const TEXT_START: u64 = SEGMENTS_FROM;
+
+/// Where the data begins.
+pub(crate) const DATA_START: u64 = 0x100_0000;
 
 /// What begins at an address.
 #[derive(Clone, Copy)]
@@ -84,10 +91,10 @@ impl<'a> Draft<'a> {
     {
         Draft {
             section: Section::Text,
-            text_end: 0x10000,
-            data_end: 0x100_0000,
+            text_end: TEXT_START as u128,
+            data_end: DATA_START as u128,
             opened: None,
-            module: b"program",
+            module: PROGRAM_MODULE,
             labels: Labels::new(alloc),
             marks: Vec::new(alloc),
             ends: Vec::new(alloc),
@@ -202,9 +209,13 @@ impl<'a> Draft<'a> {
     }
 }
 
-/// The module of this name, and `program` where its name is too long.
+/// The module of this name, and `program` where the name isn't good.
 fn good_module(name: &[u8]) -> &[u8]
     ensures { result.now ≡ good_module name.now }
 {
-    if name.len() <= 200 { name } else { b"program" }
+    if is_good_name(name) {
+        name
+    } else {
+        PROGRAM_MODULE
+    }
 }

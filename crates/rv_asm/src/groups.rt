@@ -1,7 +1,7 @@
 //! Statements whose operation is one of many with the same operands.
 
 ghost use Rattle.std.specs.Prelude.{◌≡◌};
-ghost use Rattle.rv_asm.specs.Statements.{base_statement, half_statement, immediate_statement, shift_statement, half_shift_statement, load_statement, store_statement, atomic_named, reserve_statement, access_statement, atomic_statement};
+ghost use Rattle.rv_asm.specs.Statements.{base_statement, half_statement, immediate_statement, shift_statement, half_shift_statement, load_statement, store_statement, amo_named, reserve_statement, conditional_statement, amo_statement, atomic_statement};
 
 use crate::operands::{
     register_memory, register_pointer, registers_number, registers_pointer, three_registers,
@@ -103,13 +103,11 @@ pub(crate) fn store_statement(name: &[u8], text: &[u8]) -> Option<Statement>
     Some(Statement::Numbered(instr, number))
 }
 
-/// The access with a second register of this name.
-fn atomic_named(name: &[u8]) -> Option<AmoOp>
-    ensures { result ≡ atomic_named name.now }
+/// The AMO of this name, which begins with `amo`.
+fn amo_named(name: &[u8]) -> Option<AmoOp>
+    ensures { result ≡ amo_named name.now }
 {
-    if name == b"sc".as_slice() {
-        Some(AmoOp::Sc)
-    } else if name.starts_with(b"amo") {
+    if name.starts_with(b"amo") {
         atomic_op(&name[3..])
     } else {
         None
@@ -121,22 +119,35 @@ fn reserve_statement(width: AtomicWidth, text: &[u8]) -> Option<Statement>
     ensures { result ≡ reserve_statement width text.now }
 {
     let (rd, rs1) = register_pointer(text)?;
-    let instr = Instr::Amo {
-        op: AmoOp::Lr,
+    let instr = Instr::Lr {
         width,
         rd,
         rs1,
-        rs2: 0,
         order: 0,
     };
     Some(Statement::Instruction(instr))
 }
 
-/// The access of this width with a second register.
-fn access_statement(width: AtomicWidth, name: &[u8], text: &[u8]) -> Option<Statement>
-    ensures { result ≡ access_statement width name.now text.now }
+/// `sc` of this width.
+fn conditional_statement(width: AtomicWidth, text: &[u8]) -> Option<Statement>
+    ensures { result ≡ conditional_statement width text.now }
 {
-    let op = atomic_named(name)?;
+    let (rd, rs2, rs1) = registers_pointer(text)?;
+    let instr = Instr::Sc {
+        width,
+        rd,
+        rs1,
+        rs2,
+        order: 0,
+    };
+    Some(Statement::Instruction(instr))
+}
+
+/// The AMO of this width and name.
+fn amo_statement(width: AtomicWidth, name: &[u8], text: &[u8]) -> Option<Statement>
+    ensures { result ≡ amo_statement width name.now text.now }
+{
+    let op = amo_named(name)?;
     let (rd, rs2, rs1) = registers_pointer(text)?;
     let instr = Instr::Amo {
         op,
@@ -158,7 +169,9 @@ pub(crate) fn atomic_statement(name: &[u8], text: &[u8]) -> Option<Statement>
     let width = atomic_width(ending)?;
     if stem == b"lr".as_slice() {
         reserve_statement(width, text)
+    } else if stem == b"sc".as_slice() {
+        conditional_statement(width, text)
     } else {
-        access_statement(width, stem, text)
+        amo_statement(width, stem, text)
     }
 }

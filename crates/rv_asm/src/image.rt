@@ -6,10 +6,10 @@ ghost use Rattle.rv_asm.specs.Layout.{value_bytes, data_of, unescaped, escaped_b
 ghost use Rattle.rv_asm.specs.DraftSeen.{placed_seen, mark_seen};
 ghost use Rattle.rv_asm.specs.Assembly.{ends_after, first_or, symbol_kind, symbol_size, symbol_of, symbols_from, is_own, belongs, belonging, symbols_of, data_bytes, segment, segments_of, entry_at, image_of};
 
-use crate::draft::{Draft, Mark, MarkKind, Placed};
+use crate::draft::{DATA_START, Draft, Mark, MarkKind, Placed, TEXT_START};
 use crate::layout::padding;
 use crate::statement::{Statement, ValueWidth};
-use pn_types::{Image, Segment, Seq, SymKind, Symbol, Text};
+use pn_types::{Image, PROGRAM_MODULE, Segment, Seq, SymKind, Symbol, Text};
 use std::alloc::{AllocError, Global};
 
 /// Adds the low bytes of the number.
@@ -165,7 +165,7 @@ fn symbol(alloc: Global, mark: &Mark, ends: &[u128]) -> Result<Symbol, AllocErro
 fn is_own(name: &[u8]) -> bool
     ensures { result ≡ is_own name.now }
 {
-    name == b"program".as_slice()
+    name == PROGRAM_MODULE
 }
 
 /// Whether a module is the program's own, or whether it is another.
@@ -255,9 +255,9 @@ fn segments(alloc: Global, text: Vec<u8>, bytes: Vec<u8>) -> Result<Vec<Segment>
     ensures { IfOk result (λ segments. segments.items ≡ segments_of text.items bytes.items) }
 {
     let mut segments = Vec::new(alloc);
-    segments.push(segment(0x10000, text))?;
+    segments.push(segment(TEXT_START, text))?;
     if !bytes.is_empty() {
-        segments.push(segment(0x100_0000, bytes))?;
+        segments.push(segment(DATA_START, bytes))?;
     }
     Ok(segments)
 }
@@ -267,8 +267,8 @@ fn entry(start: Option<u128>) -> u64
     ensures { result ≡ entry_at start }
 {
     match start {
-        Some(at) if at < 0x100_0000 => at as u64,
-        _ => 0x10000,
+        Some(at) if at < DATA_START as u128 => at as u64,
+        _ => TEXT_START,
     }
 }
 
@@ -283,7 +283,7 @@ pub(crate) fn image(alloc: Global, draft: &Draft, text: Vec<u8>) -> Result<Image
     let symbols = Seq::from_vec(symbols(alloc, draft)?);
     Ok(Image {
         segments: Seq::from_vec(segments(alloc, text, bytes)?),
-        text_at: 0x10000,
+        text_at: TEXT_START,
         text_len,
         entry,
         symbols,

@@ -25,8 +25,6 @@ mod registers;
 mod second_pass;
 mod singles;
 mod statement;
-#[cfg(test)]
-mod tests;
 mod token;
 
 pub use assembling::assemble;

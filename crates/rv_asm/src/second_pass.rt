@@ -40,67 +40,24 @@ fn extended_12(number: u64) -> u64
 
 /// The instruction with the number in its place: of `lui` and `auipc` the number of the upper 20 bits.
 #[tactic(auto, unfolding(crate::specs::SecondPass::with_number))]
-fn with_number(instr: Instr, number: u64) -> Instr
+fn with_number(mut instr: Instr, number: u64) -> Instr
     ensures { result ≡ with_number instr number }
 {
-    match instr {
-        Instr::Lui { rd, .. } => Instr::Lui {
-            rd,
-            imm: extended_32(number % 0x100000 * 4096),
-        },
-        Instr::Auipc { rd, .. } => Instr::Auipc {
-            rd,
-            imm: extended_32(number % 0x100000 * 4096),
-        },
-        Instr::Jal { rd, .. } => Instr::Jal { rd, offset: number },
-        Instr::Jalr { rd, rs1, .. } => Instr::Jalr {
-            rd,
-            rs1,
-            offset: number,
-        },
-        Instr::Branch { op, rs1, rs2, .. } => Instr::Branch {
-            op,
-            rs1,
-            rs2,
-            offset: number,
-        },
-        Instr::Load { op, rd, rs1, .. } => Instr::Load {
-            op,
-            rd,
-            rs1,
-            offset: number,
-        },
-        Instr::Store { op, rs1, rs2, .. } => Instr::Store {
-            op,
-            rs1,
-            rs2,
-            offset: number,
-        },
-        Instr::OpImm { op, rd, rs1, .. } => Instr::OpImm {
-            op,
-            rd,
-            rs1,
-            imm: number,
-        },
-        Instr::ShiftImm { op, rd, rs1, .. } => Instr::ShiftImm {
-            op,
-            rd,
-            rs1,
-            by: (number % 64) as u32,
-        },
-        Instr::Addiw { rd, rs1, .. } => Instr::Addiw {
-            rd,
-            rs1,
-            imm: number,
-        },
-        Instr::ShiftImm32 { op, rd, rs1, .. } => Instr::ShiftImm32 {
-            op,
-            rd,
-            rs1,
-            by: (number % 32) as u32,
-        },
-        _ => instr,
+    match &mut instr {
+        Instr::Lui { imm, .. } => *imm = extended_32(number % 0x100000 * 4096),
+        Instr::Auipc { imm, .. } => *imm = extended_32(number % 0x100000 * 4096),
+        Instr::Jal { offset, .. } => *offset = number,
+        Instr::Jalr { offset, .. } => *offset = number,
+        Instr::Branch { offset, .. } => *offset = number,
+        Instr::Load { offset, .. } => *offset = number,
+        Instr::Store { offset, .. } => *offset = number,
+        Instr::OpImm { imm, .. } => *imm = number,
+        Instr::Addiw { imm, .. } => *imm = number,
+        Instr::ShiftImm { by, .. } => *by = (number % 64) as u32,
+        Instr::ShiftImm32 { by, .. } => *by = (number % 32) as u32,
+        _ => {}
     }
+    instr
 }
 
 /// The number as a multiple of 4096, of which the rest is from -2048 to 2047.

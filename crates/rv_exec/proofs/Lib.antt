@@ -2,3 +2,4 @@ pub mod Breaks
 pub mod Writes
 pub mod High
 pub mod Runs
+pub mod Free

@@ -1,3 +1,5 @@
-pub mod Asks
 pub mod Start
 pub mod Run
+pub mod Gives
+pub mod Unreserved
+pub mod Flat

@@ -1,9 +1,10 @@
 -- Runs of the unpatched program: lists of hart numbers, each of which takes a turn.
-use Rattle.std.specs.Prelude.{ℕ, ◌≡◌, Bool, false, IsTrue, Option, Some, None, List, [], ◌∷◌, slice_get}
+use Rattle.std.specs.Prelude.{ℕ, ◌≡◌, false, IsTrue, Option, Some, None, List, [], ◌∷◌, slice_get}
 use Rattle.pn_types.specs.declared.image.Image.{Image}
 use Rattle.rv_word.specs.Registers.{reg}
 use Rattle.rv_word.specs.Plain.{Words, PlainHart, Plain, plain, can}
-use Rattle.rv_exec.specs.Start.{program_of, start}
+use Rattle.rv_mem.specs.Start.{program_of}
+use Rattle.rv_exec.specs.Start.{start}
 
 -- the state after the turns of these harts, one after another
 abbrev pub run_from : Words → List ℕ → Plain → Plain
@@ -26,15 +27,6 @@ IsLegal image n budget turns = LegalFrom (program_of image) budget turns (start 
 -- no hart can go on
 abbrev pub HasEnded : ℕ → Plain → Type 0
 HasEnded budget s = (h : ℕ) → can budget s h ≡ false
-
--- The turns are a whole run: legal, and at their end no hart can go on.
-pub record IsWholeRun (image : Image) (n budget : ℕ) (turns : List ℕ) : Type 0 where
-  pub legal : IsLegal image n budget turns
-  pub ended : HasEnded budget (run image n turns)
-
--- on one hart there is only one whole run
-abbrev pub OneWholeRun : Type 0
-OneWholeRun = (image : Image) (budget : ℕ) (turns others : List ℕ) → IsWholeRun image 1 budget turns → IsWholeRun image 1 budget others → turns ≡ others
 
 -- ---- the trace of a run
 

@@ -1,16 +1,10 @@
 -- The state in which a program starts.
 use Rattle.std.specs.Prelude.{ℕ, zero, suc, ◌+◌, List, [], ◌∷◌, replicate, None}
 use Rattle.pn_types.specs.declared.image.Image.{Image}
-use Rattle.pn_types.specs.Images.{text_of}
-use Rattle.rv_word.specs.Names.{words_of}
 use Rattle.rv_word.specs.Registers.{with_reg}
 use Rattle.rv_word.specs.Exec.{prog_of}
-use Rattle.rv_word.specs.Plain.{Words, PlainHart, Plain}
+use Rattle.rv_word.specs.Plain.{PlainHart, Plain}
 use Rattle.rv_mem.specs.Start.{start_memory, heap_at, heap_len, stack_at, stack_len}
-
--- the program's words
-abbrev pub program_of : Image → Words
-program_of image = record { at = image.text_at; words = words_of (text_of image) }
 
 -- the registers of hart h of n: a0 is h, a1 is n, a2 and a3 are the heap's address and length, and sp is the end of the
 -- hart's stack; every other register is 0

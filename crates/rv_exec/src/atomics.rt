@@ -1,18 +1,24 @@
 //! Atomic accesses.
 
-ghost use Rattle.std.specs.Prelude.{◌≡◌, ◌<◌, ◌≤◌, ◌^◌, length, List, ℕ};
-ghost use Rattle.rv_word.specs.Exec.{done, prog_of, conditional, modified, amo_stores};
+ghost use Rattle.std.specs.Prelude.{◌≡◌, ◌<◌, ◌%◌, ◌^◌, Ok, length, List, ℕ, Option, IfOk, IfErr, IfSome, None};
+ghost use Rattle.rv_word.specs.Exec.{Outcome, Stops, Prog, perform, done, prog_of, stop_of, atomic, exec_decoded};
+ghost use Rattle.rv_word.specs.Memory.{load};
 ghost use Rattle.rv_word.specs.Values.{atomic_len, answered, less_signed, less_unsigned, left_by};
+ghost use Rattle.rv_word.specs.Words.{HasWord};
+ghost use Rattle.rv_word.specs.declared.action.Action.TheVariants.{LoadReserved, StoreConditional, AtomicAccess};
+ghost use Rattle.rv_exec.specs.Flat.{instr_of, IsAtomicAccess};
+ghost use Rattle.rv_exec.specs.Gives.{Gives, answering, next_after};
 
-use crate::executing::{cause_of, next_pc};
+use crate::flat::Flat;
+use crate::outcomes::{cause_of, next_pc};
 use crate::regs::Regs;
 use crate::reservations::Reservations;
 use crate::values::low_word_of;
 use pn_types::HartNo;
 use rv_mem::Mem;
-use rv_word::{AmoOp, AtomicWidth, Next};
+use rv_word::{AmoOp, AtomicWidth, Cause};
 
-pub fn atomic_width(width: AtomicWidth) -> u32
+fn atomic_width(width: AtomicWidth) -> u32
     ensures { result ≡ atomic_len width }
 {
     match width {
@@ -59,7 +65,7 @@ fn amo_result(op: AmoOp, width: AtomicWidth, old: u64, value: u64) -> u64
     ensures { result ≡ left_by op width old value }
 {
     match op {
-        AmoOp::Lr | AmoOp::Sc | AmoOp::Swap => value,
+        AmoOp::Swap => value,
         AmoOp::Add => old.wrapping_add(value),
         AmoOp::Xor => old ^ value,
         AmoOp::And => old & value,
@@ -75,102 +81,153 @@ fn amo_result(op: AmoOp, width: AtomicWidth, old: u64, value: u64) -> u64
     }
 }
 
-/// An SC of a hart that has the reservation, or not.
-fn store_conditional(
+/// The number at an address, or why it may not be accessed. The alignment is looked at first.
+fn read(width: AtomicWidth, at: u64, mem: &Mem) -> Result<u64, Cause>
+    ensures aligned { IfOk result (λ n. at % atomic_len width ≡ 0) }
+    ensures value { IfOk result (λ n. load (atomic_len width) mem.now at ≡ Ok n) }
+    ensures bound { IfOk result (λ n. n < 256 ^ atomic_len width) }
+    ensures refused { IfErr result (λ cause. (resv : List (Option ℕ)) (out : List ℕ) (f : ℕ → Outcome) → atomic width at (prog_of mem.now resv out) f ≡ Stops cause) }
+{
+    let n = atomic_width(width);
+    if at % n as u64 != 0 {
+        return Err(Cause::Misaligned);
+    }
+    match mem.load(at, n) {
+        Ok(old) => Ok(old),
+        Err(e) => Err(cause_of(e)),
+    }
+}
+
+/// An LR. It answers the number at the address.
+#[tactic(auto, unfolding(rv_word::specs::Exec::perform))]
+fn load_reserved(
+    width: AtomicWidth,
     hart: HartNo,
-    reserved: bool,
-    n: u32,
-    rd: u32,
+    at: u64,
+    mem: &Mem,
+    resv: &mut Reservations,
+) -> Result<u64, Cause>
+    requires { hart < length resv.old }
+    ensures harts { length resv.new ≡ length resv.old }
+    ensures value { (rd pc : ℕ) (regs out : List ℕ) → done (perform hart (LoadReserved width rd at) pc regs (prog_of mem.now resv.old out)) regs (prog_of mem.now resv.old out) ≡ answering result rd pc regs (prog_of mem.now resv.new out) }
+{
+    let old = read(width, at, mem)?;
+    resv.set(hart, Some(at / 8));
+    Ok(answer(width, old))
+}
+
+/// An SC. It answers 0 where it stored, and 1 where the hart had no reservation.
+#[tactic(auto, unfolding(rv_word::specs::Exec::perform))]
+fn store_conditional(
+    width: AtomicWidth,
+    hart: HartNo,
     at: u64,
     value: u64,
-    pc: u64,
-    regs: &mut Regs,
     mem: &mut Mem,
     resv: &mut Reservations,
-) -> Next
-    requires hart { hart < length resv.old }
-    requires rd { rd < 32 }
-    requires n { n ≤ 8 }
+) -> Result<u64, Cause>
+    requires { hart < length resv.old }
     ensures harts { length resv.new ≡ length resv.old }
-    ensures value { (out : List ℕ) → done (conditional reserved hart n rd at value pc regs.old (prog_of mem.old resv.old out)) regs.old (prog_of mem.old resv.old out) ≡ record { next = result; regs = regs.new; prog = prog_of mem.new resv.new out } }
+    ensures value { (rd pc : ℕ) (regs out : List ℕ) → done (perform hart (StoreConditional width rd at value) pc regs (prog_of mem.old resv.old out)) regs (prog_of mem.old resv.old out) ≡ answering result rd pc regs (prog_of mem.new resv.new out) }
 {
-    if !reserved {
-        regs.set(rd, 1);
+    read(width, at, mem)?;
+    if !resv.has(hart, at / 8) {
         resv.set(hart, None);
-        return Next::Go(next_pc(pc));
+        return Ok(1);
     }
-    match mem.store(at, n, value) {
+    match mem.store(at, atomic_width(width), value) {
         Ok(()) => {
-            regs.set(rd, 0);
             resv.break_others(hart, at / 8, at / 8);
             resv.set(hart, None);
-            Next::Go(next_pc(pc))
+            Ok(0)
         }
-        Err(stop) => Next::Stop(cause_of(stop)),
+        Err(e) => Err(cause_of(e)),
     }
 }
 
-/// An AMO, where the number `old` was read.
+/// An AMO. It answers the number that was at the address.
+#[tactic(auto, unfolding(rv_word::specs::Exec::perform))]
 fn amo(
-    hart: HartNo,
     op: AmoOp,
     width: AtomicWidth,
-    old: u64,
-    rd: u32,
+    hart: HartNo,
     at: u64,
     value: u64,
-    pc: u64,
-    regs: &mut Regs,
     mem: &mut Mem,
     resv: &mut Reservations,
-) -> Next
-    requires hart { hart < length resv.old }
-    requires rd { rd < 32 }
-    requires old { old < 256 ^ atomic_len width }
+) -> Result<u64, Cause>
+    requires { hart < length resv.old }
     ensures harts { length resv.new ≡ length resv.old }
-    ensures value { (out : List ℕ) → done (amo_stores op width old hart rd at value pc regs.old (prog_of mem.old resv.old out)) regs.old (prog_of mem.old resv.old out) ≡ record { next = result; regs = regs.new; prog = prog_of mem.new resv.new out } }
+    ensures value { (rd pc : ℕ) (regs out : List ℕ) → done (perform hart (AtomicAccess op width rd at value) pc regs (prog_of mem.old resv.old out)) regs (prog_of mem.old resv.old out) ≡ answering result rd pc regs (prog_of mem.new resv.new out) }
 {
+    let old = read(width, at, mem)?;
     match mem.store(at, atomic_width(width), amo_result(op, width, old, value)) {
         Ok(()) => {
-            regs.set(rd, answer(width, old));
             resv.break_others(hart, at / 8, at / 8);
-            Next::Go(next_pc(pc))
+            Ok(answer(width, old))
         }
-        Err(stop) => Next::Stop(cause_of(stop)),
+        Err(e) => Err(cause_of(e)),
     }
 }
 
-/// What follows the reading of the number `old` by an atomic access.
-pub fn modify(
-    hart: HartNo,
-    op: AmoOp,
-    width: AtomicWidth,
-    old: u64,
+/// Puts the answer into rd, or notes the cause of a stop. It answers the next pc.
+fn put_answer(
+    answer: Result<u64, Cause>,
     rd: u32,
-    at: u64,
-    value: u64,
     pc: u64,
+    stop: &mut Option<Cause>,
+    regs: &mut Regs,
+) -> u64
+    requires rd { rd < 32 }
+    requires stop { stop.old ≡ None }
+    ensures { (p : Prog) → answering answer rd pc regs.old p ≡ record { next = next_after stop.new result; regs = regs.new; prog = p } }
+{
+    match answer {
+        Ok(value) => {
+            regs.set(rd, value);
+            next_pc(pc)
+        }
+        Err(cause) => {
+            *stop = Some(cause);
+            pc
+        }
+    }
+}
+
+/// Executes an atomic access at pc. It answers the next pc, or notes the cause for which the hart stops.
+#[inline(never)]
+#[tactic(auto, unfolding(rv_word::specs::Exec::action))]
+pub fn access(
+    flat: &Flat,
+    hart: HartNo,
+    pc: u64,
+    stop: &mut Option<Cause>,
     regs: &mut Regs,
     mem: &mut Mem,
     resv: &mut Reservations,
-) -> Next
+) -> u64
+    requires form { IsAtomicAccess flat.now }
+    requires word { IfSome (instr_of flat.now) HasWord }
     requires hart { hart < length resv.old }
-    requires rd { rd < 32 }
-    requires old { old < 256 ^ atomic_len width }
+    requires stop { stop.old ≡ None }
     ensures harts { length resv.new ≡ length resv.old }
-    ensures value { (out : List ℕ) → done (modified op width old hart rd at value pc regs.old (prog_of mem.old resv.old out)) regs.old (prog_of mem.old resv.old out) ≡ record { next = result; regs = regs.new; prog = prog_of mem.new resv.new out } }
+    ensures state { (out : List ℕ) → Gives (exec_decoded (instr_of flat.now) pc hart regs.old (prog_of mem.old resv.old out)) regs.old (prog_of mem.old resv.old out) (next_after stop.new result) regs.new (prog_of mem.new resv.new out) }
 {
-    match op {
-        AmoOp::Lr => {
-            regs.set(rd, answer(width, old));
-            resv.set(hart, Some(at / 8));
-            Next::Go(next_pc(pc))
+    match *flat {
+        Flat::Lr(width, rd, rs1, _) => {
+            let answer = load_reserved(width, hart, regs.get(rs1), mem, resv);
+            put_answer(answer, rd, pc, stop, regs)
         }
-        AmoOp::Sc => {
-            let reserved = resv.has(hart, at / 8);
-            let n = atomic_width(width);
-            store_conditional(hart, reserved, n, rd, at, value, pc, regs, mem, resv)
+        Flat::Sc(width, rd, rs1, rs2, _) => {
+            let (at, value) = (regs.get(rs1), regs.get(rs2));
+            let answer = store_conditional(width, hart, at, value, mem, resv);
+            put_answer(answer, rd, pc, stop, regs)
         }
-        _ => amo(hart, op, width, old, rd, at, value, pc, regs, mem, resv),
+        Flat::Amo(op, width, rd, rs1, rs2, _) => {
+            let (at, value) = (regs.get(rs1), regs.get(rs2));
+            let answer = amo(op, width, hart, at, value, mem, resv);
+            put_answer(answer, rd, pc, stop, regs)
+        }
+        _ => unreachable!(),
     }
 }

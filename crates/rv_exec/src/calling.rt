@@ -1,14 +1,15 @@
 //! System calls.
 
-ghost use Rattle.std.specs.Prelude.{◌≡◌, ◌≤◌, List, ℕ, Option, min};
-ghost use Rattle.rv_word.specs.Exec.{done, prog_of, system_call, minus, written_is};
+ghost use Rattle.std.specs.Prelude.{◌≡◌, ◌≤◌, List, ℕ, Option, None, min};
+ghost use Rattle.rv_word.specs.Exec.{prog_of, system_call, minus, written_is};
+ghost use Rattle.rv_exec.specs.Gives.{Gives, next_after};
 ghost use Rattle.rv_word.specs.Memory.{bytes_at};
 
-use crate::executing::next_pc;
+use crate::outcomes::next_pc;
 use crate::output::{OUTPUT_LIMIT, Output};
 use crate::regs::Regs;
 use rv_mem::Mem;
-use rv_word::{Cause, MemStop, Next};
+use rv_word::{Cause, MemStop};
 
 /// The answer -n.
 fn minus(n: u64) -> u64
@@ -48,14 +49,17 @@ fn write(at: u64, len: u64, mem: &Mem, out: &mut Output) -> Result<u64, u64>
     }
 }
 
-/// A call of the system, by its number in a7.
-pub fn call(pc: u64, regs: &mut Regs, mem: &Mem, out: &mut Output) -> Next
-    ensures { (resv : List (Option ℕ)) → done (system_call pc regs.old (prog_of mem.now resv out.old)) regs.old (prog_of mem.now resv out.old) ≡ record { next = result; regs = regs.new; prog = prog_of mem.now resv out.new } }
+/// A call of the system, by its number in a7. It answers the next pc, or notes the cause for which the hart stops.
+#[inline(never)]
+pub fn call(pc: u64, stop: &mut Option<Cause>, regs: &mut Regs, mem: &Mem, out: &mut Output) -> u64
+    requires { stop.old ≡ None }
+    ensures { (resv : List (Option ℕ)) → Gives (system_call pc regs.old (prog_of mem.now resv out.old)) regs.old (prog_of mem.now resv out.old) (next_after stop.new result) regs.new (prog_of mem.now resv out.new) }
 {
     let number = regs.get(17);
     let first = regs.get(10);
     if number == 93 || number == 94 {
-        return Next::Stop(Cause::Exit((first % 256) as u8));
+        *stop = Some(Cause::Exit((first % 256) as u8));
+        return pc;
     }
     let answer = if number != 64 {
         minus(38)
@@ -64,9 +68,12 @@ pub fn call(pc: u64, regs: &mut Regs, mem: &Mem, out: &mut Output) -> Next
     } else {
         match write(regs.get(11), regs.get(12), mem, out) {
             Ok(answer) => answer,
-            Err(at) => return Next::Stop(Cause::TextAccess(at)),
+            Err(at) => {
+                *stop = Some(Cause::TextAccess(at));
+                return pc;
+            }
         }
     };
     regs.set(10, answer);
-    Next::Go(next_pc(pc))
+    next_pc(pc)
 }

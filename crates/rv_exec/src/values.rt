@@ -17,12 +17,8 @@ fn flag_of(test: bool) -> u64
 pub fn low_word_of(x: u64) -> u64
     ensures { result ≡ low_word x }
 {
-    let low = x % 0x1_0000_0000;
-    if low < 0x8000_0000 {
-        low
-    } else {
-        low + 0xffff_ffff_0000_0000
-    }
+    let low = (x % 0x1_0000_0000) as u32;
+    (low.cast_signed() as i64).cast_unsigned()
 }
 
 pub fn imm_result(op: ImmOp, x: u64, y: u64) -> u64
@@ -195,9 +191,9 @@ pub fn load_result(op: LoadOp, n: u64) -> u64
     ensures { result ≡ loaded op n }
 {
     match op {
-        LoadOp::Lb if n >= 0x80 => n + 0xffff_ffff_ffff_ff00,
-        LoadOp::Lh if n >= 0x8000 => n + 0xffff_ffff_ffff_0000,
-        LoadOp::Lw if n >= 0x8000_0000 => n + 0xffff_ffff_0000_0000,
+        LoadOp::Lb => ((n as u8).cast_signed() as i64).cast_unsigned(),
+        LoadOp::Lh => ((n as u16).cast_signed() as i64).cast_unsigned(),
+        LoadOp::Lw => ((n as u32).cast_signed() as i64).cast_unsigned(),
         _ => n,
     }
 }

@@ -5,3 +5,4 @@ pub mod Ranges
 pub mod Writes
 pub mod Overlays
 pub mod Starts
+pub mod Clear

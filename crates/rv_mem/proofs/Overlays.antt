@@ -3,7 +3,7 @@ use Rattle.std.proofs.Common.{◌≡◌, ℕ, zero, suc, ◌+◌, ◌-◌, ◌/�
 use Rattle.std.specs.Option.{IsSome}
 use Rattle.std.specs.FinMap.{from_entries, get, same_map, nat_cmp-IsAntisymmetric}
 use Rattle.std.proofs.lemmas.Cmp.{nat_cmp_total}
-use Rattle.rv_word.specs.Memory.{Memory, in_text, load, store, put, set_byte, after, ◌>>=◌}
+use Rattle.rv_word.specs.Memory.{Memory, in_range, load, store, put, set_byte, after, ◌>>=◌}
 use Rattle.rv_mem.specs.Regions.{place_in, place_of, byte_or, first_byte, entries_of, number_in, with_number, overlaid, HasRange}
 use Rattle.rv_mem.specs.declared.region.Region.{Region}
 use Rattle.rv_mem.specs.declared.region.Spot.{Spot}
@@ -90,11 +90,11 @@ put-regions n text_at text_len rs new a v h written =
     ∙ ap (λ cells. record { text_at = text_at; text_len = text_len; cells = cells }) (same_map nat_cmp_total nat_cmp-IsAntisymmetric _ _ (λ q.
     get-put n (memory_in text_at text_len rs) a v q h ∙ ap (overlaid n v a q) (get_flat rs q) ∙ sym (written q) ∙ sym (get_flat new q)))
 
-loaded_some : (n : ℕ) (m : Memory) (a : ℕ) (o : Option ℕ) → a + n < 2 ^ 64 → ((q : ℕ) → a ≤ q → q < a + n → in_text m.text_at m.text_len q ≡ false) → number_in n (get m.cells) a ≡ o → IsSome o → (v : ℕ) × (load n m a ≡ Ok v)
+loaded_some : (n : ℕ) (m : Memory) (a : ℕ) (o : Option ℕ) → a + n < 2 ^ 64 → ((q : ℕ) → a ≤ q → q < a + n → in_range m.text_at m.text_len q ≡ false) → number_in n (get m.cells) a ≡ o → IsSome o → (v : ℕ) × (load n m a ≡ Ok v)
 loaded_some n m a None h out e k = absurd (cc)
 loaded_some n m a (Some v) h out e k = (v, loaded n m a v h out e)
 
-pub store-regions : (n text_at text_len : ℕ) (rs new : List Region) (a v : ℕ) → a + n < 2 ^ 64 → ((q : ℕ) → a ≤ q → q < a + n → in_text text_at text_len q ≡ false) → IsSome (number_in n (first_byte rs) a) → ((q : ℕ) → first_byte new q ≡ overlaid n v a q (first_byte rs q)) → store n (memory_in text_at text_len rs) a v ≡ Ok (memory_in text_at text_len new)
+pub store-regions : (n text_at text_len : ℕ) (rs new : List Region) (a v : ℕ) → a + n < 2 ^ 64 → ((q : ℕ) → a ≤ q → q < a + n → in_range text_at text_len q ≡ false) → IsSome (number_in n (first_byte rs) a) → ((q : ℕ) → first_byte new q ≡ overlaid n v a q (first_byte rs q)) → store n (memory_in text_at text_len rs) a v ≡ Ok (memory_in text_at text_len new)
 store-regions n text_at text_len rs new a v h out there written =
     let m = memory_in text_at text_len rs in
     let old = loaded_some n m a (number_in n (first_byte rs) a) h out (ap (λ f. number_in n f a) (funext (get_flat rs))) there in

@@ -1,8 +1,10 @@
 -- How the regions of a memory that starts come to be, one by one.
-use Rattle.std.proofs.Common.{◌≡◌, ℕ, zero, suc, ◌+◌, ◌-◌, ◌<◌, ◌≤◌, List, [], ◌∷◌, ◌++◌, length, drop, get_or, refl, ap, sym, ◌∙◌, arith}
+use Rattle.std.proofs.Common.{◌≡◌, ℕ, zero, suc, ◌+◌, ◌-◌, ◌<◌, ◌≤◌, List, [], ◌∷◌, ◌++◌, length, drop, get_or, refl, ap, sym, subst, ◌∙◌, arith}
 use Rattle.rv_word.specs.Memory.{flat, numbered}
 use Rattle.rv_mem.specs.declared.region.Region.{Region}
 use Rattle.pn_types.specs.declared.image.Segment.{Segment}
+use Rattle.std.specs.List.{AllByRecursion}
+use Rattle.pn_types.specs.Images.{IsSegment}
 use Rattle.rv_mem.specs.Regions.{entries_of, parts_of}
 use Rattle.rv_mem.specs.Start.{region_part, segment_part, segment_parts, heap_part, stack_part, stack_parts}
 
@@ -19,6 +21,12 @@ segment_parts-drop : (ss : List Segment) (i : ℕ) (s : Segment) → s ≡ get_o
 segment_parts-drop [] i s e h = absurd (omega arith)
 segment_parts-drop (x ∷ ss) zero s e h = ap (λ z. segment_part z ∷ segment_parts ss) e
 segment_parts-drop (x ∷ ss) (suc i) s e h = segment_parts-drop ss i s e (omega arith)
+
+-- each segment has room for its bytes
+pub filled_at : (ss : List Segment) (i : ℕ) (s : Segment) → AllByRecursion IsSegment ss → s ≡ get_or ss i s → i < length ss → length s.bytes ≤ s.size
+filled_at [] i s all e h = absurd (omega arith)
+filled_at (x ∷ ss) zero s all e h = subst (λ z. length z.bytes ≤ z.size) (sym e) all.0.filled
+filled_at (x ∷ ss) (suc i) s all e h = filled_at ss i s all.1 e (omega arith)
 
 pub segment_step : (rs new : List Region) (r : Region) (ss : List Segment) (i : ℕ) (s : Segment) → new ≡ rs ++ r ∷ [] → region_part r ≡ segment_part s → s ≡ get_or ss i s → i < length ss → parts_of new ++ segment_parts (drop (i + 1) ss) ≡ parts_of rs ++ segment_parts (drop i ss)
 segment_step rs new r ss i s e is at h =

@@ -9,7 +9,7 @@ use Rattle.std.proofs.lemmas.Cmp.{nat_cmp_total}
 use Rattle.std.specs.Cmp.{unsigned_tied}
 use Rattle.rv_word.specs.declared.outcome.MemStop.{MemStop}
 use Rattle.rv_word.specs.declared.outcome.MemStop.TheVariants.{InText}
-use Rattle.rv_word.specs.Memory.{Memory, cell, mapped, in_text, set_byte, load, after, ◌>>=◌}
+use Rattle.rv_word.specs.Memory.{Memory, cell, mapped, in_range, set_byte, load, after, ◌>>=◌}
 use Rattle.rv_mem.specs.Regions.{place_in, place_of, byte_or, first_byte}
 use Rattle.rv_mem.specs.declared.region.Region.{Region}
 
@@ -63,7 +63,7 @@ get_put m x b a = get-insert nat_cmp_total m.cells x b a ∙ ap (λ t. cond t (S
 
 cell_kept : (m : Memory) (x b a : ℕ) → IsOk (cell m a) → IsOk (cell (set_byte m x b) a)
 cell_kept m x b a h =
-    subst (λ o. IsOk (cond (in_text m.text_at m.text_len a) (Err (InText a)) (mapped o a))) (sym (get_put m x b a)) (kept_by (nat_eq a x) (in_text m.text_at m.text_len a) b (InText a) a (get m.cells a) h)
+    subst (λ o. IsOk (cond (in_range m.text_at m.text_len a) (Err (InText a)) (mapped o a))) (sym (get_put m x b a)) (kept_by (nat_eq a x) (in_range m.text_at m.text_len a) b (InText a) a (get m.cells a) h)
 
 -- whether the bytes can be read, one by one
 ok_bind : (r q : Result ℕ MemStop) → IsOk (r >>= λ low. q >>= λ high. Ok (low + high * 256)) → IsOk r × IsOk q

@@ -1,29 +1,32 @@
--- The memory that a program starts with.
-use Rattle.std.specs.Prelude.{ℕ, zero, suc, ◌+◌, ◌-◌, ◌*◌, ◌≤◌, List, [], ◌∷◌, ◌++◌, length, replicate}
+-- The memory and the words that a program starts with.
+use Rattle.std.specs.Prelude.{ℕ, zero, suc, ◌+◌, ◌-◌, ◌*◌, List, [], ◌∷◌, ◌++◌, length, replicate}
 use Rattle.rv_word.specs.Memory.{Memory, memory_of}
+use Rattle.rv_word.specs.Plain.{Words, words_from}
+use Rattle.rv_mem.specs.declared.start.TheConstants.{HEAP_AT, HEAP_LEN, FIRST_STACK_AT, STACK_DISTANCE, STACK_LEN}
 use Rattle.rv_mem.specs.declared.region.Region.{Region}
 use Rattle.pn_types.specs.declared.image.Segment.{Segment}
 use Rattle.pn_types.specs.declared.image.Image.{Image}
+use Rattle.pn_types.specs.Images.{text_of}
+
+-- the words of the image's text
+abbrev pub program_of : Image → Words
+program_of image = words_from image.text_at (text_of image)
 
 -- the first address of the heap
 abbrev pub heap_at : ℕ
-heap_at = 0x60000000
+heap_at = HEAP_AT
 
 -- the length of the heap in bytes; no proof counts up to it
 unfoldable pub heap_len : ℕ
-heap_len = 1048576
+heap_len = HEAP_LEN
 
 -- the first address of the stack of hart h
 abbrev pub stack_at : ℕ → ℕ
-stack_at h = 0x70000000 + h * 0x20000
+stack_at h = FIRST_STACK_AT + h * STACK_DISTANCE
 
 -- the length of a stack in bytes; no proof counts up to it
 unfoldable pub stack_len : ℕ
-stack_len = 65536
-
--- the segment's size takes in all its bytes
-abbrev pub IsSized : Segment → Type 0
-IsSized s = length s.bytes ≤ s.size
+stack_len = STACK_LEN
 
 -- a region as a part of memory, an address and the bytes from there
 abbrev pub region_part : Region → ℕ × List ℕ

@@ -6,5 +6,7 @@ mod region;
 mod start;
 #[cfg(test)]
 mod tests;
+mod window;
 
 pub use mem::Mem;
+pub use start::{FIRST_STACK_AT, HEAP_AT, HEAP_LEN, STACK_DISTANCE, STACK_LEN};

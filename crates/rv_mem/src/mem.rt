@@ -1,9 +1,14 @@
-ghost use Rattle.std.specs.Prelude.{◌≡◌, ◌<◌, ◌≤◌, ◌^◌, ℕ, IfOk, IsOk, IfErr, OnErr, OnOk, length, true, false};
-ghost use Rattle.rv_word.specs.Memory.{cell, in_text, load, store, put, set_byte, bytes_at, memory_of};
+ghost use Rattle.std.specs.Prelude.{◌≡◌, ◌<◌, ◌≤◌, ◌^◌, ℕ, IfOk, IsOk, IfErr, OnErr, OnOk, IfSome, Ok, length, true, false};
+ghost use Rattle.rv_word.specs.Memory.{cell, in_range, load, store, put, set_byte, bytes_at, memory_of};
 ghost use Rattle.rv_mem.specs.Regions.{parts_of};
 
-use crate::region::{Region, find_byte, find_number, put_byte, put_number};
+use crate::region::{
+    Region, Spot, find_byte, find_number, number_at, put_at, put_byte, put_number,
+};
+use crate::window::{Window, find_window, pages_of, windows_of};
+use pn_types::NoMemory;
 use rv_word::MemStop;
+use std::alloc::Global;
 use std::marker::Model;
 
 /// The memory of a program, which contracts see as a map from the mapped addresses to their bytes, with the range of
@@ -13,44 +18,59 @@ pub struct Mem {
     regions: Vec<Region>,
     text_at: u64,
     text_len: u64,
+    windows: Vec<Window>,
+    pages: Vec<u8>,
 }
 
 impl Model for Mem {
     ghost use Rattle.std.specs.FinMap.{from_entries};
     ghost use Rattle.rv_word.specs.Memory.{Memory, memory_code};
     ghost use Rattle.rv_mem.specs.Regions.{entries_of};
+    ghost use Rattle.rv_mem.specs.Windows.{AreClear};
 
     ghost Value = { Memory };
 
     ghost coded = { memory_code };
 
     ghost view = { λ m. record { text_at = m.text_at; text_len = m.text_len; cells = from_entries (entries_of m.regions.items) } };
+
+    ghost invariant = { λ m. AreClear m.text_at m.text_len m.regions.items m.windows.items };
 }
 
 /// Whether the address is one of `len` from the start.
 fn is_within(at: u64, start: u64, len: u64) -> bool
-    ensures { result ≡ in_text start len at }
+    ensures { result ≡ in_range start len at }
 {
     start <= at && at - start < len
 }
 
 /// True only if no address from `at` to `end` is one of `len` from the start.
 fn misses(at: u64, end: u64, start: u64, len: u64) -> bool
-    ensures { result ≡ true → (q : ℕ) → at ≤ q → q < end → in_text start len q ≡ false }
+    ensures { result ≡ true → (q : ℕ) → at ≤ q → q < end → in_range start len q ≡ false }
 {
     end <= start || at.saturating_sub(start) >= len
 }
 
 impl Mem {
     /// The memory of these regions, of which the first that has an address counts.
-    pub(crate) fn from_regions(regions: Vec<Region>, text_at: u64, text_len: u64) -> Mem
-        ensures { result ≡ memory_of text_at text_len (parts_of regions.items) }
+    pub(crate) fn from_regions(
+        alloc: Global,
+        regions: Vec<Region>,
+        text_at: u64,
+        text_len: u64,
+        pages: usize,
+    ) -> Result<Mem, NoMemory>
+        ensures { IfOk result (λ mem. mem ≡ memory_of text_at text_len (parts_of regions.items)) }
     {
-        Mem {
+        let windows = windows_of(alloc, &regions, text_at, text_len)?;
+        let pages = pages_of(alloc, &windows, pages)?;
+        Ok(Mem {
             regions,
             text_at,
             text_len,
-        }
+            windows,
+            pages,
+        })
     }
 
     /// The byte at the address, or why it may not be touched.
@@ -66,9 +86,37 @@ impl Mem {
         }
     }
 
+    /// What `load` gives, where the bytes are in the window that the address's page names; else none, which says nothing.
+    #[inline(always)]
+    pub fn quick_load(&self, at: u64, n: u32) -> Option<u64>
+        requires { n ≤ 8 }
+        ensures value { IfSome result (λ v. load n self.now at ≡ Ok v) }
+        ensures bound { IfSome result (λ v. v < 256 ^ n) }
+    {
+        if let Some(i) = find_window(&self.pages, &self.windows, at, n) {
+            let region = &self.regions[i];
+            let place = (at - region.at) as usize;
+            return number_at(&region.bytes, place, n);
+        }
+        None
+    }
+
     /// The number in the `n` bytes from the address, the lowest first. Behind the last address comes address 0. The
     /// error names the first byte that may not be touched.
     pub fn load(&self, at: u64, n: u32) -> Result<u64, MemStop>
+        requires { n ≤ 8 }
+        ensures value { result ≡ load n self.now at }
+        ensures bound { IfOk result (λ v. v < 256 ^ n) }
+    {
+        if let Some(v) = self.quick_load(at, n) {
+            return Ok(v);
+        }
+        self.load_by_regions(at, n)
+    }
+
+    /// The same where no window has the bytes.
+    #[inline(never)]
+    fn load_by_regions(&self, at: u64, n: u32) -> Result<u64, MemStop>
         requires { n ≤ 8 }
         ensures value { result ≡ load n self.now at }
         ensures bound { IfOk result (λ v. v < 256 ^ n) }
@@ -132,9 +180,38 @@ impl Mem {
         }
     }
 
+    /// Does what `store` does, where the bytes are in the window that the address's page names; else nothing.
+    #[inline(always)]
+    pub fn quick_store(&mut self, at: u64, n: u32, v: u64) -> bool
+        requires { n ≤ 8 }
+        ensures stored { result ≡ true → store n self.old at v ≡ Ok self.new }
+        ensures unchanged { result ≡ false → self.new ≡ self.old }
+    {
+        if let Some(i) = find_window(&self.pages, &self.windows, at, n) {
+            let place = (at - self.regions[i].at) as usize;
+            put_at(&mut self.regions, Spot { region: i, place }, at, n, v);
+            return true;
+        }
+        false
+    }
+
     /// Stores the lowest `n` bytes of the number from the address on, the lowest first. Behind the last address comes
     /// address 0. The error names the first byte that may not be touched, and then nothing is stored.
     pub fn store(&mut self, at: u64, n: u32, v: u64) -> Result<(), MemStop>
+        requires { n ≤ 8 }
+        ensures stored { OnOk result (store n self.old at v ≡ Ok self.new) }
+        ensures refused { IfErr result (λ e. store n self.old at v ≡ Err e) }
+        ensures unchanged { OnErr result (self.new ≡ self.old) }
+    {
+        if self.quick_store(at, n, v) {
+            return Ok(());
+        }
+        self.store_by_regions(at, n, v)
+    }
+
+    /// The same where no window has the bytes.
+    #[inline(never)]
+    fn store_by_regions(&mut self, at: u64, n: u32, v: u64) -> Result<(), MemStop>
         requires { n ≤ 8 }
         ensures stored { OnOk result (store n self.old at v ≡ Ok self.new) }
         ensures refused { IfErr result (λ e. store n self.old at v ≡ Err e) }

@@ -1,6 +1,7 @@
 ghost use Rattle.std.specs.Prelude.{◌≡◌, ◌+◌, ◌<◌, ◌≤◌, ◌^◌, ℕ, cond, nat_eq, Some, None, length, IfSome, true, false};
 ghost use Rattle.std.specs.Option.{IsSome};
 ghost use Rattle.rv_mem.specs.Regions.{first_byte, place_of, little_endian, number_in, with_number, overlaid, HasRange};
+ghost use Rattle.rv_mem.specs.Windows.{SameShape};
 
 /// A run of mapped bytes.
 #[derive(Drop, Debug)]
@@ -33,7 +34,7 @@ impl Region {
     }
 
     /// False only if the region has none of the addresses from `at` to before `end`.
-    fn has_any(&self, at: u64, end: u64) -> bool
+    pub fn has_any(&self, at: u64, end: u64) -> bool
         ensures { result ≡ false → (q : ℕ) → at ≤ q → q < end → place_of self.now q ≡ None }
     {
         self.at < end && at.saturating_sub(self.at) < self.bytes.len() as u64
@@ -81,9 +82,10 @@ fn find_range(regions: &Vec<Region>, at: u64, n: u32) -> Option<Spot>
 }
 
 /// The number in `n` bytes from the place, the lowest first, at the widths that accesses have.
-fn number_at(bytes: &Vec<u8>, place: usize, n: u32) -> Option<u64>
-    requires { place + n ≤ length bytes.now.items }
-    ensures value { IfSome result (λ v. v ≡ little_endian n bytes.now.items place) }
+#[inline(always)]
+pub fn number_at(bytes: &[u8], place: usize, n: u32) -> Option<u64>
+    requires { place + n ≤ length bytes.now }
+    ensures value { IfSome result (λ v. v ≡ little_endian n bytes.now place) }
     ensures bound { IfSome result (λ v. v < 256 ^ n) }
 {
     match n {
@@ -121,15 +123,27 @@ pub fn find_number(regions: &Vec<Region>, at: u64, n: u32) -> Option<u64>
 }
 
 /// Writes the lowest `n` bytes of the number at the place, the lowest first.
-fn write_at(bytes: &mut Vec<u8>, place: usize, n: u32, v: u64)
-    requires { place + n ≤ length bytes.old.items }
-    ensures { bytes.new.items ≡ with_number n bytes.old.items place v }
+#[inline(always)]
+fn write_at(bytes: &mut [u8], place: usize, n: u32, v: u64)
+    requires { place + n ≤ length bytes.old }
+    ensures { bytes.new ≡ with_number n bytes.old place v }
 {
     let mut rest = v;
     for i in 0..n as usize {
         bytes[place + i] = (rest & 0xff) as u8;
         rest >>= 8;
     }
+}
+
+/// Puts the lowest `n` bytes of the number from the address on, at their spot.
+#[inline(always)]
+pub fn put_at(regions: &mut Vec<Region>, spot: Spot, at: u64, n: u32, v: u64)
+    requires { HasRange regions.old.items at n spot }
+    ensures there { IsSome (number_in n (first_byte regions.old.items) at) }
+    ensures put { (q : ℕ) → first_byte regions.new.items q ≡ overlaid n v at q (first_byte regions.old.items q) }
+    ensures shape { SameShape regions.old.items regions.new.items }
+{
+    write_at(&mut regions[spot.region].bytes, spot.place, n, v);
 }
 
 /// Puts the lowest `n` bytes of the number from the address on, where one region has all these addresses and none
@@ -139,10 +153,11 @@ pub fn put_number(regions: &mut Vec<Region>, at: u64, n: u32, v: u64) -> bool
     ensures there { result ≡ true → IsSome (number_in n (first_byte regions.old.items) at) }
     ensures put { result ≡ true → (q : ℕ) → first_byte regions.new.items q ≡ overlaid n v at q (first_byte regions.old.items q) }
     ensures unchanged { result ≡ false → regions.new ≡ regions.old }
+    ensures shape { SameShape regions.old.items regions.new.items }
 {
     match find_range(regions, at, n) {
         Some(spot) => {
-            write_at(&mut regions[spot.region].bytes, spot.place, n, v);
+            put_at(regions, spot, at, n, v);
             true
         }
         None => false,
@@ -152,7 +167,8 @@ pub fn put_number(regions: &mut Vec<Region>, at: u64, n: u32, v: u64) -> bool
 /// Puts a byte into the first region that has the address.
 pub fn put_byte(regions: &mut Vec<Region>, at: u64, byte: u8)
     requires { IsSome (first_byte regions.old.items at) }
-    ensures { (q : ℕ) → first_byte regions.new.items q ≡ cond (nat_eq q at) (Some byte) (first_byte regions.old.items q) }
+    ensures put { (q : ℕ) → first_byte regions.new.items q ≡ cond (nat_eq q at) (Some byte) (first_byte regions.old.items q) }
+    ensures shape { SameShape regions.old.items regions.new.items }
 {
     for i in 0..regions.len() {
         if let Some(place) = regions[i].place_of(at) {

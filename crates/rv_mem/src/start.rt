@@ -1,21 +1,29 @@
-ghost use Rattle.std.specs.Prelude.{◌≡◌, ◌≤◌, IfOk, replicate};
-ghost use Rattle.std.specs.List.{All};
-ghost use Rattle.rv_mem.specs.Start.{region_part, segment_part, IsSized, start_memory, heap_len, stack_len};
+ghost use Rattle.std.specs.Prelude.{◌≡◌, ◌≤◌, IfOk, length, replicate};
+ghost use Rattle.pn_types.specs.Images.{IsImage};
+ghost use Rattle.rv_mem.specs.Start.{region_part, segment_part, start_memory, heap_len, stack_len};
 
 use crate::mem::Mem;
 use crate::region::Region;
-use pn_types::{Image, MAX_HARTS, NoMemory, Segment};
+use pn_types::{Image, MAX_HARTS, NoMemory, SEGMENTS_TO, Segment};
 use std::alloc::Global;
 
-const HEAP_AT: u64 = 0x6000_0000;
+/// The first address of the heap.
+pub const HEAP_AT: u64 = SEGMENTS_TO;
 
-const HEAP_LEN: usize = 1_048_576;
+/// The length of the heap, in bytes.
+pub const HEAP_LEN: usize = 1_048_576;
 
-const FIRST_STACK_AT: u64 = 0x7000_0000;
+/// The first address of the stack of hart 0.
+pub const FIRST_STACK_AT: u64 = 0x7000_0000;
 
-const STACK_DISTANCE: u64 = 0x20000;
+/// How far the first addresses of two harts' stacks are apart, where their numbers differ by 1.
+pub const STACK_DISTANCE: u64 = 0x2_0000;
 
-const STACK_LEN: usize = 65_536;
+/// The length of a hart's stack, in bytes.
+pub const STACK_LEN: usize = 65_536;
+
+/// The pages of 4,096 bytes from address 0 to behind the last stack.
+const PAGES: usize = ((FIRST_STACK_AT + MAX_HARTS as u64 * STACK_DISTANCE) / 4_096) as usize;
 
 fn zeros(alloc: Global, len: usize) -> Result<Vec<u8>, NoMemory>
     ensures { IfOk result (λ bytes. bytes.items ≡ replicate len 0) }
@@ -35,7 +43,7 @@ fn empty_region(alloc: Global, at: u64, len: usize) -> Result<Region, NoMemory>
 
 /// The bytes of the segment, and zeros to its size.
 fn segment_region(alloc: Global, segment: &Segment) -> Result<Region, NoMemory>
-    requires { IsSized segment.now }
+    requires { length segment.now.bytes ≤ segment.now.size }
     ensures { IfOk result (λ region. region_part region ≡ segment_part segment.now) }
 {
     let mut bytes = Vec::with_capacity(alloc, segment.size as usize)?;
@@ -54,8 +62,9 @@ fn with_lengths(
     harts: u32,
     heap: usize,
     stack: usize,
+    pages: usize,
 ) -> Result<Mem, NoMemory>
-    requires segments { All IsSized image.now.segments }
+    requires image { IsImage image.now }
     requires harts { harts ≤ MAX_HARTS }
     requires heap { heap ≡ heap_len }
     requires stack { stack ≡ stack_len }
@@ -70,17 +79,17 @@ fn with_lengths(
     for hart in 0..harts {
         regions.push(empty_region(alloc, FIRST_STACK_AT + hart as u64 * STACK_DISTANCE, stack)?)?;
     }
-    Ok(Mem::from_regions(regions, image.text_at, image.text_len))
+    Mem::from_regions(alloc, regions, image.text_at, image.text_len, pages)
 }
 
 impl Mem {
-    /// The memory in which this number of harts starts the program: the image's segments, a heap of 1 MiB at 0x60000000
-    /// and for hart h a stack of 64 KiB at 0x70000000 + h * 0x20000.
+    /// The memory in which this number of harts starts the program: the image's segments, a heap of [`HEAP_LEN`] bytes at
+    /// [`HEAP_AT`], and for hart h a stack of [`STACK_LEN`] bytes at [`FIRST_STACK_AT`] + h * [`STACK_DISTANCE`].
     pub fn new(alloc: Global, image: &Image, harts: u32) -> Result<Mem, NoMemory>
-        requires segments { All IsSized image.now.segments }
+        requires image { IsImage image.now }
         requires harts { harts ≤ MAX_HARTS }
         ensures { IfOk result (λ mem. mem ≡ start_memory image.now harts) }
     {
-        with_lengths(alloc, image, harts, HEAP_LEN, STACK_LEN)
+        with_lengths(alloc, image, harts, HEAP_LEN, STACK_LEN, PAGES)
     }
 }

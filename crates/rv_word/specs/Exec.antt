@@ -11,12 +11,11 @@ use Rattle.rv_word.specs.declared.outcome.Cause.TheVariants.{Exit, Illegal, Brea
 use Rattle.rv_word.specs.declared.outcome.Next.{Next}
 use Rattle.rv_word.specs.declared.outcome.Next.TheVariants.{Go, Stop}
 use Rattle.rv_word.specs.declared.instr.AmoOp.{AmoOp}
-use Rattle.rv_word.specs.declared.instr.AmoOp.TheVariants as amo
 use Rattle.rv_word.specs.declared.instr.AtomicWidth.{AtomicWidth}
 use Rattle.rv_word.specs.declared.instr.Instr.{Instr}
-use Rattle.rv_word.specs.declared.instr.Instr.TheVariants.{Lui, Auipc, Jal, Jalr, Branch, Load, Store, OpImm, ShiftImm, Addiw, ShiftImm32, Op, Op32, Fence, Ecall, Ebreak, Amo}
+use Rattle.rv_word.specs.declared.instr.Instr.TheVariants.{Lui, Auipc, Jal, Jalr, Branch, Load, Store, OpImm, ShiftImm, Addiw, ShiftImm32, Op, Op32, Fence, Ecall, Ebreak, Lr, Sc, Amo}
 use Rattle.rv_word.specs.declared.action.Action.{Action}
-use Rattle.rv_word.specs.declared.action.Action.TheVariants.{Compute, Jump, BranchTo, ReadMemory, WriteMemory, AtomicAccess, SystemCall, Proceed, Halt}
+use Rattle.rv_word.specs.declared.action.Action.TheVariants.{Compute, Jump, BranchTo, ReadMemory, WriteMemory, LoadReserved, StoreConditional, AtomicAccess, SystemCall, Proceed, Halt}
 
 -- what all harts share: the memory, each hart's reserved doubleword by its number, and the output
 pub record Prog : Type 0 where
@@ -32,44 +31,48 @@ pub data Outcome : Type 0 where
 -- ---- what an instruction asks
 
 -- the register of the first operand, and x0 where there is none
-abbrev pub rs1_of : Instr → ℕ
-rs1_of (Lui rd imm) = 0
-rs1_of (Auipc rd imm) = 0
-rs1_of (Jal rd offset) = 0
-rs1_of (Jalr rd rs1 offset) = rs1
-rs1_of (Branch op rs1 rs2 offset) = rs1
-rs1_of (Load op rd rs1 offset) = rs1
-rs1_of (Store op rs1 rs2 offset) = rs1
-rs1_of (OpImm op rd rs1 imm) = rs1
-rs1_of (ShiftImm op rd rs1 by) = rs1
-rs1_of (Addiw rd rs1 imm) = rs1
-rs1_of (ShiftImm32 op rd rs1 by) = rs1
-rs1_of (Op op rd rs1 rs2) = rs1
-rs1_of (Op32 op rd rs1 rs2) = rs1
-rs1_of (Fence rd rs1 high) = 0
-rs1_of Ecall = 0
-rs1_of Ebreak = 0
-rs1_of (Amo op width rd rs1 rs2 order) = rs1
+abbrev pub first_operand : Instr → ℕ
+first_operand (Lui rd imm) = 0
+first_operand (Auipc rd imm) = 0
+first_operand (Jal rd offset) = 0
+first_operand (Jalr rd rs1 offset) = rs1
+first_operand (Branch op rs1 rs2 offset) = rs1
+first_operand (Load op rd rs1 offset) = rs1
+first_operand (Store op rs1 rs2 offset) = rs1
+first_operand (OpImm op rd rs1 imm) = rs1
+first_operand (ShiftImm op rd rs1 by) = rs1
+first_operand (Addiw rd rs1 imm) = rs1
+first_operand (ShiftImm32 op rd rs1 by) = rs1
+first_operand (Op op rd rs1 rs2) = rs1
+first_operand (Op32 op rd rs1 rs2) = rs1
+first_operand (Fence rd rs1 high) = 0
+first_operand Ecall = 0
+first_operand Ebreak = 0
+first_operand (Lr width rd rs1 order) = rs1
+first_operand (Sc width rd rs1 rs2 order) = rs1
+first_operand (Amo op width rd rs1 rs2 order) = rs1
 
 -- the register of the second operand, and x0 where there is none
-abbrev pub rs2_of : Instr → ℕ
-rs2_of (Branch op rs1 rs2 offset) = rs2
-rs2_of (Store op rs1 rs2 offset) = rs2
-rs2_of (Op op rd rs1 rs2) = rs2
-rs2_of (Op32 op rd rs1 rs2) = rs2
-rs2_of (Amo op width rd rs1 rs2 order) = rs2
-rs2_of (Lui rd imm) = 0
-rs2_of (Auipc rd imm) = 0
-rs2_of (Jal rd offset) = 0
-rs2_of (Jalr rd rs1 offset) = 0
-rs2_of (Load op rd rs1 offset) = 0
-rs2_of (OpImm op rd rs1 imm) = 0
-rs2_of (ShiftImm op rd rs1 by) = 0
-rs2_of (Addiw rd rs1 imm) = 0
-rs2_of (ShiftImm32 op rd rs1 by) = 0
-rs2_of (Fence rd rs1 high) = 0
-rs2_of Ecall = 0
-rs2_of Ebreak = 0
+abbrev pub second_operand : Instr → ℕ
+second_operand (Branch op rs1 rs2 offset) = rs2
+second_operand (Store op rs1 rs2 offset) = rs2
+second_operand (Op op rd rs1 rs2) = rs2
+second_operand (Op32 op rd rs1 rs2) = rs2
+second_operand (Sc width rd rs1 rs2 order) = rs2
+second_operand (Amo op width rd rs1 rs2 order) = rs2
+second_operand (Lui rd imm) = 0
+second_operand (Auipc rd imm) = 0
+second_operand (Jal rd offset) = 0
+second_operand (Jalr rd rs1 offset) = 0
+second_operand (Load op rd rs1 offset) = 0
+second_operand (OpImm op rd rs1 imm) = 0
+second_operand (ShiftImm op rd rs1 by) = 0
+second_operand (Addiw rd rs1 imm) = 0
+second_operand (ShiftImm32 op rd rs1 by) = 0
+second_operand (Fence rd rs1 high) = 0
+second_operand Ecall = 0
+second_operand Ebreak = 0
+second_operand (Lr width rd rs1 order) = 0
 
 -- what the instruction at pc asks, a and b being its operands' values
 unfoldable pub action : Instr → ℕ → ℕ → ℕ → Action
@@ -89,11 +92,13 @@ action (Op32 op rd rs1 rs2) pc a b = Compute rd (reg_32_value op a b)
 action (Fence rd rs1 high) pc a b = Proceed
 action Ecall pc a b = SystemCall
 action Ebreak pc a b = Halt Break
+action (Lr width rd rs1 order) pc a b = LoadReserved width rd a
+action (Sc width rd rs1 rs2 order) pc a b = StoreConditional width rd a b
 action (Amo op width rd rs1 rs2 order) pc a b = AtomicAccess op width rd a b
 
 -- what the instruction at pc asks with these registers
 abbrev pub asked : Instr → ℕ → List ℕ → Action
-asked i pc regs = action i pc (reg regs (rs1_of i)) (reg regs (rs2_of i))
+asked i pc regs = action i pc (reg regs (first_operand i)) (reg regs (second_operand i))
 
 -- ---- stops, and the next word
 
@@ -144,35 +149,24 @@ set_mem p mem resv = record { mem = mem; resv = resv; out = p.out }
 
 -- ---- atomic accesses
 
+-- what follows the reading of the number at the address: the alignment is checked first, then the bytes
+abbrev pub atomic : AtomicWidth → ℕ → Prog → (ℕ → Outcome) → Outcome
+atomic width at p f = if at % atomic_len width == 0 then or_stop (load (atomic_len width) p.mem at) f else Stops Misaligned
+
+-- an LR, where the number n was read: it answers it, and takes the reservation
+abbrev pub reserve : AtomicWidth → ℕ → ℕ → ℕ → ℕ → ℕ → List ℕ → Prog → Outcome
+reserve width n h rd at pc regs p = Goes (next pc) (with_reg regs rd (answered width n)) (set_mem p p.mem (slice_set p.resv h (Some (at / 8))))
+
 -- an SC, with or without its hart's reservation: it clears that reservation, and answers 0 where it stored and 1 where not
 abbrev pub conditional : Bool → ℕ → ℕ → ℕ → ℕ → ℕ → ℕ → List ℕ → Prog → Outcome
 conditional false h n rd at v pc regs p = Goes (next pc) (with_reg regs rd 1) (set_mem p p.mem (slice_set p.resv h None))
 conditional true h n rd at v pc regs p =
     or_stop (store n p.mem at v) (λ m. Goes (next pc) (with_reg regs rd 0) (set_mem p m (slice_set (broken 0 h (at / 8) (at / 8) p.resv) h None)))
 
--- an AMO: it answers the old number, and leaves the operation's
-abbrev pub amo_stores : AmoOp → AtomicWidth → ℕ → ℕ → ℕ → ℕ → ℕ → ℕ → List ℕ → Prog → Outcome
-amo_stores op width old h rd at v pc regs p =
+-- an AMO, where the number `old` was read: it answers it, and leaves the operation's
+abbrev pub amo : AmoOp → AtomicWidth → ℕ → ℕ → ℕ → ℕ → ℕ → ℕ → List ℕ → Prog → Outcome
+amo op width old h rd at v pc regs p =
     or_stop (store (atomic_len width) p.mem at (left_by op width old v)) (λ m. Goes (next pc) (with_reg regs rd (answered width old)) (set_mem p m (broken 0 h (at / 8) (at / 8) p.resv)))
-
--- what follows the reading of the old number: an LR takes the reservation
-abbrev pub modified : AmoOp → AtomicWidth → ℕ → ℕ → ℕ → ℕ → ℕ → ℕ → List ℕ → Prog → Outcome
-modified amo.Lr width old h rd at v pc regs p = Goes (next pc) (with_reg regs rd (answered width old)) (set_mem p p.mem (slice_set p.resv h (Some (at / 8))))
-modified amo.Sc width old h rd at v pc regs p = conditional (has p.resv h (at / 8)) h (atomic_len width) rd at v pc regs p
-modified amo.Swap width old h rd at v pc regs p = amo_stores amo.Swap width old h rd at v pc regs p
-modified amo.Add width old h rd at v pc regs p = amo_stores amo.Add width old h rd at v pc regs p
-modified amo.Xor width old h rd at v pc regs p = amo_stores amo.Xor width old h rd at v pc regs p
-modified amo.And width old h rd at v pc regs p = amo_stores amo.And width old h rd at v pc regs p
-modified amo.Or width old h rd at v pc regs p = amo_stores amo.Or width old h rd at v pc regs p
-modified amo.Min width old h rd at v pc regs p = amo_stores amo.Min width old h rd at v pc regs p
-modified amo.Max width old h rd at v pc regs p = amo_stores amo.Max width old h rd at v pc regs p
-modified amo.Minu width old h rd at v pc regs p = amo_stores amo.Minu width old h rd at v pc regs p
-modified amo.Maxu width old h rd at v pc regs p = amo_stores amo.Maxu width old h rd at v pc regs p
-
--- the alignment is checked first, then the bytes
-abbrev pub atomic : ℕ → AmoOp → AtomicWidth → ℕ → ℕ → ℕ → ℕ → List ℕ → Prog → Outcome
-atomic h op width rd at v pc regs p =
-    if at % atomic_len width == 0 then or_stop (load (atomic_len width) p.mem at) (λ old. modified op width old h rd at v pc regs p) else Stops Misaligned
 
 -- ---- system calls, by their number in a7: 93 and 94 exit, 64 writes
 
@@ -214,7 +208,9 @@ perform h (BranchTo taken target) pc regs p = if taken then jump_to target regs 
 perform h (ReadMemory op rd at) pc regs p = or_stop (load (load_len op) p.mem at) (λ n. Goes (next pc) (with_reg regs rd (loaded op n)) p)
 perform h (WriteMemory len at v) pc regs p =
     or_stop (store len p.mem at v) (λ m. Goes (next pc) regs (set_mem p m (broken 0 h (at / 8) (wrap (at + (len - 1)) / 8) p.resv)))
-perform h (AtomicAccess op width rd at v) pc regs p = atomic h op width rd at v pc regs p
+perform h (LoadReserved width rd at) pc regs p = atomic width at p (λ n. reserve width n h rd at pc regs p)
+perform h (StoreConditional width rd at v) pc regs p = atomic width at p (λ n. conditional (has p.resv h (at / 8)) h (atomic_len width) rd at v pc regs p)
+perform h (AtomicAccess op width rd at v) pc regs p = atomic width at p (λ n. amo op width n h rd at v pc regs p)
 perform h SystemCall pc regs p = system_call pc regs p
 perform h Proceed pc regs p = Goes (next pc) regs p
 perform h (Halt c) pc regs p = Stops c

@@ -1,6 +1,7 @@
 pub mod Fields
 pub mod Table
 pub mod Words
+pub mod Forms
 pub mod Names
 pub mod Registers
 pub mod Memory

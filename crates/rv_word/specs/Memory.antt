@@ -17,8 +17,9 @@ abbrev pub memory_code : Coded Memory
 memory_code =
     code_by (ℕ × (ℕ × FinMap nat_cmp ℕ)) (coded× coded_ℕ (coded× coded_ℕ (code coded_ℕ coded_ℕ))) (λ m. (m.text_at, (m.text_len, m.cells))) (λ p. record { text_at = p.0; text_len = p.1.0; cells = p.1.1 }) (λ _. refl)
 
-abbrev pub in_text : ℕ → ℕ → ℕ → Bool
-in_text at len a = nat_le at a && nat_lt (a - at) len
+-- an address is one of the len from `at` on
+abbrev pub in_range : ℕ → ℕ → ℕ → Bool
+in_range at len a = nat_le at a && nat_lt (a - at) len
 
 abbrev pub mapped : Option ℕ → ℕ → Result ℕ MemStop
 mapped None a = Err (Unmapped a)
@@ -26,7 +27,7 @@ mapped (Some b) a = Ok b
 
 -- the byte at an address, or why there is none that may be touched
 abbrev pub cell : Memory → ℕ → Result ℕ MemStop
-cell m a = if in_text m.text_at m.text_len a then Err (InText a) else mapped (get m.cells a) a
+cell m a = if in_range m.text_at m.text_len a then Err (InText a) else mapped (get m.cells a) a
 
 -- m with a byte at a
 abbrev pub set_byte : Memory → ℕ → ℕ → Memory

@@ -1,10 +1,11 @@
 -- What a word names and where it leads.
-use Rattle.std.specs.Prelude.{ℕ, zero, suc, ◌+◌, ◌%◌, ◌^◌, ◌==◌, ◌&&◌, ◌||◌, not, nat_lt, nat_le, Bool, false, if◌then◌else◌, Option, Some, None, List, [], ◌∷◌, length, drop, take, ◌/◌}
+use Rattle.std.specs.Prelude.{ℕ, zero, suc, ◌+◌, ◌%◌, ◌^◌, ◌==◌, ◌&&◌, ◌||◌, not, Bool, false, if◌then◌else◌, Option, Some, None, List, [], ◌∷◌, length, drop, take, ◌/◌}
 use Rattle.std.specs.Int.{w32, from_le_bytes}
 use Rattle.std.specs.Option.{option_map_or}
 use Rattle.rv_word.specs.Table.{decode_of}
+use Rattle.rv_word.specs.Memory.{in_range}
 use Rattle.rv_word.specs.declared.instr.Instr.{Instr}
-use Rattle.rv_word.specs.declared.instr.Instr.TheVariants.{Lui, Auipc, Jal, Jalr, Branch, Load, Store, OpImm, ShiftImm, Addiw, ShiftImm32, Op, Op32, Fence, Ecall, Ebreak, Amo}
+use Rattle.rv_word.specs.declared.instr.Instr.TheVariants.{Lui, Auipc, Jal, Jalr, Branch, Load, Store, OpImm, ShiftImm, Addiw, ShiftImm32, Op, Op32, Fence, Ecall, Ebreak, Lr, Sc, Amo}
 
 -- one of the registers of the instruction is r; a fence's are free bits
 abbrev pub names : ℕ → Instr → Bool
@@ -24,6 +25,8 @@ names r (Op32 op rd rs1 rs2) = (rd == r) || (rs1 == r) || (rs2 == r)
 names r (Fence rd rs1 high) = false
 names r Ecall = false
 names r Ebreak = false
+names r (Lr width rd rs1 order) = (rd == r) || (rs1 == r)
+names r (Sc width rd rs1 rs2 order) = (rd == r) || (rs1 == r) || (rs2 == r)
 names r (Amo op width rd rs1 rs2 order) = (rd == r) || (rs1 == r) || (rs2 == r)
 
 abbrev pub has_scratch : ℕ → Bool
@@ -50,7 +53,7 @@ is_call_of None = false
 -- a return: jalr x0, 0(x1) or 0(x5), or a jump without a link out of the procedure
 abbrev pub is_return_of : Option Instr → ℕ → ℕ → ℕ → Bool
 is_return_of (Some (Jalr rd rs1 offset)) at start len = (rd == 0) && (links rs1 && (offset == 0))
-is_return_of (Some (Jal rd offset)) at start len = (rd == 0) && not (nat_le start ((at + offset) % 2 ^ 64) && nat_lt ((at + offset) % 2 ^ 64) (start + len))
+is_return_of (Some (Jal rd offset)) at start len = (rd == 0) && not (in_range start len ((at + offset) % 2 ^ 64))
 is_return_of (Some i) at start len = false
 is_return_of None at start len = false
 

@@ -1,5 +1,6 @@
 -- The unpatched program: what its harts have, and one turn of a hart. No trampoline is in this machine.
-use Rattle.std.specs.Prelude.{ℕ, ◌+◌, ◌-◌, ◌/◌, ◌%◌, ◌==◌, ◌&&◌, nat_le, nat_lt, if◌then◌else◌, Bool, false, Option, Some, None, is_none, List, [], ◌∷◌, slice_get, slice_set}
+use Rattle.std.specs.Prelude.{ℕ, ◌+◌, ◌-◌, ◌/◌, ◌%◌, ◌==◌, ◌&&◌, nat_le, nat_lt, if◌then◌else◌, Bool, false, Option, Some, None, is_none, List, slice_get, slice_set}
+use Rattle.rv_word.specs.Names.{words_of}
 use Rattle.rv_word.specs.Exec.{Prog, Outcome, Stops, exec_of, Done, done}
 use Rattle.rv_word.specs.declared.outcome.Cause.{Cause}
 use Rattle.rv_word.specs.declared.outcome.Cause.TheVariants.{FetchOutside}
@@ -10,6 +11,10 @@ use Rattle.rv_word.specs.declared.outcome.Next.TheVariants.{Go, Stop}
 pub record Words : Type 0 where
   pub at : ℕ
   pub words : List ℕ
+
+-- the words of a text at an address
+abbrev pub words_from : ℕ → List ℕ → Words
+words_from at text = record { at = at; words = words_of text }
 
 -- the word at an address, where the text has one there
 abbrev pub program_word : Words → ℕ → Option ℕ

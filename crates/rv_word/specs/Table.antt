@@ -21,7 +21,7 @@ use Rattle.rv_word.specs.declared.instr.AmoOp.TheVariants as amo
 use Rattle.rv_word.specs.declared.instr.AtomicWidth.{AtomicWidth}
 use Rattle.rv_word.specs.declared.instr.AtomicWidth.TheVariants.{Word, Doubleword}
 use Rattle.rv_word.specs.declared.instr.Instr.{Instr}
-use Rattle.rv_word.specs.declared.instr.Instr.TheVariants.{Lui, Auipc, Jal, Jalr, Branch, Load, Store, OpImm, ShiftImm, Addiw, ShiftImm32, Op, Op32, Fence, Ecall, Ebreak, Amo}
+use Rattle.rv_word.specs.declared.instr.Instr.TheVariants.{Lui, Auipc, Jal, Jalr, Branch, Load, Store, OpImm, ShiftImm, Addiw, ShiftImm32, Op, Op32, Fence, Ecall, Ebreak, Lr, Sc, Amo}
 
 -- The row whose number is code.
 abbrev pub row : {A : Type 0} → ℕ → List (ℕ × A) → Option A
@@ -72,11 +72,6 @@ reg_op_32_of funct7 code =
     else if funct7 == 0x20 then row code other_ops_32
     else if funct7 == 1 then row code mul_ops_32
     else None
-
-abbrev pub amo_ops : List (ℕ × AmoOp)
-amo_ops =
-    (0, amo.Add) ∷ (1, amo.Swap) ∷ (2, amo.Lr) ∷ (3, amo.Sc) ∷ (4, amo.Xor) ∷ (8, amo.Or)
-    ∷ (12, amo.And) ∷ (16, amo.Min) ∷ (20, amo.Max) ∷ (24, amo.Minu) ∷ (28, amo.Maxu) ∷ []
 
 abbrev pub atomic_widths : List (ℕ × AtomicWidth)
 atomic_widths = (2, Word) ∷ (3, Doubleword) ∷ []
@@ -146,25 +141,39 @@ system_words = (0x00000073, Ecall) ∷ (0x00100073, Ebreak) ∷ []
 abbrev pub system_of : ℕ → Option Instr
 system_of w = row w system_words
 
+-- the bits aq and rl
+abbrev pub order_of : ℕ → ℕ
+order_of w = w / 2 ^ 25 % 4
+
 -- LR has no second register
-abbrev pub amo_with : AmoOp → AtomicWidth → ℕ → Option Instr
-amo_with amo.Lr width w = if rs2_of w == 0 then Some (Amo amo.Lr width (rd_of w) (rs1_of w) (rs2_of w) (w / 2 ^ 25 % 4)) else None
-amo_with op width w = Some (Amo op width (rd_of w) (rs1_of w) (rs2_of w) (w / 2 ^ 25 % 4))
+abbrev pub lr_of : AtomicWidth → ℕ → Option Instr
+lr_of width w = if rs2_of w == 0 then Some (Lr width (rd_of w) (rs1_of w) (order_of w)) else None
 
-abbrev pub amo_at : Option AtomicWidth → Option AmoOp → ℕ → Option Instr
-amo_at (Some width) (Some op) w = amo_with op width w
-amo_at None op w = None
-amo_at (Some width) None w = None
+abbrev pub sc_of : AtomicWidth → ℕ → Option Instr
+sc_of width w = Some (Sc width (rd_of w) (rs1_of w) (rs2_of w) (order_of w))
 
-abbrev pub amo_of : ℕ → Option Instr
-amo_of w = amo_at (row (funct3_of w) atomic_widths) (row (w / 2 ^ 27) amo_ops) w
+abbrev pub amo_of : AmoOp → AtomicWidth → ℕ → Option Instr
+amo_of op width w = Some (Amo op width (rd_of w) (rs1_of w) (rs2_of w) (order_of w))
+
+abbrev pub atomic_ops : List (ℕ × (AtomicWidth → ℕ → Option Instr))
+atomic_ops =
+    (0, amo_of amo.Add) ∷ (1, amo_of amo.Swap) ∷ (2, lr_of) ∷ (3, sc_of) ∷ (4, amo_of amo.Xor) ∷ (8, amo_of amo.Or) ∷ (12, amo_of amo.And)
+    ∷ (16, amo_of amo.Min) ∷ (20, amo_of amo.Max) ∷ (24, amo_of amo.Minu) ∷ (28, amo_of amo.Maxu) ∷ []
+
+abbrev pub atomic_by : Option AtomicWidth → Option (AtomicWidth → ℕ → Option Instr) → ℕ → Option Instr
+atomic_by (Some width) (Some f) w = f width w
+atomic_by (Some width) None w = None
+atomic_by None f w = None
+
+abbrev pub atomic_of : ℕ → Option Instr
+atomic_of w = atomic_by (row (funct3_of w) atomic_widths) (row (w / 2 ^ 27) atomic_ops) w
 
 -- what stands under each opcode
 abbrev pub opcodes : List (ℕ × (ℕ → Option Instr))
 opcodes =
     (0x37, lui_of) ∷ (0x17, auipc_of) ∷ (0x6f, jal_of) ∷ (0x67, jalr_of) ∷ (0x63, branch_of) ∷ (0x03, load_of) ∷ (0x23, store_of)
     ∷ (0x13, op_imm_of) ∷ (0x1b, op_imm_32_of) ∷ (0x33, op_of) ∷ (0x3b, op_32_of) ∷ (0x0f, fence_of) ∷ (0x73, system_of)
-    ∷ (0x2f, amo_of) ∷ []
+    ∷ (0x2f, atomic_of) ∷ []
 
 abbrev pub read_by : {A : Type 0} → Option (ℕ → Option A) → ℕ → Option A
 read_by None w = None

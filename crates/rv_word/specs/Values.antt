@@ -175,10 +175,8 @@ abbrev pub less_unsigned : AtomicWidth → ℕ → ℕ → Bool
 less_unsigned Word x y = nat_lt (low_half x) (low_half y)
 less_unsigned Doubleword x y = nat_lt x y
 
--- the number whose low bytes an AMO leaves where the number `old` was; LR and SC are no AMOs
+-- the number whose low bytes an AMO leaves where the number `old` was
 abbrev pub left_by : AmoOp → AtomicWidth → ℕ → ℕ → ℕ
-left_by amo.Lr width old v = v
-left_by amo.Sc width old v = v
 left_by amo.Swap width old v = v
 left_by amo.Add width old v = wrap (old + v)
 left_by amo.Xor width old v = bit_xor old v

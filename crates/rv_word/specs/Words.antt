@@ -20,7 +20,7 @@ use Rattle.rv_word.specs.declared.instr.AmoOp.TheVariants as amo
 use Rattle.rv_word.specs.declared.instr.AtomicWidth.{AtomicWidth}
 use Rattle.rv_word.specs.declared.instr.AtomicWidth.TheVariants.{Word, Doubleword}
 use Rattle.rv_word.specs.declared.instr.Instr.{Instr}
-use Rattle.rv_word.specs.declared.instr.Instr.TheVariants.{Lui, Auipc, Jal, Jalr, Branch, Load, Store, OpImm, ShiftImm, Addiw, ShiftImm32, Op, Op32, Fence, Ecall, Ebreak, Amo}
+use Rattle.rv_word.specs.declared.instr.Instr.TheVariants.{Lui, Auipc, Jal, Jalr, Branch, Load, Store, OpImm, ShiftImm, Addiw, ShiftImm32, Op, Op32, Fence, Ecall, Ebreak, Lr, Sc, Amo}
 
 abbrev pub branch_code : BranchOp → ℕ
 branch_code Beq = 0
@@ -129,8 +129,6 @@ reg_32_top reg32.Remw = 1
 reg_32_top reg32.Remuw = 1
 
 abbrev pub amo_code : AmoOp → ℕ
-amo_code amo.Lr = 2
-amo_code amo.Sc = 3
 amo_code amo.Swap = 1
 amo_code amo.Add = 0
 amo_code amo.Xor = 4
@@ -183,6 +181,8 @@ word_of (Op32 op rd rs1 rs2) = r_form 0x3b rd (reg_32_code op) rs1 rs2 (reg_32_t
 word_of (Fence rd rs1 high) = i_form 0x0f rd 0 rs1 high
 word_of Ecall = 0x00000073
 word_of Ebreak = 0x00100073
+word_of (Lr width rd rs1 order) = r_form 0x2f rd (width_code width) rs1 0 (order % 4 + 2 * 4)
+word_of (Sc width rd rs1 rs2 order) = r_form 0x2f rd (width_code width) rs1 rs2 (order % 4 + 3 * 4)
 word_of (Amo op width rd rs1 rs2 order) = r_form 0x2f rd (width_code width) rs1 rs2 (order % 4 + amo_code op * 4)
 
 -- n is a number of so many bits with its sign, as 64 bits
@@ -192,11 +192,6 @@ IsExtended bits n = extended bits (n % 2 ^ bits) ≡ n
 -- an offset of whole halfwords
 abbrev pub IsJump : ℕ → ℕ → Type 0
 IsJump bits n = IsExtended bits n × (n % 2 ≡ 0)
-
--- LR has no second register
-abbrev pub LrAlone : AmoOp → ℕ → Type 0
-LrAlone amo.Lr rs2 = rs2 ≡ 0
-LrAlone op rs2 = Unit {0}
 
 -- what has a word: each number fits its field
 abbrev pub HasWord : Instr → Type 0
@@ -216,4 +211,6 @@ HasWord (Op32 op rd rs1 rs2) = (rd < 32) × (rs1 < 32) × (rs2 < 32)
 HasWord (Fence rd rs1 high) = (rd < 32) × (rs1 < 32) × (high < 4096)
 HasWord Ecall = Unit {0}
 HasWord Ebreak = Unit {0}
-HasWord (Amo op width rd rs1 rs2 order) = (rd < 32) × (rs1 < 32) × (rs2 < 32) × (order < 4) × LrAlone op rs2
+HasWord (Lr width rd rs1 order) = (rd < 32) × (rs1 < 32) × (order < 4)
+HasWord (Sc width rd rs1 rs2 order) = (rd < 32) × (rs1 < 32) × (rs2 < 32) × (order < 4)
+HasWord (Amo op width rd rs1 rs2 order) = (rd < 32) × (rs1 < 32) × (rs2 < 32) × (order < 4)

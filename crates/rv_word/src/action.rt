@@ -31,7 +31,20 @@ pub enum Action {
         at: u64,
         value: u64,
     },
-    /// Access the address atomically.
+    /// Load from the address into rd, and reserve its doubleword.
+    LoadReserved {
+        width: AtomicWidth,
+        rd: u32,
+        at: u64,
+    },
+    /// Store the value at the address if its doubleword is still reserved, and put 0 into rd if so, else 1.
+    StoreConditional {
+        width: AtomicWidth,
+        rd: u32,
+        at: u64,
+        value: u64,
+    },
+    /// Read the number at the address into rd, and leave there what the operation makes of it and the value.
     AtomicAccess {
         op: AmoOp,
         width: AtomicWidth,

@@ -89,11 +89,9 @@ pub enum RegOp32 {
     Remuw,
 }
 
-/// The operation of an atomic access.
+/// The operation of an atomic read-modify-write.
 #[derive(Clone, Copy, PartialEq, Eq, Debug)]
 pub enum AmoOp {
-    Lr,
-    Sc,
     Swap,
     Add,
     Xor,
@@ -115,7 +113,7 @@ pub enum AtomicWidth {
 }
 
 /// An instruction. Registers are numbers below 32. Immediates and offsets stand as the 64-bit
-/// numbers that the machine adds.
+/// numbers that the machine adds. `order` has the bits aq and rl, which change nothing here.
 #[derive(Clone, Copy, PartialEq, Eq, Debug)]
 pub enum Instr {
     Lui {
@@ -195,6 +193,22 @@ pub enum Instr {
     },
     Ecall,
     Ebreak,
+    /// Load-reserved.
+    Lr {
+        width: AtomicWidth,
+        rd: u32,
+        rs1: u32,
+        order: u32,
+    },
+    /// Store-conditional.
+    Sc {
+        width: AtomicWidth,
+        rd: u32,
+        rs1: u32,
+        rs2: u32,
+        order: u32,
+    },
+    /// Atomic read-modify-write.
     Amo {
         op: AmoOp,
         width: AtomicWidth,

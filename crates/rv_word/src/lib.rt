@@ -2,11 +2,13 @@
 #![tactic(auto)]
 
 mod action;
+mod codes;
 mod decoding;
 mod encoding;
 mod fields;
 mod instr;
 mod names;
+mod operations;
 mod outcome;
 
 pub use action::Action;

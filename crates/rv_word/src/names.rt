@@ -19,10 +19,12 @@ impl Instr {
             | Instr::OpImm { rd, rs1, .. }
             | Instr::ShiftImm { rd, rs1, .. }
             | Instr::Addiw { rd, rs1, .. }
-            | Instr::ShiftImm32 { rd, rs1, .. } => rd == r || rs1 == r,
+            | Instr::ShiftImm32 { rd, rs1, .. }
+            | Instr::Lr { rd, rs1, .. } => rd == r || rs1 == r,
             Instr::Branch { rs1, rs2, .. } | Instr::Store { rs1, rs2, .. } => rs1 == r || rs2 == r,
             Instr::Op { rd, rs1, rs2, .. }
             | Instr::Op32 { rd, rs1, rs2, .. }
+            | Instr::Sc { rd, rs1, rs2, .. }
             | Instr::Amo { rd, rs1, rs2, .. } => rd == r || rs1 == r || rs2 == r,
             Instr::Fence { .. } | Instr::Ecall | Instr::Ebreak => false,
         }
@@ -59,16 +61,15 @@ pub fn is_call(word: u32) -> bool
     }
 }
 
-/// The word at the address leaves the procedure.
+/// The word at the address leaves the procedure of so many bytes from its start.
 pub fn is_return(word: u32, at: u64, start: u64, len: u64) -> bool
-    requires { start + len < 2 ^ 64 }
     ensures { result ≡ is_return_of (decode_of word) at start len }
 {
     match decode(word) {
         Some(Instr::Jalr { rd, rs1, offset }) => rd == 0 && (rs1 == 1 || rs1 == 5) && offset == 0,
         Some(Instr::Jal { rd, offset }) => {
             let target = at.wrapping_add(offset);
-            rd == 0 && !(start <= target && target < start + len)
+            rd == 0 && !(start <= target && target - start < len)
         }
         _ => false,
     }

@@ -3,10 +3,9 @@
 #![tactic(auto)]
 
 ghost use Rattle.std.specs.Prelude.{IfOk};
-ghost use Rattle.std.specs.List.{All};
-ghost use Rattle.rv_mem.specs.Start.{IsSized};
+ghost use Rattle.pn_types.specs.Images.{IsImage};
 
-use plain_run::PlainMachine;
+use plain_run::{PlainMachine, run_schedule};
 use pn_types::{HartNo, Image, NoMemory, Segment, Seq};
 use std::alloc::Global;
 use std::process::ExitCode;
@@ -17,7 +16,7 @@ const LOOP: &[u8; 20] = b"\x83\x35\x06\0\x93\x85\x15\0\x23\x30\xb6\0\x13\x05\x15
 
 /// The loop at 0x10000.
 fn image(alloc: Global) -> Result<Image, NoMemory>
-    ensures { IfOk result (λ image. All IsSized image.segments) }
+    ensures { IfOk result IsImage }
 {
     let mut segments = Vec::new(alloc);
     segments.push(Segment {
@@ -34,17 +33,11 @@ fn image(alloc: Global) -> Result<Image, NoMemory>
     })
 }
 
-/// The ticks of one hart that runs the loop to the end of its budget.
+/// The ticks of one hart that runs the loop to the end of its budget, in quanta of 50 turns.
 fn run(alloc: Global, budget: u64) -> Result<u64, NoMemory> {
-    let hart = HartNo::first();
     let mut machine = PlainMachine::new(alloc, &image(alloc)?, 1, budget)?;
-    for _ in 0..budget {
-        if !machine.runnable(hart) {
-            break;
-        }
-        machine.step(hart);
-    }
-    Ok(machine.ticks(hart))
+    run_schedule(&mut machine, 1, 0, 50, 1_000);
+    Ok(machine.ticks(HartNo::first()))
 }
 
 fn budget(rt: &HostRuntime) -> Result<Option<u64>, io::Error> {

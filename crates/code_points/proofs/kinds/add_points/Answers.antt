@@ -1,5 +1,6 @@
 use Rattle.std.proofs.Common.{◌≡◌, ℕ, ◌+◌, ◌-◌, ◌*◌, ◌/◌, ◌++◌, ◌∷◌, [], suc, sym, ap, ◌∙◌, arith}
-use Rattle.code_points.specs.Points.{words_from, point_at, has_kind}
+use Rattle.rv_word.specs.Plain.{words_from}
+use Rattle.code_points.specs.Points.{point_at, has_kind}
 use Rattle.code_points.proofs.Steps.{point_step, plain_step}
 use Rattle.code_points.proofs.kinds.add_points.Goals as goal
 use Rattle.code_points.proofs.kinds.add_points.Goals.{then-has_kind+in_ok-push, else-has_kind}

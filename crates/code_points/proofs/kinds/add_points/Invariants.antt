@@ -1,6 +1,7 @@
 use Rattle.std.proofs.Common.{◌≡◌, ◌+◌, ◌-◌, ◌*◌, ◌/◌, ◌++◌, map}
 use Rattle.std.specs.List.{filter, range_with_len}
-use Rattle.code_points.specs.Points.{words_from, point_at, has_kind, points_in}
+use Rattle.rv_word.specs.Plain.{words_from}
+use Rattle.code_points.specs.Points.{point_at, has_kind, points_in}
 use Rattle.code_points.proofs.kinds.add_points.Given as goal
 
 -- the points so far, and those to come, are all

@@ -1,5 +1,6 @@
 use Rattle.std.proofs.Common.{◌≡◌, ◌++◌, drop}
-use Rattle.code_points.specs.Points.{program_of, points_from, points_of}
+use Rattle.rv_mem.specs.Start.{program_of}
+use Rattle.code_points.specs.Points.{points_from, points_of}
 use Rattle.code_points.proofs.kinds.points.Given as goal
 
 -- the points so far, and those to come, are all

@@ -1,10 +1,14 @@
-use Rattle.std.proofs.Common.{◌≡◌, ◌+◌, ◌++◌, ◌∷◌, [], false, length, drop, map, sym, ap, subst, ◌∙◌, arith}
+use Rattle.std.proofs.Common.{◌≡◌, ◌+◌, ◌++◌, ◌∷◌, [], true, false, List, length, drop, map, sym, ap, subst, ◌∙◌, arith}
 use Rattle.std.specs.List.Sorted.{IsPermutation}
 use Rattle.std.proofs.lemmas.Bool.{not-true, not-false, MatchBool-at_true, MatchBool-at_false}
-use Rattle.std.proofs.lemmas.List.{length_push}
+use Rattle.std.specs.List.{All}
+use Rattle.std.proofs.lemmas.List.{length_push, at_drop_all}
+use Rattle.pn_types.specs.GoodNames.{is_good_name}
+use Rattle.pn_types.specs.declared.code.Proc.{Proc}
 use Rattle.std.proofs.lemmas.Grind.{common_steps}
 use Rattle.pn_types.specs.declared.image.Symbol.{Symbol}
-use Rattle.code_points.specs.Procedures.{is_kept, proc_of}
+use Rattle.code_points.specs.Procedures.{is_kept, proc_of, kept_of, procedures_of}
+use Rattle.code_points.proofs.NamedProcs.{modules_good}
 use Rattle.code_points.proofs.Kept.{Kept, Key, seen, kept_none, kept_skip, kept_push, cannot_be, overlapping, namesake, next_function}
 use Rattle.code_points.proofs.procs.kept.Goals as goal
 use Rattle.code_points.proofs.procs.kept.Goals.{then-can_be_procedure+then-end-symbol+in_ok-insert+then-branch+in_ok-proc_of+in_ok-push, else-can_be_procedure, else-can_be_procedure-via-then-can_be_procedure+then-end-symbol+in_ok-insert+else-branch, else-can_be_procedure-via-then-can_be_procedure+else-end-symbol, else-can_be_procedure-via-else-can_be_procedure}
@@ -34,7 +38,7 @@ loop-symbol-preserved c =
           let fresh = sym (seen s key old.names.keys w.bytes.ensures w.bytes-then-end-symbol.ensures) ∙ not-true _ (sym w.in_ok-insert.ensures.added ∙ w.if-branch.true) in
           let put = subst (λ z. IsPermutation (key ∷ old.names.keys) z.keys) (sym w.names-is) (MatchBool-at_true _ _ w.if-branch.true w.in_ok-insert.ensures.keys) in
           record {
-            kept = kept_push image c.requires.text old.procs.items new.procs.items old.end new.end old.names.keys new.names.keys key rest s ss h next (sym c.can_be_procedure.ensures ∙ w.if-can_be_procedure.true) w.if-end-symbol.true fresh w.bytes.ensures w.bytes-then-end-symbol.ensures put items w.end-is;
+            kept = kept_push image old.procs.items new.procs.items old.end new.end old.names.keys new.names.keys key rest s ss h next (sym c.can_be_procedure.ensures ∙ w.if-can_be_procedure.true) w.if-end-symbol.true fresh w.bytes.ensures w.bytes-then-end-symbol.ensures put items w.end-is;
             few = omega (arith, ap length items, length_push old.procs.items (proc_of s), old.invariant.few);
           }
       | else-can_be_procedure w ↦
@@ -55,3 +59,18 @@ loop-symbol-preserved c =
             few = omega (arith, ap length items, old.invariant.few);
           }
     ]
+
+pub returns-clause-are_procs : goal.returns-clause-are_procs
+returns-clause-are_procs c =
+    let image = c.args.image.now in
+    let procs = c.loop-symbol.procs.items in
+    let kept = c.loop-symbol.invariant.kept in
+    let all : procs ≡ procedures_of image =
+    sym (at_drop_all (λ (rs : List (Bor Symbol)). kept_of image procs (map (λ (r : Bor Symbol). r.now) rs)) c.args.functions.now c.loop-symbol.symbol-index c.loop-symbol-test.false) ∙ kept.same in
+    record {
+      each = kept.each;
+      ascend = kept.ascend;
+      distinct = kept.distinct;
+      few = omega (arith, c.loop-symbol.invariant.few, c.requires.few, c.loop-symbol.auto.symbol-index-end);
+      modules = λ good. subst (λ ps. All (λ (p : Proc). is_good_name p.«module» ≡ true) ps) (sym all) (modules_good image good);
+    }

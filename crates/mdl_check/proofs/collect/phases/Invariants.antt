@@ -3,4 +3,4 @@ use Rattle.mdl_check.specs.Checking.{phase_of}
 use Rattle.mdl_check.proofs.collect.phases.Given as goal
 
 abbrev pub invariant-loop-entry : goal.invariant-loop-entry
-invariant-loop-entry l = l.phases.items ≡ flat_map (λ e. phase_of e.item) (take l.entry-index l.all)
+invariant-loop-entry l = l.phases.items ≡ flat_map (λ e. phase_of e.line e.item) (take l.entry-index l.all)

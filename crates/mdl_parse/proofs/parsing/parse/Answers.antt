@@ -5,6 +5,7 @@ use Rattle.mdl_parse.specs.Items.{items_at}
 use Rattle.mdl_parse.specs.Meaning.{most_conditions, Faults}
 use Rattle.mdl_parse.specs.Gives.{Stops}
 use Rattle.mdl_parse.proofs.Exact.{stopped, conf_read, fault_read}
+use Rattle.mdl_parse.proofs.SmallItems.{small_conf}
 use Rattle.mdl_parse.proofs.parsing.parse.Goals as goal
 
 pub returns-in-Some-clause-fault : goal.returns-in-Some-clause-fault
@@ -20,6 +21,9 @@ returns-in-None-clause-conf c =
     (sym (c.in-Ok.ensures.ending ∙ ap (λ (a : Ahead). a.ending) c.new-words.ensures))
     (ap (items_at most_conditions) (sym (ap (λ (a : Ahead). a.spots) c.new-words.ensures)) ∙ c.in-Ok.ensures.read)
     (sym c.in-None.is ∙ c.unread.ensures)
+
+pub returns-in-None-clause-small : goal.returns-in-None-clause-small
+returns-in-None-clause-small c = small_conf c.args.text.now (record { items = c.in-Ok.items }) (returns-in-None-clause-conf c)
 
 pub returns-in-Err-Refused-clause-fault : goal.returns-in-Err-Refused-clause-fault
 returns-in-Err-Refused-clause-fault c =

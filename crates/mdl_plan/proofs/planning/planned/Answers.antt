@@ -2,6 +2,7 @@ use Rattle.std.proofs.Common.{rules, ◌≡◌, Result, Ok, Err, List, sym, ap, 
 use Rattle.pn_types.specs.declared.plan.Plan.{Plan}
 use Rattle.pn_types.specs.declared.plan.Site.{Site}
 use Rattle.pn_types.specs.declared.plan.Var.{Var}
+use Rattle.resource_tree.specs.Foci.{part}
 use Rattle.mdl_plan.specs.Plans.{scene_of, sites_of, vars_of}
 use Rattle.mdl_plan.specs.Tables.{sites_with}
 use Rattle.mdl_plan.specs.declared.fault.PlanFault.{PlanFault}
@@ -12,7 +13,7 @@ pub returns-then-sites-gt-MOST_SITES : goal.returns-then-sites-gt-MOST_SITES
 returns-then-sites-gt-MOST_SITES c =
     let s = c.in_ok-planner.planner in
     let e = c.in_ok-planner.ensures in
-    let scene = scene_of c.args.tree.now c.args.focus.now c.args.procs.now c.args.metric.now c.args.active.now in
+    let scene = scene_of (part c.args.tree.now c.args.focus.now) c.args.procs.now c.args.metric.now c.args.active.now in
     let points = c.args.points.now in
     too_many (vars_of c.args.metric.now c.args.active.now) (sites_with s.terms s.pieces.items s.table points) (sites_of scene points) c.count-sites.result
     (scene_sites scene s.terms s.pieces.items s.table points e.pieces e.table e.terms)
@@ -22,7 +23,7 @@ pub returns-in_err-sites : goal.returns-in_err-sites
 returns-in_err-sites c =
     let s = c.in_ok-planner.planner in
     let e = c.in_ok-planner.ensures in
-    let scene = scene_of c.args.tree.now c.args.focus.now c.args.procs.now c.args.metric.now c.args.active.now in
+    let scene = scene_of (part c.args.tree.now c.args.focus.now) c.args.procs.now c.args.metric.now c.args.active.now in
     let points = c.args.points.now in
     let is : c.from_residual-in_err-sites.result ≡ Err c.in_err-sites.field-0.0 = search rules in
     refused (vars_of c.args.metric.now c.args.active.now) (sites_with s.terms s.pieces.items s.table points) (sites_of scene points) c.count-sites.result
@@ -34,7 +35,7 @@ pub returns : goal.returns
 returns c =
     let s = c.in_ok-planner.planner in
     let e = c.in_ok-planner.ensures in
-    let scene = scene_of c.args.tree.now c.args.focus.now c.args.procs.now c.args.metric.now c.args.active.now in
+    let scene = scene_of (part c.args.tree.now c.args.focus.now) c.args.procs.now c.args.metric.now c.args.active.now in
     let points = c.args.points.now in
     let same : sites_with s.terms s.pieces.items s.table points ≡ sites_of scene points = scene_sites scene s.terms s.pieces.items s.table points e.pieces e.table e.terms in
     done (vars_of c.args.metric.now c.args.active.now) (sites_with s.terms s.pieces.items s.table points) (sites_of scene points) c.count-sites.result same

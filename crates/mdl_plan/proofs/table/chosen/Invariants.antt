@@ -4,4 +4,4 @@ use Rattle.mdl_plan.specs.Numbers.{AreNumbers}
 use Rattle.mdl_plan.proofs.table.chosen.Given as goal
 
 abbrev pub invariant-loop-number : goal.invariant-loop-number
-invariant-loop-number l = AreNumbers l.scope.procs (is_chosen l.scope.code l.scope.focus l.kind) (take l.number l.pieces) l.lists
+invariant-loop-number l = AreNumbers l.scope.procs (is_chosen l.scope.selected l.kind) (take l.number l.pieces) l.lists

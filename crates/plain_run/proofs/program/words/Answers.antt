@@ -1,6 +1,5 @@
-use Rattle.std.proofs.Common.{◌≡◌, ◌-◌, ◌+◌, ◌*◌, ◌/◌, length, suc, ap, ◌∙◌, arith}
+use Rattle.std.proofs.Common.{◌≡◌, ◌-◌, ◌+◌, ◌/◌, length, suc, ◌∙◌, arith}
 use Rattle.std.proofs.lemmas.Grind.{common_steps}
-use Rattle.rv_word.specs.Names.{words_in}
 use Rattle.plain_run.proofs.Programs.{word_step}
 use Rattle.plain_run.proofs.program.words.Goals as goal
 
@@ -10,5 +9,5 @@ loop-preserved c =
     let k : n ≡ suc (length c.args.text.now / 4 - (c.loop.counter + 1)) = omega arith in
     record {
       left = grind (arith, common_steps);
-      same = word_step n (length c.args.text.now / 4 - (c.loop.counter + 1)) c.split_word-word.result.0 c.loop.words.items c.push.new.self.items c.loop.rest.now c.split_word-word.result.1.now k c.split_word-word.ensures.word c.split_word-word.ensures.rest c.in_ok-push.ensures.items ∙ c.loop.invariant.same;
+      same = word_step n (length c.args.text.now / 4 - (c.loop.counter + 1)) c.new.result c.loop.words.items c.push.new.self.items c.loop.rest.now c.split_word-word.result.1.now k (c.new.ensures ∙ c.split_word-word.ensures.word) c.split_word-word.ensures.rest c.in_ok-push.ensures.items ∙ c.loop.invariant.same;
     }

@@ -9,5 +9,5 @@ returns-then-number-harts c =
 
 pub returns-else-number-harts : goal.returns-else-number-harts
 returns-else-number-harts c =
-    ap Some c.hart_numbered.ensures
+    ap (λ (n : ℕ). Some (Some n)) c.numbered.ensures
     ∙ sym (ap (λ (node : Option ℕ). slice_get (flat_children c.args.harts node) c.args.number) c.in-None.is ∙ range_at Some c.args.harts c.args.number c.if-number-harts.false)

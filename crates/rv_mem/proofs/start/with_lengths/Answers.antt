@@ -1,7 +1,13 @@
-use Rattle.std.proofs.Common.{rules, ◌∙◌, ◌++◌, ◌∷◌, ap, replicate}
+use Rattle.std.proofs.Common.{rules, subst, sym, ◌∙◌, ◌++◌, ◌∷◌, ap, replicate}
+use Rattle.std.specs.List.{AllByRecursion}
+use Rattle.pn_types.specs.Images.{IsSegment}
 use Rattle.rv_mem.specs.Start.{segment_parts, heap_at, heap_part, stack_at, stack_parts}
-use Rattle.rv_mem.proofs.Starts.{segment_step, heap_step, stack_step}
+use Rattle.rv_mem.proofs.Starts.{filled_at, segment_step, heap_step, stack_step}
 use Rattle.rv_mem.proofs.start.with_lengths.Goals as goal
+
+pub segment_region-requires : goal.segment_region-requires
+segment_region-requires c =
+    filled_at c.as_slice-segments.result.now c.loop-segment.segment-index c.segment-item.result (subst (λ ss. AllByRecursion IsSegment ss) (sym c.as_slice-segments.ensures) c.requires.image.mapped) c.segment-item.is (search rules)
 
 pub loop-segment-preserved : goal.loop-segment-preserved
 loop-segment-preserved c =

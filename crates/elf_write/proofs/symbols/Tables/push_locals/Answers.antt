@@ -1,7 +1,8 @@
 use Rattle.std.proofs.Common.{◌≡◌, ap, ◌∙◌, sym, false, not, drop, length, ◌+◌, ◌++◌, arith, length-append}
 use Rattle.std.specs.Prelude.{filter}
 use Rattle.std.specs.Str.{bytes_eq}
-use Rattle.elf_form.specs.Symbols.{program, is_of_program}
+use Rattle.elf_form.specs.Symbols.{is_of_program}
+use Rattle.pn_types.specs.GoodNames.{program_module}
 use Rattle.elf_write.specs.Symbols.{names_of, entries_bytes, entries_after, local_entries}
 use Rattle.elf_write.proofs.Entries.{local_more, room, step_strings, step_symbols, counted}
 use Rattle.elf_write.proofs.symbols.Tables.push_locals.Goals as goal
@@ -10,7 +11,7 @@ pub push_behind-requires-clause-room : goal.push_behind-requires-clause-room
 push_behind-requires-clause-room c =
     let s = c.symbol-item.result in
     let now = c.loop-symbol.self.strings.items in
-    let other : bytes_eq s.module program ≡ false = ap (λ m. bytes_eq m program) (sym c.bytes-module.ensures) ∙ sym c.is_same.ensures ∙ c.if-is_same.false in
+    let other : bytes_eq s.module program_module ≡ false = ap (λ m. bytes_eq m program_module) (sym c.bytes-module.ensures) ∙ sym c.is_same.ensures ∙ c.if-is_same.false in
     let more = local_more c.args.symbols.now c.loop-symbol.symbol-index s c.loop-symbol-test.true c.symbol-item.is c.loop-symbol.source.now c.bytes-module.result.now c.bytes-module.ensures other in
     room _ _ now c.args.self.now.strings.items _ (ap (λ es. now ++ names_of es) (sym more) ∙ c.loop-symbol.invariant.strings) c.requires.room
 
@@ -22,7 +23,7 @@ loop-symbol-preserved c =
     let entries = c.loop-symbol.self.symbols.items in
     let xs = entries_after source s in
     let rest = local_entries c.bytes-module.result.now (filter (λ t. not (is_of_program t)) (drop (c.loop-symbol.symbol-index + 1) c.args.symbols.now)) in
-    let other : bytes_eq s.module program ≡ false = ap (λ m. bytes_eq m program) (sym c.bytes-module.ensures) ∙ sym c.is_same.ensures ∙ c.if-is_same.false in
+    let other : bytes_eq s.module program_module ≡ false = ap (λ m. bytes_eq m program_module) (sym c.bytes-module.ensures) ∙ sym c.is_same.ensures ∙ c.if-is_same.false in
     let more : local_entries source (filter (λ t. not (is_of_program t)) (drop c.loop-symbol.symbol-index c.args.symbols.now)) ≡ xs ++ rest =
     local_more c.args.symbols.now c.loop-symbol.symbol-index s c.loop-symbol-test.true c.symbol-item.is source c.bytes-module.result.now c.bytes-module.ensures other in
     let said = c.in_ok-push_behind.ensures in

@@ -9,7 +9,7 @@ pub returns-in-Names : goal.returns-in-Names
 returns-in-Names c =
     let ns = c.self.inside.names in
     let s = c.args.self.now in
-    IfOk-weaker c.with_any.result (λ found. found.items ≡ flat_map (λ name. numbers_named name ns) c.as_slice.result.now) (λ found. Selects s.procs (in_set s.code s.focus c.args.set.now) found.items)
-    (λ found all. selects_set c.self.inside.tree.now.code c.self.inside.part c.self.inside.procs.now ns s c.args.set.now c.in-Names.names c.as_slice.result.now found.items
+    IfOk-weaker c.with_any.result (λ found. found.items ≡ flat_map (λ name. numbers_named name ns) c.as_slice.result.now) (λ found. Selects s.procs (in_set s.selected c.args.set.now) found.items)
+    (λ found all. selects_set c.self.inside.selected.items c.self.inside.procs.now ns s c.args.set.now c.in-Names.names c.as_slice.result.now found.items
     c.self.invariant c.self.view_is c.in-Names.is c.as_slice.ensures all)
     c.with_any.ensures

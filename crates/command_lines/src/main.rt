@@ -1,0 +1,80 @@
+//! Says of each line of the standard input what its words, between single spaces, ask of `paradyn`: the command with the
+//! values that it has, or `usage`; and behind it the name of the log, where they give one.
+#![tactic(auto)]
+
+use command_words::{PlanRequest, Request, RunRequest, WordFault, log_name, read_request};
+use pn_types::{NoMemory, Start};
+use std::alloc::Global;
+use std::io;
+
+/// The words of a line.
+fn words(alloc: Global, line: &str) -> Result<Vec<String>, NoMemory> {
+    let mut words = Vec::new(alloc);
+    if !line.is_empty() {
+        for word in line.split(' ') {
+            words.push(String::from_str(alloc, word)?)?;
+        }
+    }
+    Ok(words)
+}
+
+fn start_text(start: Start) -> &'static str {
+    match start {
+        Start::Cold => "cold",
+        Start::Warm => "warm",
+    }
+}
+
+/// What `run` is asked for.
+fn run_text(alloc: Global, run: &RunRequest<'_>) -> Result<String, NoMemory> {
+    let settings = run.settings;
+    let harts = settings.harts;
+    let budget = settings.budget;
+    let bins = settings.bins;
+    let width = settings.width;
+    let start = start_text(settings.start);
+    let instruments = settings.instruments;
+    let numbers = format!(in alloc; "harts {harts} budget {budget} bins {bins} width {width}")?;
+    let rest = format!(in alloc; "{start} instruments {instruments}")?;
+    let program = run.program;
+    let conf = run.conf;
+    let seed = run.seed;
+    let quantum = run.quantum;
+    format!(in alloc; "run [{program}] [{conf}] {numbers} {rest} seed {seed} quantum {quantum}")
+}
+
+/// What `plan` is asked for.
+fn plan_text(alloc: Global, plan: &PlanRequest<'_>) -> Result<String, NoMemory> {
+    let program = plan.program;
+    let conf = plan.conf;
+    let metric = plan.metric;
+    let focus = plan.focus;
+    let harts = plan.harts;
+    format!(in alloc; "plan [{program}] [{conf}] [{metric}] [{focus}] harts {harts}")
+}
+
+/// What words ask for.
+fn request_text(alloc: Global, words: &[String]) -> Result<String, NoMemory> {
+    match read_request(alloc, words) {
+        Ok(Request::Run(run)) => run_text(alloc, &run),
+        Ok(Request::Plan(plan)) => plan_text(alloc, &plan),
+        Ok(Request::Asm(text)) => format!(in alloc; "asm [{text}]"),
+        Ok(Request::Points(program)) => format!(in alloc; "points [{program}]"),
+        Ok(Request::Later) => String::from_str(alloc, "later"),
+        Err(WordFault::Usage) => String::from_str(alloc, "usage"),
+        Err(WordFault::NoMemory) => Err(NoMemory {}),
+    }
+}
+
+fn main(rt: HostRuntime) -> io::Result<()> {
+    let alloc = rt.alloc();
+    for line in rt.lines(alloc) {
+        let words = words(alloc, line?.as_str())?;
+        let request = request_text(alloc, &words)?;
+        match log_name(&words) {
+            Some(log) => println!(rt; "{request} log [{log}]")?,
+            None => println!(rt; "{request}")?,
+        }
+    }
+    Ok(())
+}

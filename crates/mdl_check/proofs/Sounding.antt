@@ -1,0 +1,259 @@
+-- What has no fault is sound.
+use Rattle.std.proofs.Common.{◌≡◌, ℕ, ◌||◌, ◌&&◌, not, cond, Bool, true, false, Option, Some, None, List, [], ◌∷◌, ◌++◌, map, flat_map, length, bytes_eq, codes, is_some, refl, sym, ap, ◌∙◌, subst}
+use Rattle.std.specs.List.{list_any, filter, AllByRecursion}
+use Rattle.std.proofs.lemmas.Bool.{or_parts}
+use Rattle.mdl_ast.specs.Small.{AreSmall, HasSmall}
+use Rattle.mdl_ast.specs.declared.block.Block.{Block}
+use Rattle.mdl_ast.specs.declared.items.Item.{Item}
+use Rattle.mdl_ast.specs.declared.items.Item.TheVariants.{Include, Sync, Metric, Constraint, Hypothesis, Search, Phase, Wish}
+use Rattle.mdl_ast.specs.declared.metric.Metric.{Metric as TheMetric}
+use Rattle.mdl_ast.specs.declared.metric.Constraint.{Constraint as TheConstraint}
+use Rattle.mdl_check.specs.Spots.{Spot, Entry, spot, is_taken, included, spots_of, spots}
+use Rattle.mdl_check.specs.Rules.{is_repeated, is_unknown, is_wrong, is_cyclic, is_astray, is_misused, parents_of, fault_of, misuse, own_variable, has_bad_value}
+use Rattle.mdl_check.specs.Names.{constraint_in, constraint_named}
+use Rattle.mdl_check.specs.Statements.{have}
+use Rattle.mdl_check.specs.Checking.{AreEntries, spot_of, fault_from, first_fault, metric_of, constraint_of, checked_of}
+use Rattle.mdl_check.specs.Sound.{Fits, OfEach, IsSoundMetric, IsSoundConstraint, TakesFitting, IsSound, first_named}
+use Rattle.mdl_check.proofs.Fitting.{none_of, all_map, all_zip, each_fits}
+use Rattle.mdl_check.specs.declared.fault.CheckKind.{CheckKind}
+use Rattle.mdl_check.specs.declared.fault.CheckKind.TheVariants.{TwiceNamed, UnknownName, WrongKind, CyclicParent, BadFocus}
+use Rattle.mdl_check.specs.declared.uses.Use.TheVariants as uses
+use Rattle.resource_tree.specs.Resources.{Resources}
+
+-- ---- an item without a fault
+
+record IsRight (all before : List Entry) (e : Entry) : Type 0 where
+  pub known : is_unknown all e.item ≡ false
+  pub right : is_wrong all before e.item ≡ false
+
+right_entry : (all before : List Entry) (e : Entry) → fault_of all before e ≡ None → IsRight all before e
+right_entry all before e h = by (is_repeated all before e.item e.focus) (is_unknown all e.item) (is_wrong all before e.item) refl refl h
+  where
+    by : (a b c : Bool) → is_unknown all e.item ≡ b → is_wrong all before e.item ≡ c
+        → cond a (Some TwiceNamed) (cond b (Some UnknownName) (cond c (Some WrongKind) (cond (is_cyclic (parents_of all) (length before)) (Some CyclicParent) (cond (is_astray e.item e.focus) (Some BadFocus) None)))) ≡ None
+        → IsRight all before e
+    by true b c p q g = cc
+    by false true c p q g = cc
+    by false false true p q g = cc
+    by false false false p q g = record { known = p; right = q }
+
+abbrev found : ℕ → CheckKind → Option (ℕ × CheckKind)
+found line kind = Some (line, kind)
+
+passed : (all before : List Entry) (e : Entry) (es : List Entry) → fault_of all before e ≡ None → fault_from all before (e ∷ es) ≡ fault_from all (before ++ (e ∷ [])) es
+passed all before e es h = rw (h, fault_from) refl
+
+blamed : (all before : List Entry) (e : Entry) (es : List Entry) (kind : CheckKind) → fault_of all before e ≡ Some kind → fault_from all before (e ∷ es) ≡ found e.line kind
+blamed all before e es kind h = rw (h, fault_from) refl
+
+-- all items are without one
+module _ (all : List Entry) (P : Entry → Type 0) (one : (before : List Entry) (e : Entry) → IsRight all before e → P e) where
+  right_from : (before es : List Entry) → fault_from all before es ≡ None → AllByRecursion P es
+  right_from before [] h = tt
+  right_from before (e ∷ es) h = by (fault_of all before e) refl (right_from (before ++ (e ∷ [])) es)
+    where
+      by : (o : Option CheckKind) → fault_of all before e ≡ o → (fault_from all (before ++ (e ∷ [])) es ≡ None → AllByRecursion P es) → AllByRecursion P (e ∷ es)
+      by None p rest = (one before e (right_entry all before e p), rest (sym (passed all before e es p) ∙ h))
+      by (Some kind) p rest = let g = sym (blamed all before e es kind p) ∙ h in absurd cc
+
+-- ---- an item's statements
+
+-- the metric's statements misuse nothing, and nor do the replacements that it takes
+record RightMetric (all : List Entry) (m : TheMetric) : Type 0 where
+  pub small : AreSmall m.blocks
+  pub own : have uses.OtherName (Some m.name) m.blocks ≡ false
+  pub kind : have (misuse m.timer) (Some m.name) m.blocks ≡ false
+  pub high : have uses.HighArgument None m.blocks ≡ false
+  pub taken : list_any (λ name. is_misused m.timer (constraint_named all name)) m.constraints ≡ false
+
+record RightConstraint (c : TheConstraint) : Type 0 where
+  pub small : AreSmall c.blocks
+  pub own : have uses.OtherName (own_variable c) c.blocks ≡ false
+  pub kind : not c.replace && have uses.AsTimer (Some c.name) c.blocks ≡ false
+  pub high : have uses.HighArgument None c.blocks ≡ false
+
+abbrev Sound : List Entry → ℕ → Item → Type 0
+Sound all line item = AllByRecursion (RightMetric all) (metric_of line item) × AllByRecursion RightConstraint (constraint_of line item)
+
+right_metric : (all before : List Entry) (line : ℕ) (m : TheMetric) → is_unknown all (Metric m) ≡ false → is_wrong all before (Metric m) ≡ false → HasSmall (Metric m) → RightMetric all (record m { line = line })
+right_metric all before line m known right small =
+    let kind : Bool = have (misuse m.timer) (Some m.name) m.blocks in
+    let taken : Bool = list_any (λ name. is_misused m.timer (constraint_named all name)) m.constraints in
+    let value : Bool = have uses.ObjectValue None m.blocks in
+    let a = or_parts (kind || taken || value) (have uses.HighArgument None m.blocks) right in
+    let b = or_parts (kind || taken) value a.0 in
+    let c = or_parts kind taken b.0 in
+    let k = or_parts (list_any (λ name. not (is_some (constraint_named all name))) m.constraints) (have uses.OtherName (Some m.name) m.blocks) known in
+    record { small = small; own = k.1; kind = c.0; high = a.1; taken = c.1 }
+
+right_constraint : (all before : List Entry) (line : ℕ) (c : TheConstraint) → is_unknown all (Constraint c) ≡ false → is_wrong all before (Constraint c) ≡ false → HasSmall (Constraint c) → RightConstraint (record c { line = line })
+right_constraint all before line c known right small =
+    let path : Bool = not (bytes_eq c.path (codes "/Code") || bytes_eq c.path (codes "/SyncObject")) in
+    let timed : Bool = have uses.AsTimer (Some c.name) c.blocks in
+    let a = or_parts (path || (not c.replace && timed) || has_bad_value c) (have uses.HighArgument None c.blocks) right in
+    let b = or_parts (path || (not c.replace && timed)) (has_bad_value c) a.0 in
+    let d = or_parts path (not c.replace && timed) b.0 in
+    record { small = small; own = known; kind = d.1; high = a.1 }
+
+sound_item : (all before : List Entry) (line : ℕ) (item : Item) → is_unknown all item ≡ false → is_wrong all before item ≡ false → HasSmall item → Sound all line item
+sound_item all before line (Include i) known right small = (tt, tt)
+sound_item all before line (Sync s) known right small = (tt, tt)
+sound_item all before line (Metric m) known right small = ((right_metric all before line m known right small, tt), tt)
+sound_item all before line (Constraint c) known right small = (tt, (right_constraint all before line c known right small, tt))
+sound_item all before line (Hypothesis h) known right small = (tt, tt)
+sound_item all before line (Search s) known right small = (tt, tt)
+sound_item all before line (Phase p) known right small = (tt, tt)
+sound_item all before line (Wish w) known right small = (tt, tt)
+
+-- ---- they fit
+
+fitting_metric : (all : List Entry) (m : TheMetric) → RightMetric all m → IsSoundMetric m
+fitting_metric all m r = each_fits m.timer (Some m.name) m.blocks r.own r.kind r.high r.small
+
+abbrev own_if : Bool → TheConstraint → Bool
+own_if replace c = have uses.OtherName (cond replace None (Some c.name)) c.blocks
+
+fitting_constraint : (c : TheConstraint) → RightConstraint c → IsSoundConstraint c
+fitting_constraint c r e =
+    each_fits false (Some c.name) c.blocks (ap (λ (b : Bool). own_if b c) (sym e) ∙ r.own)
+    (ap (λ (b : Bool). not b && have uses.AsTimer (Some c.name) c.blocks) (sym e) ∙ r.kind) r.high r.small
+
+-- ---- the constraint of a name
+
+-- the same constraint, but for its line
+record SameButLine (d c : TheConstraint) : Type 0 where
+  pub replace : d.replace ≡ c.replace
+  pub blocks : d.blocks ≡ c.blocks
+
+data Here (name : List ℕ) (item : Item) (rest : List TheConstraint) (c : TheConstraint) : Type 0 where
+  Found : (d : TheConstraint) → constraint_in name item ≡ Some d → SameButLine d c → Here name item rest c
+  Later : constraint_in name item ≡ None → first_named rest name ≡ Some c → Here name item rest c
+
+here : (name : List ℕ) (line : ℕ) (item : Item) (rest : List TheConstraint) (c : TheConstraint) → first_named (constraint_of line item ++ rest) name ≡ Some c → Here name item rest c
+here name line (Include i) rest c h = Later refl h
+here name line (Sync s) rest c h = Later refl h
+here name line (Metric m) rest c h = Later refl h
+here name line (Constraint x) rest c h = by (bytes_eq name x.name) refl h
+  where
+    by : (b : Bool) → bytes_eq name x.name ≡ b → cond b (Some (record x { line = line })) (first_named rest name) ≡ Some c → Here name (Constraint x) rest c
+    by true p g =
+        let same : record x { line = line } ≡ c = cc in
+        Found x (ap (λ (b : Bool). cond b (Some x) None) p) (record { replace = ap (λ (y : TheConstraint). y.replace) same; blocks = ap (λ (y : TheConstraint). y.blocks) same })
+    by false p g = Later (ap (λ (b : Bool). cond b (Some x) None) p) g
+here name line (Hypothesis x) rest c h = Later refl h
+here name line (Search s) rest c h = Later refl h
+here name line (Phase p) rest c h = Later refl h
+here name line (Wish w) rest c h = Later refl h
+
+record Named (es : List Entry) (name : List ℕ) (c : TheConstraint) : Type 0 where
+  pub item : TheConstraint
+  pub found : constraint_named es name ≡ Some item
+  pub same : SameButLine item c
+
+skips : (e : Entry) (es : List Entry) (name : List ℕ) → constraint_in name e.item ≡ None → constraint_named (e ∷ es) name ≡ constraint_named es name
+skips e es name h = rw (h, constraint_named) refl
+
+takes : (e : Entry) (es : List Entry) (name : List ℕ) (d : TheConstraint) → constraint_in name e.item ≡ Some d → constraint_named (e ∷ es) name ≡ Some d
+takes e es name d h = rw (h, constraint_named) refl
+
+named_in : (es : List Entry) (name : List ℕ) (c : TheConstraint) → first_named (flat_map (λ e. constraint_of e.line e.item) es) name ≡ Some c → Named es name c
+named_in [] name c h = cc
+named_in (e ∷ es) name c h = elim (here name e.line e.item (flat_map (λ e. constraint_of e.line e.item) es) c h) [
+  | Found d p same ↦ record { item = d; found = takes e es name d p; same = same }
+  | Later p g ↦ let r = named_in es name c g in record { item = r.item; found = skips e es name p ∙ r.found; same = r.same }
+]
+
+of_named : (P : TheConstraint → Type 0) (cs : List TheConstraint) (name : List ℕ) (c : TheConstraint) → AllByRecursion P cs → first_named cs name ≡ Some c → P c
+of_named P [] name c h e = cc
+of_named P (x ∷ cs) name c h e = by (bytes_eq name x.name) (of_named P cs name c h.1) e
+  where
+    by : (b : Bool) → (first_named cs name ≡ Some c → P c) → cond b (Some x) (first_named cs name) ≡ Some c → P c
+    by true later g = let same : x ≡ c = cc in subst P same h.0
+    by false later g = later g
+
+-- the replacements of a metric fit it
+taken_fits : (all : List Entry) (m : TheMetric) (cs : List TheConstraint) → cs ≡ flat_map (λ e. constraint_of e.line e.item) all → AllByRecursion RightConstraint cs → RightMetric all m → TakesFitting cs m
+taken_fits all m cs same right r =
+    all_map (λ name. is_misused m.timer (constraint_named all name) ≡ false) (λ name. (c : TheConstraint) → first_named cs name ≡ Some c → c.replace ≡ true → OfEach (Fits m.timer) c.blocks)
+    one m.constraints (none_of (λ name. is_misused m.timer (constraint_named all name)) m.constraints r.taken)
+  where
+    one : (name : List ℕ) → is_misused m.timer (constraint_named all name) ≡ false → (c : TheConstraint) → first_named cs name ≡ Some c → c.replace ≡ true → OfEach (Fits m.timer) c.blocks
+    one name h c e replace =
+        let n = named_in all name c (ap (λ (l : List TheConstraint). first_named l name) (sym same) ∙ e) in
+        let right_c = of_named RightConstraint cs name c right e in
+        let misused : is_misused m.timer (Some n.item) ≡ false = ap (is_misused m.timer) (sym n.found) ∙ h in
+        let as_c : c.replace && have (misuse m.timer) None c.blocks ≡ false =
+        ap (λ (b : Bool). b && have (misuse m.timer) None c.blocks) (sym n.same.replace) ∙ ap (λ (bs : List Block). n.item.replace && have (misuse m.timer) None bs) (sym n.same.blocks) ∙ misused in
+        each_fits m.timer None c.blocks (ap (λ (b : Bool). own_if b c) (sym replace) ∙ right_c.own)
+        (ap (λ (b : Bool). b && have (misuse m.timer) None c.blocks) (sym replace) ∙ as_c) right_c.high right_c.small
+
+-- ---- the items are small
+
+abbrev SmallSpot : Spot → Type 0
+SmallSpot s = HasSmall s.item
+
+all_both : {X : Type 0} (P : X → Type 0) (a b : List X) → AllByRecursion P a → AllByRecursion P b → AllByRecursion P (a ++ b)
+all_both P [] b h g = g
+all_both P (x ∷ a) b h g = (h.0, all_both P a b h.1 g)
+
+small_taken : (line : ℕ) (metrics : Bool) (shipped : List Item) → AllByRecursion HasSmall shipped → AllByRecursion SmallSpot (map (spot line) (filter (is_taken metrics) shipped))
+small_taken line metrics [] h = tt
+small_taken line metrics (i ∷ shipped) h = go (is_taken metrics i) (filter (is_taken metrics) shipped) (small_taken line metrics shipped h.1)
+  where
+    go : (b : Bool) (rest : List Item) → AllByRecursion SmallSpot (map (spot line) rest) → AllByRecursion SmallSpot (map (spot line) (cond b (i ∷ rest) rest))
+    go true rest g = (h.0, g)
+    go false rest g = g
+
+small_included : (shipped : List Item) (item : Item) → AllByRecursion HasSmall shipped → AllByRecursion SmallSpot (included shipped item)
+small_included shipped (Include i) h = small_taken i.line i.metrics shipped h
+small_included shipped (Sync s) h = tt
+small_included shipped (Metric m) h = tt
+small_included shipped (Constraint c) h = tt
+small_included shipped (Hypothesis x) h = tt
+small_included shipped (Search s) h = tt
+small_included shipped (Phase p) h = tt
+small_included shipped (Wish w) h = tt
+
+small_spots : (shipped items : List Item) → AllByRecursion HasSmall shipped → AllByRecursion HasSmall items → AllByRecursion SmallSpot (spots shipped items)
+small_spots shipped [] h g = tt
+small_spots shipped (i ∷ items) h g = all_both SmallSpot (spots_of shipped i) (spots shipped items) (g.0, small_included shipped i h) (small_spots shipped items h g.1)
+
+abbrev SmallEntry : Entry → Type 0
+SmallEntry e = HasSmall e.item
+
+small_entries : (es : List Entry) → AllByRecursion SmallSpot (map spot_of es) → AllByRecursion SmallEntry es
+small_entries [] h = tt
+small_entries (e ∷ es) h = (h.0, small_entries es h.1)
+
+-- ---- the whole
+
+module _ (all : List Entry) where
+  abbrev SoundEntry : Entry → Type 0
+  SoundEntry e = Sound all e.line e.item
+
+  metrics_of : (es : List Entry) → AllByRecursion SoundEntry es → AllByRecursion (RightMetric all) (flat_map (λ e. metric_of e.line e.item) es)
+  metrics_of [] h = tt
+  metrics_of (e ∷ es) h = all_both (RightMetric all) (metric_of e.line e.item) (flat_map (λ e. metric_of e.line e.item) es) h.0.0 (metrics_of es h.1)
+
+  constraints_of : (es : List Entry) → AllByRecursion SoundEntry es → AllByRecursion RightConstraint (flat_map (λ e. constraint_of e.line e.item) es)
+  constraints_of [] h = tt
+  constraints_of (e ∷ es) h = all_both RightConstraint (constraint_of e.line e.item) (flat_map (λ e. constraint_of e.line e.item) es) h.0.1 (constraints_of es h.1)
+
+  right_entries : first_fault all ≡ None → AllByRecursion SmallEntry all → AllByRecursion SoundEntry all
+  right_entries none small =
+      all_zip (λ e. SmallEntry e → SoundEntry e) SmallEntry SoundEntry (λ e f s. f s) all
+      (right_from all (λ e. SmallEntry e → SoundEntry e) (λ before e r s. sound_item all before e.line e.item r.known r.right s) [] all none) small
+
+pub sound : (t : Resources) (shipped items : List Item) (es : List Entry) → AreEntries t (spots shipped items) es → first_fault es ≡ None → AllByRecursion HasSmall shipped → AllByRecursion HasSmall items → IsSound (checked_of es)
+sound t shipped items es are none h g =
+    let small = small_entries es (subst (AllByRecursion SmallSpot) (sym are.places_are) (small_spots shipped items h g)) in
+    let all = right_entries es none small in
+    let metrics = metrics_of es es all in
+    let constraints = constraints_of es es all in
+    let cs : List TheConstraint = flat_map (λ e. constraint_of e.line e.item) es in
+    let ms : List TheMetric = flat_map (λ e. metric_of e.line e.item) es in
+    record {
+      metrics = all_map (RightMetric es) IsSoundMetric (fitting_metric es) ms metrics;
+      constraints = all_map RightConstraint IsSoundConstraint fitting_constraint cs constraints;
+      replacements = all_map (RightMetric es) (TakesFitting cs) (λ m r. taken_fits es m cs refl constraints r) ms metrics;
+    }

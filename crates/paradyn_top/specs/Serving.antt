@@ -1,0 +1,45 @@
+-- What the top call leaves in its sinks.
+use Rattle.std.specs.Prelude.{◌≡◌, ◌≢◌, ◌⊎◌, ℕ, List, [], map, string_bytes, Option, Some, None, Result, Ok, Err}
+use Rattle.outside.specs.Outside.{Holding, IsCalm}
+use Rattle.refusals.specs.declared.fault.Fault.{Fault}
+use Rattle.refusals.specs.declared.fault.Fault.TheVariants.{FileFault}
+use Rattle.paradyn_top.specs.Answers.{status_of, texts_of}
+use Rattle.paradyn_top.specs.Delivery.{IsTorn, Gained}
+use Rattle.paradyn_top.specs.Due.{IsDue}
+use Rattle.paradyn_top.specs.Sights.{seen, CountedFor}
+use Rattle.paradyn_top.specs.declared.texts.Texts.{Texts}
+use Rattle.paradyn_top.specs.declared.program.Words.{Words}
+use Rattle.paradyn_top.specs.declared.program.Words.TheVariants.{Read, NotText, NoMemory}
+use Rattle.paradyn_top.specs.declared.top.Reply.{Reply}
+
+-- An answer is due for words and what was seen of the files. What these hold stays, and no count of faults rose but that
+-- of a file which the answer names as unread.
+pub record IsOwed {F : Type 0} (holds : F → List ℕ → Holding) (faults : F → List ℕ → ℕ) (old new : F) (words : List (List ℕ)) (answer : Result Texts Fault) : Type 0 where
+  pub due : IsDue words (seen (holds old) (faults old) (faults new)) answer
+  pub same : (name : List ℕ) → holds new name ≡ holds old name
+  pub counts : CountedFor holds faults old new answer
+
+-- Nothing was read beyond what is due: no count of faults rose, or the answer that is due names a file as unread.
+abbrev pub IsUntold : {F : Type 0} → (F → List ℕ → Holding) → (F → List ℕ → ℕ) → F → F → List (List ℕ) → Type 0
+IsUntold holds faults old new words = IsCalm faults old new ⊎ ((name : List ℕ) × IsOwed holds faults old new words (Err (FileFault name)))
+
+-- both sinks gained the texts of an answer
+abbrev pub AreGained : {K L : Type 0} → (K → Option (List ℕ)) → (K → ℕ) → K → K → (L → Option (List ℕ)) → (L → ℕ) → L → L → Texts → Type 0
+AreGained hasK faultsK oldK newK hasL faultsL oldL newL texts =
+    Gained hasK faultsK oldK newK texts.out × Gained hasL faultsL oldL newL texts.log
+
+-- one sink has a part of its text only: the log, and the output nothing; or the output, and the log all
+abbrev pub AreTorn : {K L : Type 0} → (K → Option (List ℕ)) → (K → ℕ) → K → K → (L → Option (List ℕ)) → (L → ℕ) → L → L → Texts → Type 0
+AreTorn hasK faultsK oldK newK hasL faultsL oldL newL texts =
+    ((newK ≡ oldK) × IsTorn hasL faultsL oldL newL texts.log) ⊎ (Gained hasL faultsL oldL newL texts.log × IsTorn hasK faultsK oldK newK texts.out)
+
+-- the words of a command line; words that aren't text are none, and are no command
+abbrev pub words_read : Words → Option (List (List ℕ))
+words_read (Read words) = Some (map string_bytes words.items)
+words_read NotText = Some []
+words_read NoMemory = None
+
+-- for proofs alone: the status and the bytes of an answer
+pub record IsReply (answer : Result Texts Fault) (reply : Reply) : Type 0 where
+  pub status : reply.status ≡ status_of answer
+  pub texts : reply.texts ≡ texts_of answer

@@ -1,0 +1,48 @@
+-- What was seen of files, and which counts of faults rose.
+use Rattle.std.specs.Prelude.{◌≡◌, ◌<◌, ◌≤◌, ℕ, List, length, Option, Some, None, Result, Ok, Err}
+use Rattle.outside.specs.Causes.{Rose}
+use Rattle.outside.specs.Outside.{Holding, IsWhole, IsCalm, ReadsOnly}
+use Rattle.refusals.specs.Refusals.{Step}
+use Rattle.refusals.specs.declared.fault.Fault.{Fault}
+use Rattle.refusals.specs.declared.fault.Fault.TheVariants.{Usage, FileFault, BadProgram, BadConf, BadPick, NotYet}
+use Rattle.refusals.specs.declared.refusal.Refusal.{Refusal}
+use Rattle.refusals.specs.declared.refusal.Refusal.TheVariants as refusal
+
+-- the bytes of the file of a name, or that it could not be read
+abbrev pub Sight : Type 1
+Sight = List ℕ → Step (List ℕ)
+
+-- A file was read to its end; or a reading failed, and the name's count of faults rose.
+abbrev pub seen : (List ℕ → Holding) → (List ℕ → ℕ) → (List ℕ → ℕ) → Sight
+seen holds before now name (Ok bytes) = IsWhole (holds name) bytes
+seen holds before now name (Err fault) = (fault ≡ FileFault name) × Rose (before name) (now name)
+
+-- a file was read to its end where it has at most so many bytes, and is longer otherwise
+abbrev pub IsRead : Sight → ℕ → List ℕ → Option (List ℕ) → Type 0
+IsRead sees most name (Some bytes) = sees name (Ok bytes) × (length bytes ≤ most)
+IsRead sees most name None = (bytes : List ℕ) × sees name (Ok bytes) × (most < length bytes)
+
+-- the counts of faults after a fault: none rose but that of the file which the fault names
+abbrev pub Counted : {F : Type 0} → (F → List ℕ → Holding) → (F → List ℕ → ℕ) → F → F → Fault → Type 0
+Counted holds faults old new (FileFault name) = ReadsOnly holds faults name old new
+Counted holds faults old new Usage = IsCalm faults old new
+Counted holds faults old new (BadProgram fault) = IsCalm faults old new
+Counted holds faults old new (BadConf fault) = IsCalm faults old new
+Counted holds faults old new (BadPick metric focus cause) = IsCalm faults old new
+Counted holds faults old new NotYet = IsCalm faults old new
+
+-- the counts of faults after an answer
+abbrev pub CountedFor : {A F : Type 0} → (F → List ℕ → Holding) → (F → List ℕ → ℕ) → F → F → Result A Fault → Type 0
+CountedFor holds faults old new (Ok a) = IsCalm faults old new
+CountedFor holds faults old new (Err fault) = Counted holds faults old new fault
+
+-- the counts of faults after a call; where memory is wanting none rose
+abbrev pub CountedAs : {A F : Type 0} → (F → List ℕ → Holding) → (F → List ℕ → ℕ) → F → F → Result A Refusal → Type 0
+CountedAs holds faults old new (Ok a) = IsCalm faults old new
+CountedAs holds faults old new (Err refusal.NoMemory) = IsCalm faults old new
+CountedAs holds faults old new (Err (refusal.Fault fault)) = Counted holds faults old new fault
+
+-- what every file holds stays, and the counts of faults are as the call's answer says
+pub record Looks {A F : Type 0} (holds : F → List ℕ → Holding) (faults : F → List ℕ → ℕ) (old new : F) (result : Result A Refusal) : Type 0 where
+  pub same : (name : List ℕ) → holds new name ≡ holds old name
+  pub counts : CountedAs holds faults old new result

@@ -1,0 +1,38 @@
+//! Files that are read to their ends.
+
+ghost use Rattle.std.specs.Prelude.{◌≡◌, IfOk, MatchResult, Err};
+ghost use Rattle.paradyn_top.specs.Sights.{seen, IsRead, Looks};
+ghost use Rattle.refusals.specs.Refusals.{Refuses};
+
+use outside::{Files, ReadFault, read_whole};
+use pn_types::{NoMemory, Seq, Text};
+use refusals::{Fault, Refusal};
+use std::alloc::Global;
+
+/// The bytes of a word as a text.
+pub(crate) fn text_of(alloc: Global, word: &str) -> Result<Text, NoMemory>
+    ensures { IfOk result (λ text. text ≡ word.now) }
+{
+    Ok(Text::from_vec(word.as_bytes().to_vec(alloc)?))
+}
+
+/// Reads a file to its end. None where it has more than `most` bytes.
+pub(crate) fn read_file<F: Files>(
+    alloc: Global,
+    files: &mut F,
+    name: &str,
+    most: u64,
+) -> Result<Option<Seq<u8>>, Refusal>
+    ensures read { MatchResult result (IsRead (seen (F.holds files.old) (F.faults files.old) (F.faults files.new)) most name.now)
+        (λ why. Refuses why (λ fault. seen (F.holds files.old) (F.faults files.old) (F.faults files.new) name.now (Err fault))) }
+    ensures looks { Looks F.holds F.faults files.old files.new result }
+{
+    // Made first, so that a file that was not read is never answered with want of memory.
+    let unread = text_of(alloc, name)?;
+    match read_whole(alloc, files, name, most) {
+        Ok(bytes) => Ok(Some(Seq::from_vec(bytes))),
+        Err(ReadFault::TooLong) => Ok(None),
+        Err(ReadFault::NoMemory) => Err(Refusal::NoMemory),
+        Err(ReadFault::Outside) => Err(Refusal::Fault(Fault::FileFault(unread))),
+    }
+}

@@ -1,0 +1,28 @@
+-- Steps that may be refused, one after another: the first refusal is that of all.
+use Rattle.std.specs.Prelude.{◌≡◌, ⊤, Result, Ok, Err}
+use Rattle.refusals.specs.declared.fault.Fault.{Fault}
+use Rattle.refusals.specs.declared.refusal.Refusal.{Refusal}
+use Rattle.refusals.specs.declared.refusal.Refusal.TheVariants as refusal
+
+-- what a step may come to: a value, or the fault by which it is refused
+abbrev pub Step : Type 0 → Type 1
+Step A = Result A Fault → Type 0
+
+-- what comes of a second step after what the first came to
+abbrev pub after : {A B : Type 0} → (A → Step B) → Result A Fault → Step B
+after next (Ok a) b = next a b
+after next (Err fault) b = b ≡ Err fault
+
+-- a step and then another
+abbrev pub Then : {A B : Type 0} → Step A → (A → Step B) → Step B
+Then {A} first next b = (a : Result A Fault) × first a × after next a b
+
+-- why a call was refused; want of memory is free
+abbrev pub Refuses : Refusal → (Fault → Type 0) → Type 0
+Refuses (refusal.Fault fault) why = why fault
+Refuses refusal.NoMemory why = ⊤
+
+-- what a call answered is what a step may come to
+abbrev pub Comes : {A : Type 0} → Result A Refusal → Step A → Type 0
+Comes (Ok a) step = step (Ok a)
+Comes (Err e) step = Refuses e (λ fault. step (Err fault))

@@ -1,0 +1,39 @@
+ghost use Rattle.std.specs.Prelude.{◌≡◌};
+ghost use Rattle.refusals.specs.Faults.{fault_status};
+
+use crate::configuration::ConfFault;
+use crate::program::ProgramFault;
+use pn_types::{PickCause, Text};
+
+/// Why the top call has no text to give.
+#[derive(Debug, Drop)]
+pub enum Fault {
+    /// The words are no command.
+    Usage,
+    /// The file of this name could not be read.
+    FileFault(Text),
+    /// The program is faulty.
+    BadProgram(ProgramFault),
+    /// The configuration is faulty.
+    BadConf(ConfFault),
+    /// The metric of this name can't be measured at the focus of this text.
+    BadPick(Text, Text, PickCause),
+    /// A part of the input isn't supported yet.
+    NotYet,
+}
+
+impl Fault {
+    /// The status of the program.
+    pub fn status(&self) -> u8
+        ensures { result ≡ fault_status self.now }
+    {
+        match self {
+            Fault::Usage => 2,
+            Fault::FileFault(_) => 3,
+            Fault::BadProgram(_) => 4,
+            Fault::BadConf(_) => 5,
+            Fault::BadPick(_, _, _) => 6,
+            Fault::NotYet => 10,
+        }
+    }
+}

@@ -1,0 +1,14 @@
+//! Why the top call has no text to give: the faults with their lines and statuses, and steps that may be refused.
+#![tactic(auto)]
+
+mod configuration;
+mod fault;
+mod lines;
+mod program;
+mod refusal;
+
+pub use configuration::{ConfFault, ConfKind, check_kind, syntax_kind};
+pub use fault::Fault;
+pub use lines::faults_text;
+pub use program::ProgramFault;
+pub use refusal::Refusal;

@@ -1,0 +1,87 @@
+ghost use Rattle.std.specs.Prelude.{◌≡◌, ◌++◌, OnOk, IfOk};
+ghost use Rattle.refusals.specs.Faults.{conf_text, pick_text, fault_line};
+
+use crate::configuration::ConfFault;
+use crate::fault::Fault;
+use crate::program::{ProgramFault, add_number, add_program};
+use pn_types::{NoMemory, PickCause, Text};
+use std::alloc::Global;
+
+fn bad_program(alloc: Global, fault: ProgramFault) -> Result<Vec<u8>, NoMemory>
+    ensures { IfOk result (λ text. text.items ≡ fault_line (Fault.BadProgram fault)) }
+{
+    let mut line = Vec::new(alloc);
+    line.extend_from_slice(b"paradyn: bad program: ")?;
+    add_program(alloc, &mut line, fault)?;
+    line.extend_from_slice(b"\n")?;
+    Ok(line)
+}
+
+/// Adds what is wrong with a configuration, and where.
+fn add_configuration(alloc: Global, line: &mut Vec<u8>, fault: ConfFault) -> Result<(), NoMemory>
+    ensures { OnOk result (line.new.items ≡ line.old.items ++ conf_text fault) }
+{
+    add_number(alloc, line, b"line ", fault.line as u128)?;
+    add_number(alloc, line, b" column ", fault.col as u128)?;
+    line.extend_from_slice(b": ")?;
+    line.extend_from_slice(fault.kind.text())
+}
+
+fn bad_configuration(alloc: Global, fault: ConfFault) -> Result<Vec<u8>, NoMemory>
+    ensures { IfOk result (λ text. text.items ≡ fault_line (Fault.BadConf fault)) }
+{
+    let mut line = Vec::new(alloc);
+    line.extend_from_slice(b"paradyn: bad configuration: ")?;
+    add_configuration(alloc, &mut line, fault)?;
+    line.extend_from_slice(b"\n")?;
+    Ok(line)
+}
+
+/// Adds a metric at a focus.
+fn add_pick(line: &mut Vec<u8>, metric: &Text, focus: &Text) -> Result<(), NoMemory>
+    ensures { OnOk result (line.new.items ≡ line.old.items ++ pick_text metric.now focus.now) }
+{
+    line.extend_from_slice(metric.bytes())?;
+    line.extend_from_slice(b" ")?;
+    line.extend_from_slice(focus.bytes())
+}
+
+fn bad_pick(
+    alloc: Global,
+    metric: &Text,
+    focus: &Text,
+    cause: PickCause,
+) -> Result<Vec<u8>, NoMemory>
+    ensures { IfOk result (λ text. text.items ≡ fault_line (Fault.BadPick metric.now focus.now cause)) }
+{
+    let mut line = Vec::new(alloc);
+    line.extend_from_slice(b"paradyn: cannot measure ")?;
+    add_pick(&mut line, metric, focus)?;
+    let end = format!(in alloc; ": {cause}\n")?;
+    line.extend_from_slice(end.as_bytes())?;
+    Ok(line)
+}
+
+/// The line of a fault.
+pub fn faults_text(alloc: Global, fault: &Fault) -> Result<Vec<u8>, NoMemory>
+    ensures { IfOk result (λ text. text.items ≡ fault_line fault.now) }
+{
+    match fault {
+        Fault::Usage => Ok(b"paradyn: usage\n".to_vec(alloc)?),
+        Fault::FileFault(name) => Ok(unreadable(alloc, name)?),
+        Fault::BadProgram(fault) => Ok(bad_program(alloc, *fault)?),
+        Fault::BadConf(fault) => Ok(bad_configuration(alloc, *fault)?),
+        Fault::BadPick(metric, focus, cause) => Ok(bad_pick(alloc, metric, focus, *cause)?),
+        Fault::NotYet => Ok(b"paradyn: not yet\n".to_vec(alloc)?),
+    }
+}
+
+fn unreadable(alloc: Global, name: &Text) -> Result<Vec<u8>, NoMemory>
+    ensures { IfOk result (λ text. text.items ≡ fault_line (Fault.FileFault name.now)) }
+{
+    let mut line = Vec::new(alloc);
+    line.extend_from_slice(b"paradyn: cannot read ")?;
+    line.extend_from_slice(name.bytes())?;
+    line.extend_from_slice(b"\n")?;
+    Ok(line)
+}

@@ -1,0 +1,74 @@
+ghost use Rattle.std.specs.Prelude.{◌≡◌, ◌<◌, length, None, is_none};
+ghost use Rattle.rv_word.specs.Exec.{exec_of, prog_of};
+ghost use Rattle.rv_exec.specs.Gives.{Gives, next_after};
+
+use crate::flat::{Flat, flattened};
+use crate::output::Output;
+use crate::regs::Regs;
+use crate::reservations::Reservations;
+use crate::running::run;
+use pn_types::HartNo;
+use rv_mem::Mem;
+use rv_word::{Cause, decode};
+use std::marker::Model;
+
+/// A word with its instruction beside it, so that it is decoded once however often it is executed. Contracts see the
+/// word.
+#[derive(Drop)]
+pub struct Decoded {
+    flat: Flat,
+    word: u32,
+}
+
+impl Model for Decoded {
+    ghost use Rattle.std.specs.Prelude.{ℕ, ◌≡◌, IfSome};
+    ghost use Rattle.rv_word.specs.Table.{decode_of};
+    ghost use Rattle.rv_word.specs.Words.{HasWord};
+    ghost use Rattle.rv_exec.specs.Flat.{instr_of};
+
+    ghost Value = { ℕ };
+
+    ghost view = { λ d. d.word };
+
+    ghost invariant = { λ d. (instr_of d.flat ≡ decode_of d.word) × IfSome (instr_of d.flat) HasWord };
+}
+
+impl Decoded {
+    /// The word, decoded.
+    pub fn new(word: u32) -> Decoded
+        ensures { result ≡ word }
+    {
+        Decoded {
+            flat: flattened(decode(word)),
+            word,
+        }
+    }
+
+    /// The word.
+    pub fn word(&self) -> u32
+        ensures { result ≡ self.now }
+    {
+        self.word
+    }
+
+    /// Executes the word at pc, by a hart that isn't stopped. It leaves the next pc, or the cause for which the hart
+    /// stops, and says whether the hart goes on. A stop changes nothing else. It takes no memory.
+    #[inline(always)]
+    pub fn run(
+        &self,
+        hart: HartNo,
+        pc: &mut u64,
+        stop: &mut Option<Cause>,
+        regs: &mut Regs,
+        mem: &mut Mem,
+        resv: &mut Reservations,
+        out: &mut Output,
+    ) -> bool
+        requires stop { stop.old ≡ None }
+        requires hart { hart < length resv.old }
+        ensures goes { result ≡ is_none stop.new }
+        ensures state { Gives (exec_of self.now pc.old hart regs.old (prog_of mem.old resv.old out.old)) regs.old (prog_of mem.old resv.old out.old) (next_after stop.new pc.new) regs.new (prog_of mem.new resv.new out.new) }
+    {
+        run(&self.flat, hart, pc, stop, regs, mem, resv, out)
+    }
+}

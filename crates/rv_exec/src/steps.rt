@@ -1,0 +1,251 @@
+//! What the forms of instructions do to the pc, the registers, the memory and the reservations. Each step answers whether
+//! the hart goes on, and else notes the cause of the stop.
+
+ghost use Rattle.std.specs.Prelude.{true, ◌≡◌, ◌<◌, ◌≤◌, length, List, ℕ, Option, None, is_none};
+ghost use Rattle.rv_word.specs.Exec.{Prog, perform, prog_of, next};
+ghost use Rattle.rv_word.specs.Registers.{reg, with_reg};
+ghost use Rattle.rv_word.specs.Values.{imm_value, shift_value, shift_word_value, reg_value, reg_32_value, store_len};
+ghost use Rattle.rv_word.specs.declared.action.Action.TheVariants.{Jump, BranchTo, ReadMemory, WriteMemory};
+ghost use Rattle.rv_exec.specs.Gives.{Gives, next_after};
+
+use crate::outcomes::{cause_of, next_pc};
+use crate::regs::Regs;
+use crate::reservations::Reservations;
+use crate::values::{
+    imm_result, load_result, load_width, reg_32_result, reg_result, shift_result,
+    shift_word_result, store_width,
+};
+use pn_types::HartNo;
+use rv_mem::Mem;
+use rv_word::{Cause, ImmOp, LoadOp, RegOp, RegOp32, ShiftOp, StoreOp};
+
+/// The value goes to rd, and the pc behind the word.
+#[inline(always)]
+pub fn compute(rd: u32, value: u64, pc: &mut u64, regs: &mut Regs) -> bool
+    requires { rd < 32 }
+    ensures goes { result ≡ true }
+    ensures pc { pc.new ≡ next pc.old }
+    ensures regs { regs.new ≡ with_reg regs.old rd value }
+{
+    regs.set(rd, value);
+    *pc = next_pc(*pc);
+    true
+}
+
+/// An operation on a register and an immediate.
+#[inline(always)]
+pub fn immediate(op: ImmOp, rd: u32, rs1: u32, imm: u64, pc: &mut u64, regs: &mut Regs) -> bool
+    requires { (rd < 32) × (rs1 < 32) }
+    ensures goes { result ≡ true }
+    ensures pc { pc.new ≡ next pc.old }
+    ensures regs { regs.new ≡ with_reg regs.old rd (imm_value op (reg regs.old rs1) imm) }
+{
+    compute(rd, imm_result(op, regs.get(rs1), imm), pc, regs)
+}
+
+/// A shift by a number of bits below 64.
+#[inline(always)]
+pub fn shift(op: ShiftOp, rd: u32, rs1: u32, by: u32, pc: &mut u64, regs: &mut Regs) -> bool
+    requires { (rd < 32) × (rs1 < 32) × (by < 64) }
+    ensures goes { result ≡ true }
+    ensures pc { pc.new ≡ next pc.old }
+    ensures regs { regs.new ≡ with_reg regs.old rd (shift_value op (reg regs.old rs1) by) }
+{
+    compute(rd, shift_result(op, regs.get(rs1), by), pc, regs)
+}
+
+/// A shift of the low half by a number of bits below 32.
+#[inline(always)]
+pub fn shift_32(op: ShiftOp, rd: u32, rs1: u32, by: u32, pc: &mut u64, regs: &mut Regs) -> bool
+    requires { (rd < 32) × (rs1 < 32) × (by < 32) }
+    ensures goes { result ≡ true }
+    ensures pc { pc.new ≡ next pc.old }
+    ensures regs { regs.new ≡ with_reg regs.old rd (shift_word_value op (reg regs.old rs1) by) }
+{
+    compute(rd, shift_word_result(op, regs.get(rs1), by), pc, regs)
+}
+
+/// An operation on two registers.
+#[inline(always)]
+pub fn operate(op: RegOp, rd: u32, rs1: u32, rs2: u32, pc: &mut u64, regs: &mut Regs) -> bool
+    requires { (rd < 32) × (rs1 < 32) × (rs2 < 32) }
+    ensures goes { result ≡ true }
+    ensures pc { pc.new ≡ next pc.old }
+    ensures regs { regs.new ≡ with_reg regs.old rd (reg_value op (reg regs.old rs1) (reg regs.old rs2)) }
+{
+    compute(rd, reg_result(op, regs.get(rs1), regs.get(rs2)), pc, regs)
+}
+
+/// An operation on the low halves of two registers.
+#[inline(always)]
+pub fn operate_32(op: RegOp32, rd: u32, rs1: u32, rs2: u32, pc: &mut u64, regs: &mut Regs) -> bool
+    requires { (rd < 32) × (rs1 < 32) × (rs2 < 32) }
+    ensures goes { result ≡ true }
+    ensures pc { pc.new ≡ next pc.old }
+    ensures regs { regs.new ≡ with_reg regs.old rd (reg_32_value op (reg regs.old rs1) (reg regs.old rs2)) }
+{
+    compute(
+        rd,
+        reg_32_result(op, regs.get(rs1), regs.get(rs2)),
+        pc,
+        regs,
+    )
+}
+
+/// A jump, whose register takes the address behind the word.
+#[inline(always)]
+#[tactic(auto, unfolding(rv_word::specs::Exec::perform))]
+pub fn jump(rd: u32, target: u64, pc: &mut u64, stop: &mut Option<Cause>, regs: &mut Regs) -> bool
+    requires rd { rd < 32 }
+    requires stop { stop.old ≡ None }
+    ensures goes { result ≡ is_none stop.new }
+    ensures state { (p : Prog) → Gives (perform 0 (Jump rd target) pc.old regs.old p) regs.old p (next_after stop.new pc.new) regs.new p }
+{
+    if target % 4 != 0 {
+        *stop = Some(Cause::Misaligned);
+        return false;
+    }
+    regs.set(rd, next_pc(*pc));
+    *pc = target;
+    true
+}
+
+/// A branch, which is taken or not.
+#[inline(always)]
+#[tactic(auto, unfolding(rv_word::specs::Exec::perform))]
+pub fn branch(taken: bool, target: u64, pc: &mut u64, stop: &mut Option<Cause>) -> bool
+    requires { stop.old ≡ None }
+    ensures goes { result ≡ is_none stop.new }
+    ensures state { (p : Prog) (regs : List ℕ) → Gives (perform 0 (BranchTo taken target) pc.old regs p) regs p (next_after stop.new pc.new) regs p }
+{
+    if !taken {
+        *pc = next_pc(*pc);
+        return true;
+    }
+    if target % 4 != 0 {
+        *stop = Some(Cause::Misaligned);
+        return false;
+    }
+    *pc = target;
+    true
+}
+
+/// What a load does but for the pc, wherever the bytes are.
+#[inline(never)]
+#[tactic(auto, unfolding(rv_word::specs::Exec::perform))]
+fn read_anywhere(
+    op: LoadOp,
+    rd: u32,
+    at: u64,
+    stop: &mut Option<Cause>,
+    regs: &mut Regs,
+    mem: &Mem,
+) -> bool
+    requires rd { rd < 32 }
+    requires stop { stop.old ≡ None }
+    ensures goes { result ≡ is_none stop.new }
+    ensures state { (pc : ℕ) (resv : List (Option ℕ)) (out : List ℕ) → Gives (perform 0 (ReadMemory op rd at) pc regs.old (prog_of mem.now resv out)) regs.old (prog_of mem.now resv out) (next_after stop.new (next pc)) regs.new (prog_of mem.now resv out) }
+{
+    match mem.load(at, load_width(op)) {
+        Ok(n) => {
+            regs.set(rd, load_result(op, n));
+            true
+        }
+        Err(e) => {
+            *stop = Some(cause_of(e));
+            false
+        }
+    }
+}
+
+/// A load.
+#[inline(always)]
+#[tactic(auto, unfolding(rv_word::specs::Exec::perform))]
+pub fn read(
+    op: LoadOp,
+    rd: u32,
+    at: u64,
+    pc: &mut u64,
+    stop: &mut Option<Cause>,
+    regs: &mut Regs,
+    mem: &Mem,
+) -> bool
+    requires rd { rd < 32 }
+    requires stop { stop.old ≡ None }
+    ensures goes { result ≡ is_none stop.new }
+    ensures state { (resv : List (Option ℕ)) (out : List ℕ) → Gives (perform 0 (ReadMemory op rd at) pc.old regs.old (prog_of mem.now resv out)) regs.old (prog_of mem.now resv out) (next_after stop.new pc.new) regs.new (prog_of mem.now resv out) }
+{
+    if let Some(n) = mem.quick_load(at, load_width(op)) {
+        regs.set(rd, load_result(op, n));
+        *pc = next_pc(*pc);
+        return true;
+    }
+    if !read_anywhere(op, rd, at, stop, regs, mem) {
+        return false;
+    }
+    *pc = next_pc(*pc);
+    true
+}
+
+/// What a store does but for the pc, wherever the bytes are.
+#[inline(never)]
+#[tactic(auto, unfolding(rv_word::specs::Exec::perform))]
+fn write_anywhere(
+    len: u32,
+    hart: HartNo,
+    at: u64,
+    value: u64,
+    stop: &mut Option<Cause>,
+    mem: &mut Mem,
+    resv: &mut Reservations,
+) -> bool
+    requires hart { hart < length resv.old }
+    requires len { (1 ≤ len) × (len ≤ 8) }
+    requires stop { stop.old ≡ None }
+    ensures harts { length resv.new ≡ length resv.old }
+    ensures goes { result ≡ is_none stop.new }
+    ensures state { (pc : ℕ) (regs out : List ℕ) → Gives (perform hart (WriteMemory len at value) pc regs (prog_of mem.old resv.old out)) regs (prog_of mem.old resv.old out) (next_after stop.new (next pc)) regs (prog_of mem.new resv.new out) }
+{
+    match mem.store(at, len, value) {
+        Ok(()) => {
+            resv.break_others(hart, at / 8, at.wrapping_add((len - 1) as u64) / 8);
+            true
+        }
+        Err(e) => {
+            *stop = Some(cause_of(e));
+            false
+        }
+    }
+}
+
+/// A store.
+#[inline(always)]
+#[tactic(auto, unfolding(rv_word::specs::Exec::perform))]
+pub fn write(
+    op: StoreOp,
+    hart: HartNo,
+    at: u64,
+    value: u64,
+    pc: &mut u64,
+    stop: &mut Option<Cause>,
+    mem: &mut Mem,
+    resv: &mut Reservations,
+) -> bool
+    requires hart { hart < length resv.old }
+    requires stop { stop.old ≡ None }
+    ensures harts { length resv.new ≡ length resv.old }
+    ensures goes { result ≡ is_none stop.new }
+    ensures state { (regs out : List ℕ) → Gives (perform hart (WriteMemory (store_len op) at value) pc.old regs (prog_of mem.old resv.old out)) regs (prog_of mem.old resv.old out) (next_after stop.new pc.new) regs (prog_of mem.new resv.new out) }
+{
+    let len = store_width(op);
+    if mem.quick_store(at, len, value) {
+        resv.break_others(hart, at / 8, at.wrapping_add((len - 1) as u64) / 8);
+        *pc = next_pc(*pc);
+        return true;
+    }
+    if !write_anywhere(len, hart, at, value, stop, mem, resv) {
+        return false;
+    }
+    *pc = next_pc(*pc);
+    true
+}

@@ -1,0 +1,88 @@
+use crate::given::Given;
+use outside::{MemFiles, MemSink, StdSink, write_all};
+use paradyn_top::{Words, run_program};
+use pn_types::NoMemory;
+use std::alloc::Global;
+use std::io;
+
+/// The room of each sink in bytes.
+const ROOM: u64 = 2_000_000;
+
+/// Files and sinks in memory.
+#[derive(Drop)]
+pub struct Case {
+    files: Vec<Given>,
+    piece: u64,
+    out_fails: Vec<u64>,
+    log_fails: Vec<u64>,
+}
+
+/// The words of a line, between single spaces.
+fn words(alloc: Global, line: Option<&str>) -> Result<Words, NoMemory> {
+    let Some(line) = line else {
+        return Ok(Words::NotText);
+    };
+    let mut words = Vec::new(alloc);
+    if !line.is_empty() {
+        for word in line.split(' ') {
+            words.push(String::from_str(alloc, word)?)?;
+        }
+    }
+    Ok(Words::Read(words))
+}
+
+impl Case {
+    /// No files, and sinks that take everything.
+    pub fn new(alloc: Global) -> Case {
+        Case {
+            files: Vec::new(alloc),
+            piece: ROOM,
+            out_fails: Vec::new(alloc),
+            log_fails: Vec::new(alloc),
+        }
+    }
+
+    /// The case after what a line says.
+    pub fn with(mut self, alloc: Global, word: &str, rest: &str) -> Result<Case, NoMemory> {
+        match word {
+            "new" => return Ok(Case::new(alloc)),
+            "file" => self.files.push(Given::new(alloc, rest, true)?)?,
+            "absent" => self.files.push(Given::new(alloc, rest, false)?)?,
+            "piece" => self.piece = rest.parse().unwrap_or(ROOM),
+            "fail-out" => self.out_fails.push(rest.parse().unwrap_or(0))?,
+            "fail-log" => self.log_fails.push(rest.parse().unwrap_or(0))?,
+            _ => {
+                if let Some(last) = self.files.last_mut() {
+                    last.change(alloc, word, rest)?;
+                }
+            }
+        }
+        Ok(self)
+    }
+
+    /// The files, as none has been read.
+    fn files(&self, alloc: Global) -> Result<MemFiles, NoMemory> {
+        let mut files = MemFiles::new(alloc);
+        for given in &self.files {
+            given.give(alloc, &mut files)?;
+        }
+        Ok(files)
+    }
+
+    /// Serves words, and prints how the program ends and what the sinks gained.
+    pub fn serve(&self, rt: HostRuntime, alloc: Global, line: Option<&str>) -> io::Result<()> {
+        let words = words(alloc, line)?;
+        let mut files = self.files(alloc)?;
+        let out_fails = Vec::from_slice(alloc, &self.out_fails)?;
+        let log_fails = Vec::from_slice(alloc, &self.log_fails)?;
+        let mut out = MemSink::new(alloc, ROOM, self.piece, out_fails)?;
+        let mut log = MemSink::new(alloc, ROOM, self.piece, log_fails)?;
+        let exit = run_program(alloc, &words, &mut files, &mut out, &mut log);
+        let count = out.bytes().len();
+        let logged = log.bytes().len();
+        println!(rt; "{exit:?} out {count} log {logged}")?;
+        let mut printed = StdSink::new(rt);
+        let _ = write_all(&mut printed, out.bytes());
+        println!(rt; "")
+    }
+}

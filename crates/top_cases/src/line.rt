@@ -1,0 +1,29 @@
+/// What a line of the table says.
+#[derive(Clone, Copy, Drop)]
+pub enum Line<'a> {
+    /// What is given: a word and what stands behind it.
+    Given(&'a str, &'a str),
+    /// Words that are served, or none where they aren't text.
+    Served(Option<&'a str>),
+    /// Nothing.
+    Nothing,
+}
+
+impl<'a> Line<'a> {
+    /// Reads a line.
+    pub fn of(text: &'a str) -> Line<'a> {
+        if let Some(rest) = text.strip_prefix('|') {
+            return Line::Given("|", rest);
+        }
+        let (word, rest) = match text.split_once(' ') {
+            Some((word, rest)) => (word, rest),
+            None => (text, ""),
+        };
+        match word {
+            "words" => Line::Served(Some(rest)),
+            "not-text" => Line::Served(None),
+            "" | "#" => Line::Nothing,
+            _ => Line::Given(word, rest),
+        }
+    }
+}

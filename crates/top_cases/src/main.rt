@@ -1,0 +1,39 @@
+//! Runs the top call over files and sinks in memory, as the lines of the standard input say, and prints the status and
+//! what the sinks gained.
+//!
+//! - `new`: no files, no words, sinks that take everything.
+//! - `file NAME`: a file without bytes so far. `absent NAME`: a name that can't be read.
+//! - `|TEXT`: TEXT and a line's end behind the last file's bytes. `hex DIGITS`: these bytes. `fill COUNT DIGITS`: so many times
+//!   these bytes. `cut COUNT`: only so many of the bytes stay. `byte PLACE DIGITS`: the bytes from that place on are these.
+//! - `fail NUMBER`: this reading of the last file fails, counted from 0.
+//! - `piece COUNT`: a writing takes at most so many bytes. `fail-out NUMBER`, `fail-log NUMBER`: this writing fails.
+//! - `words WORDS`: the words, between single spaces, are served. `not-text`: words that aren't text are.
+//!
+//! Other lines say nothing.
+#![tactic(auto)]
+
+mod case;
+mod given;
+mod line;
+
+use crate::case::Case;
+use crate::line::Line;
+use std::io;
+
+fn main(rt: HostRuntime) -> io::Result<()> {
+    let alloc = rt.alloc();
+    let mut case = Case::new(alloc);
+    for line in rt.lines(alloc) {
+        let line = line?;
+        let text = line.as_str();
+        match Line::of(text) {
+            Line::Given(word, rest) => case = case.with(alloc, word, rest)?,
+            Line::Served(words) => {
+                println!(rt; "{text}")?;
+                case.serve(rt, alloc, words)?;
+            }
+            Line::Nothing => {}
+        }
+    }
+    Ok(())
+}
