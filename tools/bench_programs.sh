@@ -1,7 +1,8 @@
 #!/usr/bin/env bash
 # Notes how fast real programs run: for each of the eleven longest ELF files of FOLDER, on one hart, its turns, the host's
-# instructions a turn (callgrind's, the same from run to run) and the turns a second. What a run of one turn takes is taken
-# off. At the end the geometric means. PARADYN is the built program (crates/paradyn/out/paradyn where left out).
+# instructions a turn (callgrind's, the same from run to run), and for those of 5,000,000 turns and more the turns a second:
+# shorter ones end before their time can be told from the start of the process. What a run of one turn takes is taken off.
+# At the end the geometric mean of the instructions. PARADYN is the built program (crates/paradyn/out/paradyn where left out).
 # usage: tools/bench_programs.sh FOLDER [PARADYN]
 set -eu
 top=$(cd "$(dirname "$0")/.." && pwd)
@@ -34,9 +35,11 @@ for file in "$folder"/*.elf; do
   [ -n "$turns" ] && echo "$turns $file"
 done | sort -nr | head -11 | while read -r turns file; do
   host=$(($(instructions "$file" 100000000) - $(instructions "$file" 1)))
-  nanoseconds=$(($(time_of "$file" 100000000) - $(time_of "$file" 1)))
+  nanoseconds=0
+  if [ "$turns" -ge 5000000 ]; then nanoseconds=$(($(time_of "$file" 100000000) - $(time_of "$file" 1))); fi
   echo "$(basename "$file" .elf) $turns $host $nanoseconds"
 done | awk '
-  { each = $3 / $2; speed = $2 * 1000 / $4; logs += log(each); speeds += log(speed)
-    printf "| %s | %d | %.1f | %.0f million |\n", $1, $2, each, speed }
-  END { printf "| mean | | %.1f | %.0f million |\n", exp(logs / NR), exp(speeds / NR) }'
+  { each = $3 / $2; logs += log(each); speed = "-"
+    if ($4 > 0) speed = sprintf("%.0f million", $2 * 1000 / $4)
+    printf "| %s | %d | %.1f | %s |\n", $1, $2, each, speed }
+  END { printf "| mean | | %.1f | |\n", exp(logs / NR) }'
