@@ -44,3 +44,12 @@ pub const MAX_IMAGE_SIZE: u64 = 25_165_824;
 
 /// The greatest length of a text, in bytes.
 pub const MAX_TEXT_LEN: u64 = 524_288;
+
+/// The length of the tool text, in bytes.
+pub const TOOL_TEXT_LEN: u64 = 393_216;
+
+/// The number of doublewords of a hart's bank.
+pub const BANK_LEN: u32 = 4_096;
+
+/// The first doubleword of a bank that is a slot: 0 reads as the hart's ticks, and 1 saves x5.
+pub const FIRST_SLOT: u32 = 2;
