@@ -4,3 +4,4 @@ pub mod Readies
 pub mod ScheduleLemmas
 pub mod AloneLemmas
 pub mod OneSchedules
+pub mod Turns

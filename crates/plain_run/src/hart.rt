@@ -3,7 +3,7 @@ ghost use Rattle.rv_word.specs.Plain.{may_go};
 ghost use Rattle.plain_run.specs.Views.{hart_of, alone_of};
 ghost use Rattle.plain_run.specs.Alone.{TakesAlone};
 
-use crate::program::{fetch, place_of, word_at};
+use crate::program::{place_of, word_at};
 use pn_types::HartNo;
 use rv_exec::{Decoded, Output, Regs, Reservations};
 use rv_mem::Mem;
@@ -53,19 +53,13 @@ pub fn take_turns(
     for turns in 0..limit as u32 {
         let at = pc;
         let i = place_of(text_at, at);
-        let word = if i < words.len() as u64 {
-            word_at(words, i, text_at, at)
-        } else {
-            match fetch(words, text_at, at) {
-                Some(word) => word,
-                None => {
-                    hart.pc = at;
-                    hart.ticks = ticks + turns as u64 + 1;
-                    hart.stop = Some(Cause::FetchOutside);
-                    return turns + 1;
-                }
-            }
-        };
+        if i >= words.len() as u64 {
+            hart.pc = at;
+            hart.ticks = ticks + turns as u64 + 1;
+            hart.stop = Some(Cause::FetchOutside);
+            return turns + 1;
+        }
+        let word = word_at(words, i, text_at, at);
         if !word.run(
             number,
             &mut pc,

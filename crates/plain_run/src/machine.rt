@@ -1,4 +1,4 @@
-ghost use Rattle.std.specs.Prelude.{◌≡◌, ◌<◌, ◌≤◌, ◌==◌, not, if◌then◌else◌, IfOk, Some, length, slice_get};
+ghost use Rattle.std.specs.Prelude.{◌≡◌, ◌<◌, ◌≤◌, ◌==◌, not, if◌then◌else◌, IfOk, IsTrue, Some, length, slice_get};
 ghost use Rattle.std.specs.List.{filter};
 ghost use Rattle.std.specs.Option.{option_map};
 ghost use Rattle.pn_types.specs.Images.{IsImage};
@@ -7,6 +7,7 @@ ghost use Rattle.rv_mem.specs.Start.{program_of, heap_len, stack_len};
 ghost use Rattle.rv_exec.specs.Start.{start, start_regs, harts_from};
 ghost use Rattle.turn_order.specs.Orders.{ready_of};
 ghost use Rattle.plain_run.specs.Views.{hart_of, harts_of, ready_harts};
+ghost use Rattle.plain_run.specs.Machines.{turned};
 ghost use Rattle.plain_run.specs.Scheduled.{TakesQuantum};
 
 use crate::hart::{HartState, take_turns};
@@ -150,6 +151,15 @@ impl PlainMachine {
         ensures { result ≡ can self.now.budget self.now.state hart }
     {
         self.harts[hart.get() as usize].may_go(self.budget)
+    }
+
+    /// One turn of the hart, which is one tick: its word is executed, or it stops where no word is. It takes no memory.
+    pub fn step(&mut self, hart: HartNo)
+        requires hart { hart < length self.old.state.harts }
+        requires runnable { IsTrue (can self.old.budget self.old.state hart) }
+        ensures { self.new ≡ turned self.old hart }
+    {
+        self.take_turns(hart, 1);
     }
 
     /// The harts that can take a turn.

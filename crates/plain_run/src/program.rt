@@ -1,7 +1,6 @@
-ghost use Rattle.std.specs.Prelude.{◌≡◌, ℕ, ◌<◌, ◌+◌, ◌*◌, ◌^◌, Some, IfOk, length};
+ghost use Rattle.std.specs.Prelude.{◌≡◌, ℕ, List, ◌<◌, ◌≤◌, ◌+◌, ◌*◌, ◌^◌, Some, None, IfOk, length};
 ghost use Rattle.rv_word.specs.Names.{words_of};
 ghost use Rattle.rv_word.specs.Plain.{program_word};
-ghost use Rattle.std.specs.Option.{option_copied};
 
 use pn_types::NoMemory;
 use rv_exec::Decoded;
@@ -22,23 +21,13 @@ pub fn words(alloc: Global, text: &[u8]) -> Result<Vec<Decoded>, NoMemory>
     Ok(words)
 }
 
-/// The word at an address, where the text has one there.
-#[inline(never)]
-pub fn fetch(words: &[Decoded], text_at: u64, pc: u64) -> Option<&Decoded>
-    ensures { option_copied result ≡ program_word (record { at = text_at; words = words.now }) pc }
-{
-    if pc < text_at || (pc - text_at) % 4 != 0 {
-        return None;
-    }
-    words.get(((pc - text_at) / 4) as usize)
-}
-
 /// The number of the word at the pc, if the text has one there, and else a number that is too great. The distance from the
 /// text's begin is turned by two bits, so that one that is no multiple of 4, or is below 0, is great, and one test finds
 /// all of these.
 #[inline(always)]
 pub fn place_of(text_at: u64, pc: u64) -> u64
-    ensures { (len : ℕ) → text_at + 4 * len < 2 ^ 64 → result < len → pc ≡ text_at + 4 * result }
+    ensures place { (len : ℕ) → text_at + 4 * len < 2 ^ 64 → result < len → pc ≡ text_at + 4 * result }
+    ensures outside { (words : List ℕ) → text_at + 4 * length words < 2 ^ 64 → length words ≤ result → program_word (record { at = text_at; words = words }) pc ≡ None }
 {
     let away = pc.wrapping_sub(text_at);
     away / 4 + away % 4 * 0x4000_0000_0000_0000

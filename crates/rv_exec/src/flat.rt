@@ -10,26 +10,28 @@ use rv_word::{
 };
 
 /// The register that takes the result.
-type Rd = u32;
+pub type Rd = u32;
 
 /// The register of the first operand.
-type Rs1 = u32;
+pub type Rs1 = u32;
 
 /// The register of the second operand.
-type Rs2 = u32;
+pub type Rs2 = u32;
 
-type Immediate = u64;
+/// The 64-bit number that is added or compared.
+pub type Immediate = u64;
 
-type Offset = u64;
+/// The 64-bit number that is added to the address or the pc.
+pub type Offset = u64;
 
 /// By how many bits a shift shifts.
-type Amount = u32;
+pub type Amount = u32;
 
 /// The highest twelve bits of a fence.
-type High = u32;
+pub type High = u32;
 
 /// The bits aq and rl.
-type Order = u32;
+pub type Order = u32;
 
 /// An instruction by its operation, or `Illegal` for a word that is none.
 #[derive(Clone, Copy, Drop)]
@@ -248,13 +250,9 @@ fn flat_atomic(instr: Instr) -> Flat
     }
 }
 
-/// The instruction by its operation.
-pub fn flattened(instr: Option<Instr>) -> Flat
-    ensures { instr_of result ≡ instr }
+fn flat_of(instr: Instr) -> Flat
+    ensures { instr_of result ≡ Some instr }
 {
-    let Some(instr) = instr else {
-        return Flat::Illegal;
-    };
     match instr {
         Instr::Lui { rd, imm } => Flat::Lui(rd, imm),
         Instr::Auipc { rd, imm } => Flat::Auipc(rd, imm),
@@ -288,5 +286,15 @@ pub fn flattened(instr: Option<Instr>) -> Flat
         Instr::Ecall => Flat::Ecall,
         Instr::Ebreak => Flat::Ebreak,
         Instr::Lr { .. } | Instr::Sc { .. } | Instr::Amo { .. } => flat_atomic(instr),
+    }
+}
+
+/// The instruction by its operation.
+pub fn flattened(instr: Option<Instr>) -> Flat
+    ensures { instr_of result ≡ instr }
+{
+    match instr {
+        Some(instr) => flat_of(instr),
+        None => Flat::Illegal,
     }
 }

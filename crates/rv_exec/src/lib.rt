@@ -16,6 +16,7 @@ mod values;
 
 pub use decoded::Decoded;
 pub use executing::exec;
+pub use flat::{Flat, flattened};
 pub use output::Output;
 pub use regs::Regs;
 pub use reservations::Reservations;

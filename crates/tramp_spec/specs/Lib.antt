@@ -1,0 +1,13 @@
+pub mod Marks
+pub mod Banks
+pub mod Steps
+pub mod Harts
+pub mod Jumps
+pub mod MovedWords
+pub mod Blocks
+pub mod Bodies
+pub mod Values
+pub mod Statements
+pub mod Slots
+pub mod Moves
+pub mod Rows

@@ -1,0 +1,51 @@
+-- For proofs alone: all that a proof about patched programs needs of moved words.
+use Rattle.std.specs.Prelude.{◌≡◌, ◌≢◌, ℕ, ◌+◌, ◌*◌, ◌<◌, ◌≤◌, ◌⊎◌, Bool, true, false, Option, Some, List, length, Ok, slice_get}
+use Rattle.rv_word.specs.Registers.{reg}
+use Rattle.rv_word.specs.Names.{jump_of}
+use Rattle.rv_word.specs.Table.{decode_of}
+use Rattle.rv_word.specs.Exec.{Prog, Outcome, Stops, Goes, exec_of}
+use Rattle.rv_word.specs.declared.outcome.Cause.{Cause}
+use Rattle.tramp_spec.specs.Marks.{own, tool, leave, is_jump}
+use Rattle.tramp_spec.specs.Banks.{bank_len}
+use Rattle.tramp_spec.specs.Steps.{Bench, stand, step_on}
+use Rattle.tramp_spec.specs.MovedWords.{own_place, rebuilt}
+use Rattle.tramp_spec.specs.declared.mark.MarkedWord.{MarkedWord}
+
+-- registers that the program can't tell apart: x31 is the tool's
+abbrev pub Agree : List ℕ → List ℕ → Type 0
+Agree a b = (r : ℕ) → r < 31 → reg a r ≡ reg b r
+
+-- behind the tick the moved words lead to where the word itself leads: at once where the tick jumps, else by a Leave word
+abbrev pub LeadsHome : ℕ → ℕ → List MarkedWord → ℕ → ℕ → Type 0
+LeadsHome word to moved pc home =
+    ((is_jump word ≡ true) × (pc ≡ home))
+    ⊎ ((is_jump word ≡ false) × (j : ℕ) × (left : ℕ) × (j < length moved) × (pc ≡ to + 4 * j) × (slice_get moved j ≡ Some (leave left)) × (jump_of (decode_of left) (to + 4 * j) ≡ Some home))
+
+-- the tick `word` at a place, and the program's word at its own, lead to the same
+abbrev pub SameStep : ℕ → ℕ → List MarkedWord → Outcome → Outcome → Type 0
+SameStep word to moved (Stops c) (Stops d) = c ≡ d
+SameStep word to moved (Goes pc regs p) (Goes home others q) = (p ≡ q) × Agree regs others × (length regs ≡ length others) × LeadsHome word to moved pc home
+SameStep word to moved (Stops c) (Goes home others q) = ⊥
+SameStep word to moved (Goes pc regs p) (Stops d) = ⊥
+
+abbrev pub bench : List ℕ → List ℕ → Bench
+bench regs bank = record { regs = regs; bank = bank }
+
+-- the moved words of the word at a point, from `to` on
+pub record Moves (word point to : ℕ) (moved : List MarkedWord) : Type 0 where
+  -- the registers at moved word j, from those at the first
+  pub before : ℕ → List ℕ → List ℕ
+  pub start : (regs : List ℕ) → before 0 regs ≡ regs
+  pub size : (j : ℕ) (regs : List ℕ) → j ≤ own_place word → length (before j regs) ≡ length regs
+  -- the words before the tick are the tool's, and change registers alone
+  pub silent : (j : ℕ) → j < own_place word → (w : ℕ) × (slice_get moved j ≡ Some (tool w))
+      × ((regs bank : List ℕ) (ticks : ℕ) → length regs ≡ 32
+      → step_on bank_len w ticks (to + 4 * j) (bench (before j regs) bank) ≡ Ok (stand (to + 4 * (j + 1)) (bench (before (j + 1) regs) bank)))
+  pub like : (j k : ℕ) (regs : List ℕ) → j ≤ own_place word → 0 < k → k < 31 → rebuilt word j ≢ Some k → reg (before j regs) k ≡ reg regs k
+  -- the tick does what the program's word does
+  pub tick : (w : ℕ) × (slice_get moved (own_place word) ≡ Some (own w))
+      × ((regs others : List ℕ) (h : ℕ) (p : Prog) → length regs ≡ 32 → length others ≡ 32 → Agree regs others
+      → SameStep w to moved (exec_of w (to + 4 * own_place word) h (before (own_place word) regs) p) (exec_of word point h others p))
+  -- the words behind it are jumps back to the program
+  pub leaves : (j : ℕ) → own_place word < j → j < length moved → (w home : ℕ) × (slice_get moved j ≡ Some (leave w)) × (jump_of (decode_of w) (to + 4 * j) ≡ Some home)
+      × ((x : Bench) (ticks : ℕ) → step_on 0 w ticks (to + 4 * j) x ≡ Ok (stand home x))

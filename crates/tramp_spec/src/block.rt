@@ -1,0 +1,24 @@
+use crate::mark::MarkedWord;
+use pn_types::Seq;
+
+/// A base block or mini block, as it is to be written into the tool text.
+#[derive(Drop, Debug)]
+pub struct Block {
+    /// The address of the program's word for which it stands.
+    pub point: u64,
+    /// The address of its first word, a multiple of 4.
+    pub at: u64,
+    /// Its words.
+    pub words: Seq<MarkedWord>,
+    /// It is a base block, and not a mini block.
+    pub base: bool,
+}
+
+/// The words that do at another place what a word of the program does at its own.
+#[derive(Clone, Copy, Debug, PartialEq, Eq, Drop)]
+pub struct Moved {
+    /// The first `len` of these.
+    pub words: [MarkedWord; 4],
+    /// How many there are, from 1 to 4.
+    pub len: u32,
+}

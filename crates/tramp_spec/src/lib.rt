@@ -1,0 +1,13 @@
+//! Trampolines: what their words and blocks are, and what one marked word does.
+//!
+//! A patched point jumps to its base block. That saves x5, goes through the mini blocks of the instruments, each of which
+//! counts or times in the hart's bank, restores x5, and executes the program's word, moved.
+#![tactic(auto)]
+
+mod block;
+mod laws;
+mod mark;
+
+pub use block::{Block, Moved};
+pub use laws::{code_rows, moved_rows};
+pub use mark::{Mark, MarkedWord};
