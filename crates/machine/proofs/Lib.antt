@@ -1,0 +1,4 @@
+pub mod Levels
+pub mod Replaying
+pub mod Sums
+pub mod FirstTurns

@@ -1,0 +1,99 @@
+-- What the events make of the patched machine. All that isn't named stays.
+use Rattle.std.specs.Prelude.{ℕ, ◌+◌, ◌==◌, ◌&&◌, not, if◌then◌else◌, Bool, true, false, Option, Some, None, List, [], ◌∷◌, ◌++◌, map, filter, length}
+use Rattle.std.specs.FinMap.{insert}
+use Rattle.pn_types.specs.declared.placed.Placed.{Placed}
+use Rattle.rv_word.specs.Plain.{program_word}
+use Rattle.tramp_spec.specs.Marks.{own, enter, tool}
+use Rattle.tramp_spec.specs.Jumps.{jump_word}
+use Rattle.tramp_spec.specs.Slots.{places_of, set_places}
+use Rattle.tramp_spec.specs.Harts.{Hart}
+use Rattle.tramp_spec.specs.declared.block.Block.{Block}
+use Rattle.tramp_spec.specs.declared.mark.MarkedWord.{MarkedWord}
+use Rattle.machine.specs.Cores.{Status, Written, Live, Retired, Row, Core, Code, is_current}
+use Rattle.machine.specs.Turns.{turn, ticks_next}
+use Rattle.machine.specs.Events.{Event, Turn, Write, LinkMini, UnlinkMini, LinkPoint, UnlinkPoint, Free, Arm, Sample, current_base, row_at, link_at, next_of, is_linked, before}
+use Rattle.machine.specs.Openings.{opening_now}
+
+-- ---- words and blocks
+
+-- the words from an address on
+abbrev pub put_words : ℕ → List MarkedWord → Code → Code
+put_words at [] code = code
+put_words at (w ∷ ws) code = put_words (at + 4) ws (insert code at w)
+
+-- the word that leads from a block to the next leads to an address
+abbrev pub lead_to : Row → ℕ → Code → Code
+lead_to r target code = insert code (link_at r) (tool (jump_word (link_at r) target))
+
+abbrev pub row_of : Block → Row
+row_of b = record { point = b.point; at = b.at; len = length b.words; base = b.base; status = Written }
+
+-- blocks change their status alone
+abbrev pub with_status : (Row → Status) → Row → Row
+with_status f r = record r { status = f r }
+
+-- the block at m has a status
+abbrev pub at_set : ℕ → Status → Row → Status
+at_set m status r = if r.at == m then status else r.status
+
+-- what is linked at a point is retired
+abbrev pub retired_at : ℕ → Row → Status
+retired_at p r = if (r.point == p) && is_linked r then Retired else r.status
+
+-- a retired block of the point isn't kept
+abbrev pub is_kept : ℕ → Row → Bool
+is_kept p r = not ((r.point == p) && not (is_current r.status))
+
+-- ---- effects
+
+abbrev pub written : Block → Core → Core
+written b c = record c { code = put_words b.at b.words c.code; rows = c.rows ++ row_of b ∷ [] }
+
+-- the base leads to the mini block, which is live
+abbrev pub mini_linked : Option Row → ℕ → Core → Core
+mini_linked None m c = c
+mini_linked (Some base) m c = record c { code = lead_to base m c.code; rows = map (with_status (at_set m Live)) c.rows }
+
+-- the block that leads to the mini block leads to the mini block's next, and the mini block is retired
+abbrev pub mini_unlinked : Option Row → Option Row → ℕ → Core → Core
+mini_unlinked None mini m c = c
+mini_unlinked (Some holder) None m c = c
+mini_unlinked (Some holder) (Some mini) m c = record c { code = lead_to holder (next_of c.code mini) c.code; rows = map (with_status (at_set m Retired)) c.rows }
+
+-- the jump to the base block stands at the point, and the base is live
+abbrev pub point_linked : Option Row → ℕ → Core → Core
+point_linked None p c = c
+point_linked (Some base) p c = record c { code = insert c.code p (enter (jump_word p base.at)); rows = map (with_status (at_set base.at Live)) c.rows }
+
+-- the program's word stands at the point, and its base and live mini blocks are retired
+abbrev pub point_unlinked : Option ℕ → ℕ → Core → Core
+point_unlinked None p c = c
+point_unlinked (Some word) p c = record c { code = insert c.code p (own word); rows = map (with_status (retired_at p)) c.rows }
+
+-- the slots of the instrument are set for a hart
+abbrev pub armed : Core → Placed → Hart → Hart
+armed c i x = record x { bank = set_places (places_of i) (opening_now i.vars c.prog x) x.ticks x.bank }
+
+-- The machine behind an event.
+abbrev pub after : Core → Event → Core
+after c (Turn h) = turn c h
+after c (Write block) = written block c
+after c (LinkMini p m) = mini_linked (current_base c.rows p) m c
+after c (UnlinkMini p m) = mini_unlinked (before c m) (row_at c.rows m) m c
+after c (LinkPoint p) = point_linked (current_base c.rows p) p c
+after c (UnlinkPoint p) = point_unlinked (program_word c.program p) p c
+after c (Free p) = record c { rows = filter (is_kept p) c.rows }
+after c (Arm i) = record c { harts = map (armed c i) c.harts }
+after c (Sample i) = c
+
+-- the harts whose ticks an event is: that of a turn which is one
+abbrev pub owned : Core → Event → List ℕ
+owned c (Turn h) = if ticks_next c h then h ∷ [] else []
+owned c (Write block) = []
+owned c (LinkMini p m) = []
+owned c (UnlinkMini p m) = []
+owned c (LinkPoint p) = []
+owned c (UnlinkPoint p) = []
+owned c (Free p) = []
+owned c (Arm i) = []
+owned c (Sample i) = []

@@ -1,0 +1,12 @@
+pub mod Cores
+pub mod Places
+pub mod Turns
+pub mod Openings
+pub mod Events
+pub mod Effects
+pub mod Replays
+pub mod Same
+pub mod Measures
+pub mod Instruments
+pub mod Laws
+pub mod FirstTurns

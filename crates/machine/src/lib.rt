@@ -1,0 +1,7 @@
+//! The patched machine: harts that execute a program's words and, inside trampolines, words of the tool, while blocks are
+//! written, linked, unlinked and freed.
+#![tactic(auto)]
+
+mod laws;
+
+pub use laws::{first_turns, levels_go_on, measures_add, replays_go_on};
