@@ -5,7 +5,8 @@ use Rattle.pn_types.specs.declared.plan.Plan.{Plan}
 use Rattle.pn_types.specs.declared.plan.Site.{Site}
 use Rattle.pn_types.specs.declared.plan.Var.{Var}
 use Rattle.rv_word.specs.Plain.{Words, PlainHart, Plain, plain}
-use Rattle.rv_exec.specs.Run.{run_from, arguments_of}
+use Rattle.rv_word.specs.Registers.{arguments_of}
+use Rattle.rv_exec.specs.Run.{run_from}
 use Rattle.tramp_spec.specs.Values.{values_after}
 use Rattle.machine.specs.Openings.{opening}
 

@@ -1,7 +1,7 @@
 -- Runs of the unpatched program: lists of hart numbers, each of which takes a turn.
 use Rattle.std.specs.Prelude.{ℕ, ◌≡◌, false, IsTrue, Option, Some, None, List, [], ◌∷◌, slice_get}
 use Rattle.pn_types.specs.declared.image.Image.{Image}
-use Rattle.rv_word.specs.Registers.{reg}
+use Rattle.rv_word.specs.Registers.{arguments_of}
 use Rattle.rv_word.specs.Plain.{Words, PlainHart, Plain, plain, can}
 use Rattle.rv_mem.specs.Start.{program_of}
 use Rattle.rv_exec.specs.Start.{start}
@@ -35,9 +35,6 @@ pub record Position : Type 0 where
   pub hart : ℕ
   pub pc : ℕ
   pub arguments : List ℕ
-
-abbrev pub arguments_of : List ℕ → List ℕ
-arguments_of regs = reg regs 10 ∷ reg regs 11 ∷ reg regs 12 ∷ reg regs 13 ∷ reg regs 14 ∷ reg regs 15 ∷ reg regs 16 ∷ reg regs 17 ∷ []
 
 -- a position before those that follow
 abbrev pub position_of : ℕ → Option PlainHart → List Position → List Position

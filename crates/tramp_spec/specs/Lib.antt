@@ -6,6 +6,7 @@ pub mod Jumps
 pub mod MovedWords
 pub mod Blocks
 pub mod Bodies
+pub mod Routes
 pub mod Values
 pub mod Statements
 pub mod Slots

@@ -1,5 +1,6 @@
-//! What is computed from the definitions, row by row.
+//! What holds of the definitions.
 
+ghost use Rattle.tramp_spec.specs.Routes.{BodiesGoOn};
 ghost use Rattle.tramp_spec.specs.Rows.{MovedRows, CodeRows};
 
 /// The moved words of five words: a jalr whose rd is its rs1, a branch, a jal, an auipc, and a branch that can't be moved.
@@ -10,4 +11,9 @@ pub fn moved_rows()
 /// The words of a base block and of a mini block that counts.
 pub fn code_rows()
     ensures { CodeRows }
+{}
+
+/// Harmless bodies may stand behind each other, and behind guards that lead to them or over them.
+pub fn bodies_go_on()
+    ensures { BodiesGoOn }
 {}

@@ -1,0 +1,35 @@
+-- For proofs alone: runs of a body from one word to another.
+use Rattle.std.specs.Prelude.{◌≡◌, ℕ, zero, suc, ◌⊎◌, ◌++◌, List, length, slice_index}
+use Rattle.rv_word.specs.Registers.{arguments_of}
+use Rattle.tramp_spec.specs.Steps.{Bench}
+use Rattle.tramp_spec.specs.Bodies.{Leap, Stands, Harmless, LeavesSlot}
+use Rattle.tramp_spec.specs.declared.mark.MarkedWord.{MarkedWord}
+
+-- exactly so many turns lead from word i to word e
+abbrev pub Path : List MarkedWord → (at ticks : ℕ) → ℕ → (i e : ℕ) → Bench → Bench → Type 0
+Path body at ticks zero i e x y = (i ≡ e) × (x ≡ y)
+Path body at ticks (suc n) i e x y = (j : ℕ) × (z : Bench) × Leap body at ticks i x j z × Path body at ticks n j e z y
+
+abbrev pub Route : List MarkedWord → (at ticks : ℕ) → (i e : ℕ) → Bench → Bench → Type 0
+Route body at ticks i e x y = (n : ℕ) × Path body at ticks n i e x y
+
+-- what a body leaves in the bank: from the ticks, the arguments and the bank
+abbrev pub Effect : Type 0
+Effect = ℕ → List ℕ → List ℕ → List ℕ
+
+-- the body comes to its end, and leaves this in the bank
+abbrev pub Does : List MarkedWord → Effect → Type 0
+Does body f = (at ticks : ℕ) (x : Bench) → Stands body at x → (y : Bench) × Route body at ticks 0 (length body) x y × (y.bank ≡ f ticks (arguments_of x.regs) x.bank)
+
+-- the words of a guard lead to the rest, or over it, and leave the bank
+abbrev pub Guards : List MarkedWord → List MarkedWord → Type 0
+Guards guard rest =
+    (at ticks : ℕ) (x : Bench) → Stands (guard ++ rest) at x
+    → (y : Bench) × (y.bank ≡ x.bank) × (Route (guard ++ rest) at ticks 0 (length guard) x y ⊎ Route (guard ++ rest) at ticks 0 (length (guard ++ rest)) x y)
+
+-- bodies may stand behind each other, and behind guards
+pub record BodiesGoOn : Type 0 where
+  pub append : (a b : List MarkedWord) → Harmless a → Harmless b → Harmless (a ++ b)
+  pub append_leaves : (a b : List MarkedWord) (slot : ℕ) → Harmless a → Harmless b → LeavesSlot a slot → LeavesSlot b slot → LeavesSlot (a ++ b) slot
+  pub guard : (g rest : List MarkedWord) → Guards g rest → Harmless rest → Harmless (g ++ rest)
+  pub guard_leaves : (g rest : List MarkedWord) (slot : ℕ) → Guards g rest → Harmless rest → LeavesSlot rest slot → LeavesSlot (g ++ rest) slot
