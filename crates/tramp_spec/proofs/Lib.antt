@@ -1,2 +1,6 @@
 pub mod Routes
 pub mod Harmless
+pub mod Encodings
+pub mod Registers
+pub mod Frame
+pub mod Hops

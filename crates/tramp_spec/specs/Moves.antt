@@ -15,18 +15,24 @@ use Rattle.tramp_spec.specs.declared.mark.MarkedWord.{MarkedWord}
 abbrev pub Agree : List ℕ → List ℕ → Type 0
 Agree a b = (r : ℕ) → r < 31 → reg a r ≡ reg b r
 
--- behind the tick the moved words lead to where the word itself leads: at once where the tick jumps, else by a Leave word
-abbrev pub LeadsHome : ℕ → ℕ → List MarkedWord → ℕ → ℕ → Type 0
-LeadsHome word to moved pc home =
-    ((is_jump word ≡ true) × (pc ≡ home))
-    ⊎ ((is_jump word ≡ false) × (j : ℕ) × (left : ℕ) × (j < length moved) × (pc ≡ to + 4 * j) × (slice_get moved j ≡ Some (leave left)) × (jump_of (decode_of left) (to + 4 * j) ≡ Some home))
+pub record Alike (a b : List ℕ) : Type 0 where
+  pub agree : Agree a b
+  pub first : length a ≡ 32
+  pub second : length b ≡ 32
 
--- the tick `word` at a place, and the program's word at its own, lead to the same
-abbrev pub SameStep : ℕ → ℕ → List MarkedWord → Outcome → Outcome → Type 0
-SameStep word to moved (Stops c) (Stops d) = c ≡ d
-SameStep word to moved (Goes pc regs p) (Goes home others q) = (p ≡ q) × Agree regs others × (length regs ≡ length others) × LeadsHome word to moved pc home
-SameStep word to moved (Stops c) (Goes home others q) = ⊥
-SameStep word to moved (Goes pc regs p) (Stops d) = ⊥
+-- Behind the tick, the moved word of number `place`, the moved words lead to where the word itself leads: at once where the tick
+-- jumps, else by a Leave word.
+abbrev pub LeadsHome : ℕ → ℕ → ℕ → List MarkedWord → ℕ → ℕ → Type 0
+LeadsHome word place to moved pc home =
+    ((is_jump word ≡ true) × (pc ≡ home))
+    ⊎ ((is_jump word ≡ false) × (j : ℕ) × (left : ℕ) × (place < j) × (j < length moved) × (pc ≡ to + 4 * j) × (slice_get moved j ≡ Some (leave left)) × (jump_of (decode_of left) (to + 4 * j) ≡ Some home))
+
+-- the tick `word` at its place, and the program's word at its own, lead to the same
+abbrev pub SameStep : ℕ → ℕ → ℕ → List MarkedWord → Outcome → Outcome → Type 0
+SameStep word place to moved (Stops c) (Stops d) = c ≡ d
+SameStep word place to moved (Goes pc regs p) (Goes home others q) = (p ≡ q) × Alike regs others × LeadsHome word place to moved pc home
+SameStep word place to moved (Stops c) (Goes home others q) = ⊥
+SameStep word place to moved (Goes pc regs p) (Stops d) = ⊥
 
 abbrev pub bench : List ℕ → List ℕ → Bench
 bench regs bank = record { regs = regs; bank = bank }
