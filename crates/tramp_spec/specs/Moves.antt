@@ -1,14 +1,14 @@
 -- For proofs alone: all that a proof about patched programs needs of moved words.
-use Rattle.std.specs.Prelude.{◌≡◌, ◌≢◌, ℕ, ◌+◌, ◌*◌, ◌<◌, ◌≤◌, ◌⊎◌, Bool, true, false, Option, Some, List, length, Ok, slice_get}
+use Rattle.std.specs.Prelude.{◌≡◌, ◌≢◌, ℕ, ◌+◌, ◌*◌, ◌%◌, ◌<◌, ◌≤◌, ◌⊎◌, Bool, true, false, Option, Some, List, length, Ok, slice_get}
 use Rattle.rv_word.specs.Registers.{reg}
-use Rattle.rv_word.specs.Names.{jump_of}
+use Rattle.rv_word.specs.Names.{jump_of, has_scratch}
 use Rattle.rv_word.specs.Table.{decode_of}
 use Rattle.rv_word.specs.Exec.{Prog, Outcome, Stops, Goes, exec_of}
 use Rattle.rv_word.specs.declared.outcome.Cause.{Cause}
 use Rattle.tramp_spec.specs.Marks.{own, tool, leave, is_jump}
 use Rattle.tramp_spec.specs.Banks.{bank_len}
 use Rattle.tramp_spec.specs.Steps.{Bench, stand, step_on}
-use Rattle.tramp_spec.specs.MovedWords.{own_place, rebuilt}
+use Rattle.tramp_spec.specs.MovedWords.{moved_of, own_place, rebuilt}
 use Rattle.tramp_spec.specs.declared.mark.MarkedWord.{MarkedWord}
 
 -- registers that the program can't tell apart: x31 is the tool's
@@ -50,8 +50,14 @@ pub record Moves (word point to : ℕ) (moved : List MarkedWord) : Type 0 where
   pub like : (j k : ℕ) (regs : List ℕ) → j ≤ own_place word → 0 < k → k < 31 → rebuilt word j ≢ Some k → reg (before j regs) k ≡ reg regs k
   -- the tick does what the program's word does
   pub tick : (w : ℕ) × (slice_get moved (own_place word) ≡ Some (own w))
-      × ((regs others : List ℕ) (h : ℕ) (p : Prog) → length regs ≡ 32 → length others ≡ 32 → Agree regs others
-      → SameStep w to moved (exec_of w (to + 4 * own_place word) h (before (own_place word) regs) p) (exec_of word point h others p))
+      × ((regs others : List ℕ) (h : ℕ) (p : Prog) → Alike regs others
+      → SameStep w (own_place word) to moved (exec_of w (to + 4 * own_place word) h (before (own_place word) regs) p) (exec_of word point h others p))
   -- the words behind it are jumps back to the program
   pub leaves : (j : ℕ) → own_place word < j → j < length moved → (w home : ℕ) × (slice_get moved j ≡ Some (leave w)) × (jump_of (decode_of w) (to + 4 * j) ≡ Some home)
       × ((x : Bench) (ticks : ℕ) → step_on 0 w ticks (to + 4 * j) x ≡ Ok (stand home x))
+
+-- Each word that doesn't name x31 moves, from the text to the tool text behind it, where it can be moved at all.
+abbrev pub WordsMove : Type 0
+WordsMove =
+    (word point to : ℕ) (moved : List MarkedWord) → has_scratch word ≡ false → point % 4 ≡ 0 → to % 4 ≡ 0 → point < 0x60000000 → point < to → to ≤ point + 1048000
+    → moved_of word point to ≡ Some moved → Moves word point to moved

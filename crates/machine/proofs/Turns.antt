@@ -1,0 +1,602 @@
+-- A turn of a hart keeps what is kept of it.
+use Rattle.std.proofs.Common.{◌≡◌, ◌≢◌, ℕ, zero, suc, ◌+◌, ◌-◌, ◌*◌, ◌/◌, ◌%◌, ◌^◌, ◌<◌, ◌≤◌, List, [], ◌∷◌, ◌++◌, length, Option, Some, None, Result, Ok, Err, refl, sym, ap, ◌∙◌, subst, arith, ⊎_elim, inl, inr}
+use Rattle.std.specs.Prelude.{Bool, true, false, cond, not, is_none, IsTrue, slice_get, ◌⊎◌, ◌&&◌, ◌||◌, ◌==◌, nat_le, nat_lt, unwrap_or}
+use Rattle.std.specs.FinMap.{get}
+use Rattle.std.proofs.lemmas.Bool.{true≢false, cases_Bool, cases_lt, cases_eq, cond-true, cond-false, and_from, and_parts, lt-ltb, le-leb, eq-eqb, leb-true, ltb-true, eqb-true}
+use Rattle.std.proofs.lemmas.Grind.{common_steps}
+use Rattle.std.proofs.lemmas.Option.{slice_get_within}
+use Rattle.pn_types.specs.declared.limits.TheConstants.{TOOL_TEXT_LEN}
+use Rattle.rv_word.specs.Memory.{in_range}
+use Rattle.rv_word.specs.Names.{has_scratch, jump_of}
+use Rattle.rv_word.specs.Registers.{reg, with_reg}
+use Rattle.rv_word.specs.Table.{decode_of}
+use Rattle.rv_word.specs.Words.{word_of}
+use Rattle.rv_word.specs.Values.{wrap}
+use Rattle.rv_word.specs.Exec.{Prog, Outcome, Stops, Goes, Done, done, exec_of, next}
+use Rattle.rv_word.specs.Plain.{Words, PlainHart, Alone, program_word, may_go, after_done, hart_after}
+use Rattle.rv_word.specs.Plain as plain
+use Rattle.rv_word.specs.declared.outcome.Cause.{Cause}
+use Rattle.rv_word.specs.declared.outcome.Cause.TheVariants.{FetchOutside}
+use Rattle.rv_word.specs.declared.instr.Instr.TheVariants.{Load, Store}
+use Rattle.rv_word.specs.declared.instr.LoadOp.TheVariants.{Ld}
+use Rattle.rv_word.specs.declared.instr.StoreOp.TheVariants.{Sd}
+use Rattle.tramp_spec.specs.Banks.{bank_len, saved_x5, set_bank, reach_of}
+use Rattle.tramp_spec.specs.Blocks.{tail_of, moved_at}
+use Rattle.tramp_spec.specs.Bodies.{Safe, Harmless, Leap, Keeps, Stands}
+use Rattle.tramp_spec.specs.Harts.{Hart, Solo, bench_of, stopped, ticked, own_hart, own_step, other_hart, other_step, marked_step, step_of, is_tick}
+use Rattle.tramp_spec.specs.Marks.{own, enter, tool, leave, is_jump, inside_after}
+use Rattle.tramp_spec.specs.MovedWords.{moved_of, own_place}
+use Rattle.tramp_spec.specs.Moves.{Agree, Alike, Moves, SameStep, LeadsHome, bench, WordsMove}
+use Rattle.tramp_spec.specs.Steps.{Bench, Stood, stand, step_on, with_value, with_doubleword}
+use Rattle.tramp_spec.specs.declared.mark.Mark.{Mark}
+use Rattle.tramp_spec.specs.declared.mark.Mark.TheVariants.{Own, Enter, Tool, Leave}
+use Rattle.tramp_spec.specs.declared.mark.MarkedWord.{MarkedWord}
+use Rattle.tramp_spec.proofs.Frame.{SameOutcome, execs}
+use Rattle.tramp_spec.proofs.Hops.{Hops, hop_steps, save_steps, restore_steps, saved_back, length_set_bank}
+use Rattle.tramp_spec.proofs.Registers.{length_with, read_back, read_but, zero_reg}
+use Rattle.machine.specs.Cores.{In, Code, Row, Written, Live, tool_at, is_live, is_current, is_text_word, is_tool_word, is_word_of}
+use Rattle.machine.specs.Places.{home_of, program_pc}
+use Rattle.machine.specs.Turns.{fetched}
+use Rattle.machine.proofs.Lists.{stands_at, get_append, get_before, same_some}
+use Rattle.machine.proofs.Invariant.{Ground, Piece, IsBase, Linked, base_with, BaseShape, MiniShape, Shaped, Placed, Leads, HasFamily, Door, TextWord, Static, Saved, Outside, AtSave, AtSaved, MovedWord, AtMoved, AtLeave, BasePlace, InBase, InMini, HartOk, Dynamic}
+use Rattle.machine.proofs.Homes.{has_len, one_block, home_word, home_leave}
+
+-- ---- the program's words
+
+-- a word of the program stands in the text
+pub record InText (t : Words) (a w : ℕ) : Type 0 where
+  pub i : ℕ
+  pub at : a ≡ t.at + 4 * i
+  pub low : i < length t.words
+  pub is : slice_get t.words i ≡ Some w
+
+low_of : (ws : List ℕ) (i w : ℕ) → slice_get ws i ≡ Some w → i < length ws
+low_of [] i w e = absurd cc
+low_of (v ∷ ws) zero w e = omega arith
+low_of (v ∷ ws) (suc i) w e = let l = low_of ws i w e in omega arith
+
+word_in : (t : Words) (a w : ℕ) (b : Bool) → (nat_le t.at a && ((a - t.at) % 4 == 0)) ≡ b → cond b (slice_get t.words ((a - t.at) / 4)) None ≡ Some w → InText t a w
+word_in t a w true e h =
+    let p = and_parts (nat_le t.at a) ((a - t.at) % 4 == 0) e in
+    let lo : t.at ≤ a = leb-true t.at a p.0 in
+    let al : (a - t.at) % 4 ≡ 0 = eqb-true ((a - t.at) % 4) 0 p.1 in
+    record { i = (a - t.at) / 4; at = omega arith; low = low_of t.words ((a - t.at) / 4) w h; is = h }
+word_in t a w false e h = absurd cc
+
+pub in_text : (t : Words) (a w : ℕ) → program_word t a ≡ Some w → InText t a w
+in_text t a w h = word_in t a w (nat_le t.at a && ((a - t.at) % 4 == 0)) refl h
+
+-- the text lies below the tool text
+pub text_low : (t : Words) (a w : ℕ) → program_word t a ≡ Some w → a + 4 ≤ tool_at t
+text_low t a w h = let q = in_text t a w h in let at = q.at in let low = q.low in omega arith
+
+past_end : (ws : List ℕ) (i : ℕ) → length ws ≤ i → slice_get ws i ≡ None
+past_end [] i l = refl
+past_end (w ∷ ws) zero l = absurd (omega arith)
+past_end (w ∷ ws) (suc i) l = past_end ws i (omega arith)
+
+some_within : (ws : List ℕ) (i : ℕ) → i < length ws → (w : ℕ) × (slice_get ws i ≡ Some w)
+some_within [] i l = absurd (omega arith)
+some_within (w ∷ ws) zero l = (w, refl)
+some_within (w ∷ ws) (suc i) l = some_within ws i (omega arith)
+
+-- an address is that of a word of the text, and has a word of the program, or neither
+text_cases : (t : Words) (a : ℕ) → ((w : ℕ) × (program_word t a ≡ Some w) × (is_text_word t a ≡ true)) ⊎ ((program_word t a ≡ None) × (is_text_word t a ≡ false))
+text_cases t a = by (nat_le t.at a) ((a - t.at) % 4 == 0) refl refl
+  where
+    by : (b d : Bool) → nat_le t.at a ≡ b → ((a - t.at) % 4 == 0) ≡ d → ((w : ℕ) × (program_word t a ≡ Some w) × (is_text_word t a ≡ true)) ⊎ ((program_word t a ≡ None) × (is_text_word t a ≡ false))
+    by false d e f = inr (grind (arith, common_steps), grind (arith, common_steps))
+    by true false e f = inr (grind (arith, common_steps), grind (arith, common_steps))
+    by true true e f = ⊎_elim
+        (λ (l : (a - t.at) / 4 < length t.words).
+        let q = some_within t.words ((a - t.at) / 4) l in
+        let al : (a - t.at) % 4 ≡ 0 = eqb-true ((a - t.at) % 4) 0 f in
+        let d : a - t.at < 4 * length t.words = omega arith in
+        inl (q.0, cond-true (nat_le t.at a && ((a - t.at) % 4 == 0)) _ _ (and_from _ _ e f) ∙ q.1, and_from _ _ (and_from _ _ e (lt-ltb _ _ d)) f))
+        (λ (l : length t.words ≤ (a - t.at) / 4).
+        let d : 4 * length t.words ≤ a - t.at = omega arith in
+        inr (cond-true (nat_le t.at a && ((a - t.at) % 4 == 0)) _ _ (and_from _ _ e f) ∙ past_end t.words ((a - t.at) / 4) l, grind (arith, common_steps)))
+        (cases_lt ((a - t.at) / 4) (length t.words))
+
+-- ---- what a turn owes
+
+-- with what was fetched: a tick is a turn of the program, and the rest leaves the program's hart
+abbrev pub OwesBy : Bool → Words → ℕ → List Piece → ℕ → Solo → PlainHart → Prog → Type 0
+OwesBy true t budget ps h z y p =
+    IsTrue (may_go (Some y) budget) × Dynamic t budget ps z.hart (plain.turn_alone t h (record { hart = y; prog = p })).hart
+    × (z.prog ≡ (plain.turn_alone t h (record { hart = y; prog = p })).prog)
+OwesBy false t budget ps h z y p = Dynamic t budget ps z.hart y × (z.prog ≡ p)
+
+is_none_of : (o : Option Cause) → o ≡ None → is_none o ≡ true
+is_none_of None e = refl
+is_none_of (Some c) e = absurd cc
+
+pub wrap_next : (pc : ℕ) → pc + 4 < 2 ^ 64 → next pc ≡ pc + 4
+wrap_next pc l = omega arith
+
+module _ (moves : WordsMove) (t : Words) (g : Ground t) (budget : ℕ) (code : Code) (rows : List Row) (ps : List Piece) (clock : ℕ) (st : Static t code rows ps clock) (h : ℕ) (x : Hart) (y : PlainHart) (p : Prog) (d : Dynamic t budget ps x y) (on : x.stop ≡ None) where
+  abbrev Owes : Option MarkedWord → Type 0
+  Owes o = OwesBy (is_tick o) t budget ps h (step_of o h (program_pc code rows x) (record { hart = x; prog = p })) y p
+
+  owes : (o : Option MarkedWord) → fetched t code x ≡ o → Owes o → Owes (fetched t code x)
+  owes o e k = subst Owes (sym e) k
+
+  plain_on : y.stop ≡ None
+  plain_on = sym d.stop ∙ on
+
+  can_go : x.ticks < budget → IsTrue (may_go (Some y) budget)
+  can_go l = and_from _ _ (is_none_of y.stop plain_on) (lt-ltb _ _ (subst (λ n. n < budget) d.ticks l))
+
+  -- the machine's hart behind a word that stops it
+  downs : (c : Cause) (home : ℕ) (z : PlainHart) → home ≡ y.pc → z ≡ record { pc = y.pc; regs = y.regs; ticks = y.ticks + 1; stop = Some c } → Dynamic t budget ps (ticked (stopped x home c)) z
+  downs c home z e is =
+      subst (Dynamic t budget ps (ticked (stopped x home c))) (sym is) (record {
+        ticks = ap (λ n. n + 1) d.ticks;
+        stop = refl;
+        first = d.first;
+        second = d.second;
+        bank = d.bank;
+        down = λ k q. (refl, e);
+        hart = λ q. absurd cc;
+      })
+
+  -- ---- outside
+
+  own_outcome : (w : ℕ) (a b : Outcome) → x.inside ≡ false → x.pc ≡ y.pc → SameOutcome a b
+      → Dynamic t budget ps (own_step (done a x.regs p) w (program_pc code rows x) x).hart (after_done (done b y.regs p) y).hart × ((own_step (done a x.regs p) w (program_pc code rows x) x).prog ≡ (after_done (done b y.regs p) y).prog)
+  own_outcome w (Stops c) (Stops e) i pc s =
+      (downs c (program_pc code rows x) _ (cond-false x.inside (home_of code rows x.pc) x.pc i ∙ pc) (ap (λ k. record { pc = y.pc; regs = y.regs; ticks = y.ticks + 1; stop = Some k }) (sym s)), refl)
+  own_outcome w (Stops c) (Goes pc b q) i e s = absurd s
+  own_outcome w (Goes pc a q) (Stops c) i e s = absurd s
+  own_outcome w (Goes pc a q) (Goes qc b r) i e s = (
+    record {
+      ticks = ap (λ n. n + 1) d.ticks;
+      stop = d.stop;
+      first = (s.1).first;
+      second = (s.1).second;
+      bank = d.bank;
+      down = λ k z. absurd cc;
+      hart = λ z. inl (record { outside = ap (λ b. b && not (is_jump w)) i; pc = s.0; agree = (s.1).agree });
+    },
+    s.2,
+  )
+
+  own_outside : (w : ℕ) → has_scratch w ≡ false → x.inside ≡ false → x.pc ≡ y.pc → Agree x.regs y.regs → x.ticks < budget → program_word t y.pc ≡ Some w → Owes (Some (own w))
+  own_outside w n i e a l f =
+      let same : SameOutcome (exec_of w x.pc h x.regs p) (exec_of w y.pc h y.regs p) =
+        subst (λ q. SameOutcome (exec_of w x.pc h x.regs p) (exec_of w q h y.regs p)) e (execs w x.pc h x.regs y.regs p n (record { agree = a; first = d.first; second = d.second })) in
+      let both = own_outcome w (exec_of w x.pc h x.regs p) (exec_of w y.pc h y.regs p) i e same in
+      let to : (o : Option ℕ) → Type 0 = λ o.
+        Dynamic t budget ps (own_step (done (exec_of w x.pc h x.regs p) x.regs p) w (program_pc code rows x) x).hart (after_done (done (plain.fetched o h y p) y.regs p) y).hart
+        × ((own_step (done (exec_of w x.pc h x.regs p) x.regs p) w (program_pc code rows x) x).prog ≡ (after_done (done (plain.fetched o h y p) y.regs p) y).prog) in
+      let k : to (program_word t y.pc) = subst to (sym f) both in (can_go l, k.0, k.1)
+
+  none_outside : x.inside ≡ false → x.pc ≡ y.pc → x.ticks < budget → program_word t y.pc ≡ None → Owes None
+  none_outside i e l f =
+      let to : (o : Option ℕ) → Type 0 = λ o.
+        Dynamic t budget ps (ticked (stopped x (program_pc code rows x) FetchOutside)) (after_done (done (plain.fetched o h y p) y.regs p) y).hart
+        × (p ≡ (after_done (done (plain.fetched o h y p) y.regs p) y).prog) in
+      let k : to (program_word t y.pc) = subst to (sym f) (downs FetchOutside (program_pc code rows x) _ (cond-false x.inside (home_of code rows x.pc) x.pc i ∙ e) refl, refl) in (can_go l, k.0, k.1)
+
+  -- ---- words that are no ticks
+
+  tool_to : (w to : ℕ) (b : Bench) → step_on bank_len w x.ticks x.pc (bench_of x) ≡ Ok (stand to b) → Dynamic t budget ps (record x { pc = to; regs = b.regs; bank = b.bank }) y → Owes (Some (tool w))
+  tool_to w to b e k = (subst (λ r. Dynamic t budget ps (other_hart r Tool w (program_pc code rows x) x) y) (sym e) k, refl)
+
+  leave_to : (w to : ℕ) (b : Bench) → step_on 0 w x.ticks x.pc (bench_of x) ≡ Ok (stand to b) → Dynamic t budget ps (record x { pc = to; regs = b.regs; bank = b.bank; inside = false }) y → Owes (Some (leave w))
+  leave_to w to b e k = (subst (λ r. Dynamic t budget ps (other_hart r Leave w (program_pc code rows x) x) y) (sym e) k, refl)
+
+  enter_to : (w to : ℕ) (b : Bench) → step_on 0 w x.ticks x.pc (bench_of x) ≡ Ok (stand to b) → Dynamic t budget ps (record x { pc = to; regs = b.regs; bank = b.bank; inside = true }) y → Owes (Some (enter w))
+  enter_to w to b e k = (subst (λ r. Dynamic t budget ps (other_hart r Enter w (program_pc code rows x) x) y) (sym e) k, refl)
+
+  enters : (b : Piece) → In b ps → IsBase b → b.row.point ≡ x.pc → b.row.status ≡ Live → (door : Door code b) → Outside x y → x.ticks < budget → Owes (Some (enter door.jump))
+  enters b hb bs e live door o l =
+      let hop : Hops x.pc b.row.at door.jump = subst (λ a. Hops a b.row.at door.jump) e door.hops in
+      enter_to door.jump b.row.at (bench_of x) (hop_steps 0 door.jump x.ticks x.pc b.row.at (bench_of x) hop (st.places b hb).aligned)
+      (record {
+        ticks = d.ticks;
+        stop = d.stop;
+        first = d.first;
+        second = d.second;
+        bank = d.bank;
+        down = λ k z. absurd cc;
+        hart = λ z. inr (inl (record {
+          b = b;
+          is_in = hb;
+          base = bs;
+          was = λ w. absurd cc;
+          inside = refl;
+          place = inl (record { pc = refl; home = sym o.pc ∙ sym e; before = l; agree = o.agree });
+        }));
+      })
+
+  -- ---- inside
+
+  -- what is inside is fetched where it stands
+  fetch_inside : (w : MarkedWord) → x.inside ≡ true → tool_at t ≤ x.pc → x.pc + 4 ≤ tool_at t + TOOL_TEXT_LEN → x.pc % 4 ≡ 0 → get code x.pc ≡ Some w → fetched t code x ≡ Some w
+  fetch_inside w i lo hi al e =
+      let a : (x.pc - tool_at t) % 4 ≡ 0 = omega arith in
+      let n : x.pc - tool_at t < TOOL_TEXT_LEN = omega arith in
+      let k : is_tool_word t x.pc ≡ true = and_from _ _ (and_from _ _ (le-leb _ _ lo) (lt-ltb _ _ n)) (eq-eqb _ _ a) in
+      cond-true x.inside _ _ i ∙ (cond-true (is_tool_word t x.pc) _ _ k ∙ ap (λ o. Some (unwrap_or o (tool 0))) e)
+
+  -- so is a word of a block
+  fetch_block : (b : Piece) (i : ℕ) (ws : List MarkedWord) (w : MarkedWord) → In b ps → x.inside ≡ true → x.pc ≡ b.row.at + 4 * i → i < b.row.len → get code (b.row.at + 4 * i) ≡ Some w → fetched t code x ≡ Some w
+  fetch_block b i ws w hb n e l k =
+      let pl = st.places b hb in
+      let lo = pl.low in
+      let hi = pl.high in
+      let al = pl.aligned in
+      fetch_inside w n (omega arith) (omega arith) (omega arith) (ap (get code) e ∙ k)
+
+  harmless_of : (m : Piece) → In m ps → Linked m → Harmless m.body
+  harmless_of m hm k = ⊎_elim (λ (r : BaseShape t code m.row m.next). absurd (true≢false (sym r.base ∙ k.mini))) (λ (r : MiniShape code m.row m.body m.next). r.harmless) (st.shapes m hm)
+
+  base_shape : (b : Piece) → In b ps → IsBase b → BaseShape t code b.row b.next
+  base_shape b hb k = ⊎_elim (λ (r : BaseShape t code b.row b.next). r) (λ (r : MiniShape code b.row b.body b.next). absurd (true≢false (sym k.base ∙ r.mini))) (st.shapes b hb)
+
+  mini_shape : (m : Piece) → In m ps → Linked m → MiniShape code m.row m.body m.next
+  mini_shape m hm k = ⊎_elim (λ (r : BaseShape t code m.row m.next). absurd (true≢false (sym r.base ∙ k.mini))) (λ (r : MiniShape code m.row m.body m.next). r) (st.shapes m hm)
+
+  tool_high : tool_at t + TOOL_TEXT_LEN < 2 ^ 32
+  tool_high = let e = g.high in omega arith
+
+  body_fits : (m : Piece) → In m ps → Linked m → m.row.at + 4 * length m.body < 2 ^ 64
+  body_fits m hm k = let s = mini_shape m hm k in let l = s.len in let hi = (st.places m hm).high in let top = tool_high in omega arith
+
+  -- on to what a jump leads to
+  hop_on : (b : Piece) (fam n q : ℕ) (live : Bool) (w : ℕ) → In b ps → IsBase b → (b.row.status ≡ Written → ⊥) → b.row.at ≡ fam → x.inside ≡ true → y.pc ≡ b.row.point → x.ticks < budget → Saved x y → Hops x.pc q w → Leads ps fam n q live → Owes (Some (tool w))
+  hop_on b fam n q live w hb bs was at i e l sv hop le = ⊎_elim to_tail to_mini le.to
+    where
+      base : HartOk t budget ps (record x { pc = q }) y → Dynamic t budget ps (record x { pc = q; regs = x.regs; bank = x.bank }) y
+      base k = record { ticks = d.ticks; stop = d.stop; first = d.first; second = d.second; bank = d.bank; down = λ k z. absurd cc; hart = λ z. k }
+
+      to_tail : (le.lo ≡ 0) × (q ≡ tail_of fam) → Owes (Some (tool w))
+      to_tail r =
+          let al = (st.places b hb).aligned in
+          let e1 = r.1 in
+          let a : q % 4 ≡ 0 = omega arith in
+          tool_to w q (bench_of x) (hop_steps bank_len w x.ticks x.pc q (bench_of x) hop a)
+          (base (inr (inl (record {
+            b = b;
+            is_in = hb;
+            base = bs;
+            was = was;
+            inside = i;
+            place = inr (inr (inl (record { pc = r.1 ∙ ap tail_of (sym at); home = e; before = l; saved = record { agree = sv.agree; saved = sv.saved } })));
+          }))))
+
+      to_mini : (m : Piece) × In m ps × Linked m × (m.family ≡ fam) × (m.age ≡ le.lo) × (m.row.at ≡ q) × (live ≡ true → m.row.status ≡ Live) → Owes (Some (tool w))
+      to_mini r =
+          let fm = st.families r.0 r.1 r.2 in
+          let same : fm.0 ≡ b = one_block t code rows ps clock st fm.0 b (fm.1).is_in hb ((fm.1).at ∙ (r.3 ∙ sym at)) in
+          let fm' : HasFamily ps r.0 b = subst (λ z. HasFamily ps r.0 z) same fm.1 in
+          let al = (st.places r.0 r.1).aligned in
+          let e5 = r.5 in
+          let a : q % 4 ≡ 0 = omega arith in
+          let z : q ≡ (r.0).row.at + 4 * 0 = omega arith in
+          tool_to w q (bench_of x) (hop_steps bank_len w x.ticks x.pc q (bench_of x) hop a)
+          (base (inr (inr (record {
+            m = r.0;
+            b = b;
+            is_in = r.1;
+            linked = r.2;
+            family = fm';
+            was = was;
+            inside = i;
+            home = e ∙ fm'.point;
+            before = l;
+            saved = record { agree = sv.agree; saved = sv.saved };
+            i = 0;
+            f = length (r.0).body;
+            pc = z;
+            safe = harmless_of r.0 r.1 r.2 (r.0).row.at x.ticks (bench_of x) (record { aligned = al; fits = body_fits r.0 r.1 r.2; file = d.first; bank = d.bank });
+          }))))
+
+  -- ---- in a base block
+
+  -- the word of a base block is that of its point
+  moved_word : (b : Piece) → In b ps → IsBase b → MovedWord t b
+  moved_word b hb bs =
+      let s = base_shape b hb bs in
+      let q = in_text t b.row.point s.word s.here in
+      let at = q.at in
+      let low = q.low in
+      let under = text_low t b.row.point s.word s.here in
+      let pl = st.places b hb in
+      let lo = pl.low in
+      let hi = pl.high in
+      let al = pl.aligned in
+      let len = s.len in
+      let ga = g.aligned in
+      let gh = g.high in
+      let gs = g.short in
+      record {
+        word = s.word;
+        here = s.here;
+        moved = s.moved;
+        movable = s.movable;
+        moves = moves s.word b.row.point (moved_at b.row.at) s.moved (g.plain q.i s.word q.is) (omega arith) (omega arith) (omega arith) (omega arith) (omega arith) s.movable;
+      }
+
+  same_word : (b : Piece) → (m : MovedWord t b) → (s : BaseShape t code b.row b.next) → m.moved ≡ s.moved
+  same_word b m s =
+      let e : m.word ≡ s.word = same_some (program_word t b.row.point) m.word s.word m.here s.here in
+      same_some (moved_of s.word b.row.point (moved_at b.row.at)) m.moved s.moved (subst (λ w. moved_of w b.row.point (moved_at b.row.at) ≡ Some m.moved) e m.movable) s.movable
+
+  -- the moved word of number j is fetched
+  fetch_moved : (b : Piece) (hb : In b ps) (bs : IsBase b) (m : MovedWord t b) (j : ℕ) (w : MarkedWord) → x.inside ≡ true → x.pc ≡ moved_at b.row.at + 4 * j → slice_get m.moved j ≡ Some w
+      → (fetched t code x ≡ Some w) × (get code x.pc ≡ Some w) × (x.pc < b.row.at + 4 * b.row.len)
+  fetch_moved b hb bs m j w i e k =
+      let s = base_shape b hb bs in
+      let k' : slice_get s.moved j ≡ Some w = subst (λ ws. slice_get ws j ≡ Some w) (same_word b m s) k in
+      let l = slice_get_within s.moved j w k' in
+      let len = s.len in
+      let a : x.pc ≡ b.row.at + 4 * suc (suc (suc j)) = omega arith in
+      let st' = stands_at code b.row.at (base_with s.jump s.moved) (suc (suc (suc j))) w s.stands k' in
+      (fetch_block b (suc (suc (suc j))) (base_with s.jump s.moved) w hb i a (omega arith) st', ap (get code) a ∙ st', omega arith)
+
+  fetch_base : (b : Piece) (hb : In b ps) (bs : IsBase b) (n : ℕ) (w : MarkedWord) → x.inside ≡ true → x.pc ≡ b.row.at + 4 * n → n < 3 → slice_get (base_with (base_shape b hb bs).jump (base_shape b hb bs).moved) n ≡ Some w → fetched t code x ≡ Some w
+  fetch_base b hb bs n w i e l k =
+      let s = base_shape b hb bs in
+      let len = s.len in
+      fetch_block b n (base_with s.jump s.moved) w hb i e (omega arith) (stands_at code b.row.at (base_with s.jump s.moved) n w s.stands k)
+
+  pc_low : (b : Piece) (n : ℕ) → In b ps → x.pc ≡ b.row.at + 4 * n → n < b.row.len → x.pc + 4 < 2 ^ 64
+  pc_low b n hb e l = let hi = (st.places b hb).high in let top = tool_high in omega arith
+
+  in_base : (b : Piece) → In b ps → IsBase b → (b.row.status ≡ Written → ⊥) → (z : Hart) → z.stop ≡ None → z.ticks ≡ x.ticks → length z.regs ≡ 32 → length z.bank ≡ bank_len → z.inside ≡ true → BasePlace t budget b z y → Dynamic t budget ps z y
+  in_base b hb bs was z on' et lr lb i k =
+      record {
+        ticks = et ∙ d.ticks;
+        stop = on' ∙ sym plain_on;
+        first = lr;
+        second = d.second;
+        bank = lb;
+        down = λ c q. absurd cc;
+        hart = λ q. inr (inl (record { b = b; is_in = hb; base = bs; was = was; inside = i; place = k }));
+      }
+
+  at_save : (b : Piece) → In b ps → IsBase b → (b.row.status ≡ Written → ⊥) → x.inside ≡ true → AtSave budget b x y → Owes (fetched t code x)
+  at_save b hb bs was i k =
+      let s = base_shape b hb bs in
+      let len = s.len in
+      let pc : x.pc ≡ b.row.at + 4 * 0 = (let e = k.pc in omega arith) in
+      let low = pc_low b 0 hb pc (omega arith) in
+      let nx : next x.pc ≡ b.row.at + 4 = (let e = k.pc in omega arith) in
+      owes (Some (tool (word_of (Store Sd 0 5 8)))) (fetch_base b hb bs 0 (tool (word_of (Store Sd 0 5 8))) i pc (omega arith) refl)
+      (tool_to (word_of (Store Sd 0 5 8)) (next x.pc) (with_doubleword (bench_of x) 1 (reg x.regs 5)) (save_steps x.ticks x.pc (bench_of x))
+      (in_base b hb bs was (record x { pc = next x.pc; bank = set_bank x.bank 1 (reg x.regs 5) }) on refl d.first (length_set_bank x.bank 1 (reg x.regs 5) ∙ d.bank) i
+      (inr (inl (record { pc = nx; home = k.home; before = k.before; saved = record { agree = λ r l n. k.agree r l; saved = saved_back x.bank (reg x.regs 5) d.bank ∙ k.agree 5 (omega arith) } })))))
+
+  at_head : (b : Piece) → In b ps → IsBase b → (b.row.status ≡ Written → ⊥) → x.inside ≡ true → AtSaved budget b (b.row.at + 4) x y → Owes (fetched t code x)
+  at_head b hb bs was i k =
+      let s = base_shape b hb bs in
+      let pc : x.pc ≡ b.row.at + 4 * 1 = (let e = k.pc in omega arith) in
+      owes (Some (tool s.jump)) (fetch_base b hb bs 1 (tool s.jump) i pc (omega arith) refl)
+      (hop_on b b.row.at clock b.next (is_current b.row.status) s.jump hb bs was refl i k.home k.before k.saved (subst (λ a. Hops a b.next s.jump) (sym k.pc) s.hops) (st.heads b hb bs))
+
+  at_tail : (b : Piece) → In b ps → IsBase b → (b.row.status ≡ Written → ⊥) → x.inside ≡ true → AtSaved budget b (tail_of b.row.at) x y → Owes (fetched t code x)
+  at_tail b hb bs was i k =
+      let s = base_shape b hb bs in
+      let len = s.len in
+      let pc : x.pc ≡ b.row.at + 4 * 2 = (let e = k.pc in omega arith) in
+      let low = pc_low b 2 hb pc (omega arith) in
+      let v = saved_x5 x.bank in
+      let m = moved_word b hb bs in
+      let nx : next x.pc ≡ moved_at b.row.at + 4 * 0 = (let e = k.pc in omega arith) in
+      let size : length (with_reg x.regs 5 v) ≡ 32 = length_with x.regs 5 v ∙ d.first in
+      let room : nat_lt 5 (length x.regs) ≡ true = ap (nat_lt 5) d.first in
+      let sv = k.saved in
+      let agree : Agree (with_reg x.regs 5 v) y.regs = λ r l. ⊎_elim
+          (λ (e : r ≡ 5). ap (reg (with_reg x.regs 5 v)) e ∙ (read_back x.regs 5 v refl room ∙ (sv.saved ∙ ap (reg y.regs) (sym e))))
+          (λ (e : r ≡ 5 → ⊥). read_but x.regs 5 r v e ∙ sv.agree r l e) (cases_eq r 5) in
+      owes (Some (tool (word_of (Load Ld 5 0 8)))) (fetch_base b hb bs 2 (tool (word_of (Load Ld 5 0 8))) i pc (omega arith) refl)
+      (tool_to (word_of (Load Ld 5 0 8)) (next x.pc) (with_value (bench_of x) 5 v) (restore_steps x.ticks x.pc (bench_of x))
+      (in_base b hb bs was (record x { pc = next x.pc; regs = with_reg x.regs 5 v }) on refl size d.bank i
+      (inr (inr (inr (inl (record {
+        m = m;
+        j = 0;
+        low = omega arith;
+        pc = nx;
+        home = k.home;
+        before = k.before;
+        regs = with_reg x.regs 5 v;
+        size = size;
+        agree = agree;
+        is = sym ((m.moves).start (with_reg x.regs 5 v));
+      })))))))
+
+  -- a moved word before the tick
+  at_silent : (b : Piece) → In b ps → IsBase b → (b.row.status ≡ Written → ⊥) → x.inside ≡ true → (k : AtMoved t budget b x y) → k.j < own_place (k.m).word → Owes (fetched t code x)
+  at_silent b hb bs was i k l =
+      let m = k.m in
+      let to = moved_at b.row.at in
+      let s = (m.moves).silent k.j l in
+      let step : step_on bank_len s.0 x.ticks x.pc (bench_of x) ≡ Ok (stand (to + 4 * (k.j + 1)) (bench ((m.moves).before (k.j + 1) k.regs) x.bank)) =
+        subst (λ pc. step_on bank_len s.0 x.ticks pc (bench_of x) ≡ Ok (stand (to + 4 * (k.j + 1)) (bench ((m.moves).before (k.j + 1) k.regs) x.bank))) (sym k.pc)
+        (subst (λ rs. step_on bank_len s.0 x.ticks (to + 4 * k.j) (bench rs x.bank) ≡ Ok (stand (to + 4 * (k.j + 1)) (bench ((m.moves).before (k.j + 1) k.regs) x.bank))) (sym k.is) (s.2 k.regs x.bank x.ticks k.size)) in
+      let up : k.j + 1 ≤ own_place m.word = omega arith in
+      owes (Some (tool s.0)) (fetch_moved b hb bs m k.j (tool s.0) i k.pc s.1).0
+      (tool_to s.0 (to + 4 * (k.j + 1)) (bench ((m.moves).before (k.j + 1) k.regs) x.bank) step
+      (in_base b hb bs was (record x { pc = to + 4 * (k.j + 1); regs = (m.moves).before (k.j + 1) k.regs }) on refl ((m.moves).size (k.j + 1) k.regs up ∙ k.size) d.bank i
+      (inr (inr (inr (inl (record { m = m; j = k.j + 1; low = up; pc = refl; home = k.home; before = k.before; regs = k.regs; size = k.size; agree = k.agree; is = refl })))))))
+
+  -- the tick
+  tick_outcome : (b : Piece) → In b ps → IsBase b → (b.row.status ≡ Written → ⊥) → x.inside ≡ true → (m : MovedWord t b) (w : ℕ) (o u : Outcome) → program_pc code rows x ≡ y.pc → SameStep w (own_place m.word) (moved_at b.row.at) m.moved o u
+      → Dynamic t budget ps (own_step (done o x.regs p) w (program_pc code rows x) x).hart (after_done (done u y.regs p) y).hart × ((own_step (done o x.regs p) w (program_pc code rows x) x).prog ≡ (after_done (done u y.regs p) y).prog)
+  tick_outcome b hb bs was i m w (Stops c) (Stops e) home s = (downs c (program_pc code rows x) _ home (ap (λ k. record { pc = y.pc; regs = y.regs; ticks = y.ticks + 1; stop = Some k }) (sym s)), refl)
+  tick_outcome b hb bs was i m w (Stops c) (Goes pc a q) home s = absurd s
+  tick_outcome b hb bs was i m w (Goes pc a q) (Stops c) home s = absurd s
+  tick_outcome b hb bs was i m w (Goes pc a q) (Goes qc e r) home s = (
+    record {
+      ticks = ap (λ n. n + 1) d.ticks;
+      stop = d.stop;
+      first = (s.1).first;
+      second = (s.1).second;
+      bank = d.bank;
+      down = λ k z. absurd cc;
+      hart = λ z. ⊎_elim
+          (λ (k : (is_jump w ≡ true) × (pc ≡ qc)). inl (record { outside = grind (arith, common_steps, i, k.0); pc = k.1; agree = (s.1).agree }))
+          (λ (k : (is_jump w ≡ false) × (j : ℕ) × (left : ℕ) × (own_place m.word < j) × (j < length m.moved) × (pc ≡ moved_at b.row.at + 4 * j) × (slice_get m.moved j ≡ Some (leave left)) × (jump_of (decode_of left) (moved_at b.row.at + 4 * j) ≡ Some qc)).
+          inr (inl (record {
+            b = b;
+            is_in = hb;
+            base = bs;
+            was = was;
+            inside = grind (arith, common_steps, i, k.0);
+            place = inr (inr (inr (inr (record { m = m; j = k.1; above = k.3; low = k.4; pc = k.5; left = k.2; stands = k.6; home = k.7; agree = (s.1).agree }))));
+          })))
+          s.2;
+    },
+    s.0,
+  )
+
+  at_tick : (b : Piece) → In b ps → IsBase b → (b.row.status ≡ Written → ⊥) → x.inside ≡ true → (k : AtMoved t budget b x y) → k.j ≡ own_place (k.m).word → Owes (fetched t code x)
+  at_tick b hb bs was i k e =
+      let m = k.m in
+      let to = moved_at b.row.at in
+      let tk = (m.moves).tick in
+      let w = tk.0 in
+      let pc : x.pc ≡ to + 4 * own_place m.word = k.pc ∙ ap (λ j. to + 4 * j) e in
+      let is : x.regs ≡ (m.moves).before (own_place m.word) k.regs = k.is ∙ ap (λ j. (m.moves).before j k.regs) e in
+      let f = fetch_moved b hb bs m (own_place m.word) (own w) i pc tk.1 in
+      let at = (let z = k.pc in let lo : b.row.at ≤ x.pc = omega arith in lo) in
+      let home : program_pc code rows x ≡ y.pc = cond-true x.inside (home_of code rows x.pc) x.pc i ∙ (home_word t code rows ps clock st b x.pc (own w) hb at f.2 f.1 ∙ sym k.home) in
+      let same0 = tk.2 k.regs y.regs h p (record { agree = k.agree; first = k.size; second = d.second }) in
+      let same1 : SameStep w (own_place m.word) to m.moved (exec_of w x.pc h x.regs p) (exec_of m.word y.pc h y.regs p) =
+        subst (λ a. SameStep w (own_place m.word) to m.moved (exec_of w a h x.regs p) (exec_of m.word y.pc h y.regs p)) (sym pc)
+        (subst (λ rs. SameStep w (own_place m.word) to m.moved (exec_of w (to + 4 * own_place m.word) h rs p) (exec_of m.word y.pc h y.regs p)) (sym is)
+        (subst (λ a. SameStep w (own_place m.word) to m.moved (exec_of w (to + 4 * own_place m.word) h ((m.moves).before (own_place m.word) k.regs) p) (exec_of m.word a h y.regs p)) (sym k.home) same0)) in
+      let both = tick_outcome b hb bs was i m w (exec_of w x.pc h x.regs p) (exec_of m.word y.pc h y.regs p) home same1 in
+      let here : program_word t y.pc ≡ Some m.word = ap (program_word t) k.home ∙ m.here in
+      let to' : (o : Option ℕ) → Type 0 = λ o.
+        Dynamic t budget ps (own_step (done (exec_of w x.pc h x.regs p) x.regs p) w (program_pc code rows x) x).hart (after_done (done (plain.fetched o h y p) y.regs p) y).hart
+        × ((own_step (done (exec_of w x.pc h x.regs p) x.regs p) w (program_pc code rows x) x).prog ≡ (after_done (done (plain.fetched o h y p) y.regs p) y).prog) in
+      let r : to' (program_word t y.pc) = subst to' (sym here) both in
+      owes (Some (own w)) f.0 (can_go k.before, r.0, r.1)
+
+  at_leave : (b : Piece) → In b ps → IsBase b → x.inside ≡ true → AtLeave t b x y → Owes (fetched t code x)
+  at_leave b hb bs i k =
+      let m = k.m in
+      let to = moved_at b.row.at in
+      let l = (m.moves).leaves k.j k.above k.low in
+      let same : leave l.0 ≡ leave k.left = same_some (slice_get m.moved k.j) (leave l.0) (leave k.left) l.2 k.stands in
+      let word : l.0 ≡ k.left = ap (λ (w : MarkedWord). w.word) same in
+      let home : l.1 ≡ y.pc = same_some (jump_of (decode_of k.left) (to + 4 * k.j)) l.1 y.pc (subst (λ w. jump_of (decode_of w) (to + 4 * k.j) ≡ Some l.1) word l.3) k.home in
+      let step0 = l.4 (bench_of x) x.ticks in
+      let step : step_on 0 k.left x.ticks x.pc (bench_of x) ≡ Ok (stand y.pc (bench_of x)) =
+        subst (λ a. step_on 0 k.left x.ticks a (bench_of x) ≡ Ok (stand y.pc (bench_of x))) (sym k.pc)
+        (subst (λ w. step_on 0 w x.ticks (to + 4 * k.j) (bench_of x) ≡ Ok (stand y.pc (bench_of x))) word
+        (subst (λ a. step_on 0 l.0 x.ticks (to + 4 * k.j) (bench_of x) ≡ Ok (stand a (bench_of x))) home step0)) in
+      owes (Some (leave k.left)) (fetch_moved b hb bs m k.j (leave k.left) i k.pc k.stands).0
+      (leave_to k.left y.pc (bench_of x) step
+      (record {
+        ticks = d.ticks;
+        stop = d.stop;
+        first = d.first;
+        second = d.second;
+        bank = d.bank;
+        down = λ c z. absurd cc;
+        hart = λ z. inl (record { outside = refl; pc = refl; agree = k.agree });
+      }))
+
+  at_moved : (b : Piece) → In b ps → IsBase b → (b.row.status ≡ Written → ⊥) → x.inside ≡ true → AtMoved t budget b x y → Owes (fetched t code x)
+  at_moved b hb bs was i k = ⊎_elim (λ l. at_silent b hb bs was i k l) (λ l. at_tick b hb bs was i k (let q = k.low in omega arith)) (cases_lt k.j (own_place (k.m).word))
+
+  inside_base : InBase t budget ps x y → Owes (fetched t code x)
+  inside_base k = ⊎_elim (λ q. at_save k.b k.is_in k.base k.was k.inside q)
+      (λ r. ⊎_elim (λ q. at_head k.b k.is_in k.base k.was k.inside q)
+      (λ r. ⊎_elim (λ q. at_tail k.b k.is_in k.base k.was k.inside q)
+      (λ r. ⊎_elim (λ q. at_moved k.b k.is_in k.base k.was k.inside q) (λ q. at_leave k.b k.is_in k.base k.inside q) r) r) r) k.place
+
+  -- ---- in a mini block
+
+  inside_mini : InMini budget ps x y → Owes (fetched t code x)
+  inside_mini k = by k.f k.safe
+    where
+      shape : MiniShape code (k.m).row (k.m).body (k.m).next
+      shape = mini_shape k.m k.is_in k.linked
+
+      here : (j : ℕ) (w : MarkedWord) → j ≡ k.i → j < (k.m).row.len → slice_get ((k.m).body ++ tool shape.jump ∷ []) j ≡ Some w → fetched t code x ≡ Some w
+      here j w e l q =
+          fetch_block k.m j ((k.m).body ++ tool shape.jump ∷ []) w k.is_in k.inside (k.pc ∙ ap (λ n. (k.m).row.at + 4 * n) (sym e)) l (stands_at code (k.m).row.at ((k.m).body ++ tool shape.jump ∷ []) j w shape.stands q)
+
+      ends : k.i ≡ length (k.m).body → Owes (fetched t code x)
+      ends e =
+          let len = shape.len in
+          let pc : x.pc ≡ (k.m).row.at + 4 * length (k.m).body = k.pc ∙ ap (λ n. (k.m).row.at + 4 * n) e in
+          owes (Some (tool shape.jump)) (here (length (k.m).body) (tool shape.jump) (sym e) (omega arith) (get_append (k.m).body (tool shape.jump)))
+          (hop_on k.b (k.m).family (k.m).age (k.m).next (is_live (k.m).row.status) shape.jump (k.family).is_in (k.family).base k.was (k.family).at k.inside (k.home ∙ sym (k.family).point) k.before k.saved
+          (subst (λ a. Hops a (k.m).next shape.jump) (sym pc) shape.hops) (st.chains k.m k.is_in k.linked))
+
+      leaps : (f j : ℕ) (z : Bench) → Leap (k.m).body (k.m).row.at x.ticks k.i (bench_of x) j z → Safe f (k.m).body (k.m).row.at j z x.ticks → Owes (fetched t code x)
+      leaps f j z l s =
+          let len = shape.len in
+          let in_body = slice_get_within (k.m).body k.i (tool l.word) l.here in
+          let ke = l.keeps in
+          let sv = k.saved in
+          let step : step_on bank_len l.word x.ticks x.pc (bench_of x) ≡ Ok (stand ((k.m).row.at + 4 * j) z) =
+            subst (λ a. step_on bank_len l.word x.ticks a (bench_of x) ≡ Ok (stand ((k.m).row.at + 4 * j) z)) (sym k.pc) l.step in
+          owes (Some (tool l.word)) (here k.i (tool l.word) refl (omega arith) (get_before (k.m).body (tool shape.jump ∷ []) k.i (tool l.word) l.here))
+          (tool_to l.word ((k.m).row.at + 4 * j) z step
+          (record {
+            ticks = d.ticks;
+            stop = d.stop;
+            first = ke.size ∙ d.first;
+            second = d.second;
+            bank = ke.room ∙ d.bank;
+            down = λ c q. absurd cc;
+            hart = λ q. inr (inr (record {
+              m = k.m;
+              b = k.b;
+              is_in = k.is_in;
+              linked = k.linked;
+              family = k.family;
+              was = k.was;
+              inside = k.inside;
+              home = k.home;
+              before = k.before;
+              saved = record { agree = λ r u n. ke.regs r n (λ e. omega arith) ∙ sv.agree r u n; saved = ke.saved ∙ sv.saved };
+              i = j;
+              f = f;
+              pc = refl;
+              safe = s;
+            }));
+          }))
+
+      by : (f : ℕ) → Safe f (k.m).body (k.m).row.at k.i (bench_of x) x.ticks → Owes (fetched t code x)
+      by zero e = ends e
+      by (suc f) (inl e) = ends e
+      by (suc f) (inr r) = leaps f r.0 r.1 r.2 r.3
+
+  -- ---- together
+
+  fetch_text : (o : Option MarkedWord) → x.inside ≡ false → is_text_word t x.pc ≡ true → get code x.pc ≡ o → fetched t code x ≡ o
+  fetch_text o i l e = cond-false x.inside _ _ i ∙ (cond-true (is_text_word t x.pc) (get code x.pc) None l ∙ e)
+
+  fetch_none : x.inside ≡ false → is_text_word t x.pc ≡ false → fetched t code x ≡ None
+  fetch_none i l = cond-false x.inside _ _ i ∙ cond-false (is_text_word t x.pc) (get code x.pc) None l
+
+  outside : Outside x y → x.ticks < budget → Owes (fetched t code x)
+  outside o l = ⊎_elim near far (text_cases t x.pc)
+    where
+      near : (w : ℕ) × (program_word t x.pc ≡ Some w) × (is_text_word t x.pc ≡ true) → Owes (fetched t code x)
+      near r =
+          let q = in_text t x.pc r.0 r.1 in
+          ⊎_elim
+          (λ (e : get code x.pc ≡ Some (own r.0)).
+          owes (Some (own r.0)) (fetch_text (Some (own r.0)) o.outside r.2 e)
+          (own_outside r.0 (g.plain q.i r.0 q.is) o.outside o.pc o.agree l (ap (program_word t) (sym o.pc) ∙ r.1)))
+          (λ (e : (b : Piece) × In b ps × IsBase b × (b.row.point ≡ x.pc) × (b.row.status ≡ Live) × Door code b).
+          owes (Some (enter (e.5).jump)) (fetch_text (Some (enter (e.5).jump)) o.outside r.2 (ap (get code) (sym e.3) ∙ (e.5).stands))
+          (enters e.0 e.1 e.2 e.3 e.4 e.5 o l))
+          (st.words x.pc r.0 r.1)
+
+      far : (program_word t x.pc ≡ None) × (is_text_word t x.pc ≡ false) → Owes (fetched t code x)
+      far r = owes None (fetch_none o.outside r.1) (none_outside o.outside o.pc l (ap (program_word t) (sym o.pc) ∙ r.0))
+
+  pub turn_keeps : (x.inside ≡ true) ⊎ (x.ticks < budget) → Owes (fetched t code x)
+  turn_keeps r =
+      ⊎_elim (λ (o : Outside x y). outside o (⊎_elim (λ e. absurd (true≢false (sym e ∙ o.outside))) (λ l. l) r))
+      (λ (k : InBase t budget ps x y ⊎ InMini budget ps x y). ⊎_elim inside_base inside_mini k) (d.hart on)
