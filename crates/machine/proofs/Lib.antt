@@ -6,3 +6,12 @@ pub mod Lists
 pub mod Invariant
 pub mod Homes
 pub mod Turns
+pub mod Blocks
+pub mod Follow
+pub mod Points
+pub mod Minis
+pub mod Unlink
+pub mod Adding
+pub mod Arming
+pub mod Steps
+pub mod Sames

@@ -4,6 +4,7 @@ use Rattle.std.proofs.lemmas.Grind.{common_steps}
 use Rattle.rv_word.specs.Fields.{extended}
 use Rattle.rv_word.specs.Table.{decode_of}
 use Rattle.rv_word.specs.Words.{word_of, HasWord, IsExtended, IsJump}
+use Rattle.tramp_spec.specs.Jumps.{distance, jump_word}
 use Rattle.rv_word.specs.declared.instr.Instr.{Instr}
 use Rattle.rv_word.specs.declared.instr.Instr.TheVariants.{Lui, Addiw, Jal, Jalr, Branch, Load, Store, OpImm, Op}
 use Rattle.rv_word.specs.declared.instr.LoadOp.TheVariants.{Ld}
@@ -44,3 +45,14 @@ beq_reads r q n l m h = grind (arith, common_steps)
 pub bgeu_reads : (r q n : ℕ) → r < 32 → q < 32 → IsJump 13 n → decode_of (word_of (Branch Bgeu r q n)) ≡ Some (Branch Bgeu r q n)
 unfolding decode_of
 bgeu_reads r q n l m h = grind (arith, common_steps)
+
+-- a jump leads somewhere, whatever it was made for
+pub jump_reads : (from to : ℕ) → (n : ℕ) × (offset : ℕ) × (decode_of (jump_word from to) ≡ Some (Jal 0 offset)) × ((from + offset) % 2 ^ 64 ≡ n)
+unfolding decode_of
+jump_reads from to =
+    let offset = extended 21 (distance from to % 2 ^ 21 / 2 * 2) in
+    let is : decode_of (word_of (Jal 0 (distance from to))) ≡ Some (Jal 0 offset) = jal_is (distance from to) in
+    ((from + offset) % 2 ^ 64, offset, is, refl)
+  where
+    jal_is : (d : ℕ) → decode_of (word_of (Jal 0 d)) ≡ Some (Jal 0 (extended 21 (d % 2 ^ 21 / 2 * 2)))
+    jal_is d = grind (arith, common_steps)

@@ -1,0 +1,292 @@
+-- LinkMini keeps what is kept.
+use Rattle.std.proofs.Common.{◌≡◌, ℕ, ◌+◌, ◌-◌, ◌*◌, ◌%◌, ◌<◌, ◌≤◌, List, [], ◌∷◌, ◌++◌, length, Option, Some, refl, sym, ap, ◌∙◌, subst, arith, ⊎_elim, inl, inr}
+use Rattle.std.specs.Prelude.{map, Bool, true, false, cond, slice_get, ◌⊎◌, ◌==◌}
+use Rattle.std.specs.FinMap.{get, insert}
+use Rattle.std.proofs.lemmas.Bool.{true≢false, cases_Bool, cases_eq, cond-true, cond-false, eq-eqb, ne_eqb}
+use Rattle.rv_word.specs.Plain.{Words, Plain, program_word}
+use Rattle.tramp_spec.specs.Blocks.{tail_of}
+use Rattle.tramp_spec.specs.Jumps.{jump_word}
+use Rattle.tramp_spec.specs.Marks.{tool}
+use Rattle.tramp_spec.specs.declared.mark.MarkedWord.{MarkedWord}
+use Rattle.tramp_spec.proofs.Hops.{Hops, target_is, jump_hops}
+use Rattle.machine.specs.Cores.{In, Code, Row, Status, Written, Live, Core, is_live, is_current, tool_at}
+use Rattle.machine.specs.Effects.{with_status, at_set, mini_linked, lead_to}
+use Rattle.machine.specs.Events.{Apart, link_at, next_of, target_at, current_base, HasMini}
+use Rattle.machine.proofs.Lists.{map_in, get_other, stands_at, get_append}
+use Rattle.machine.proofs.Invariant.{Ground, Piece, IsBase, Linked, LiveOf, base_with, BaseShape, MiniShape, ShapedAs, Shaped, Placed, Leads, HasFamily, Door, TextWord, Static, Inv}
+use Rattle.machine.proofs.Homes.{piece_of, one_block, has_len}
+use Rattle.machine.proofs.Turns.{text_low}
+use Rattle.machine.proofs.Points.{at_hit, at_miss, Current, current_piece, family_of}
+use Rattle.machine.proofs.Follow.{Kept, All, NoPiece, Nowhere, reworked}
+use Rattle.machine.proofs.Blocks.{shaped_other, shaped_next, link_in, static_kept, leads_kept, rework, door_of}
+
+link_is : (code : Code) (row : Row) (a n w : ℕ) → link_at row ≡ a → Hops a n w → get code a ≡ Some (tool w) → next_of code row ≡ n
+link_is code row a n w e h s =
+    ap (λ z. target_at (get code z) z) e ∙ (ap (λ o. target_at o a) s ∙ jump_to_next)
+  where
+    jump_to_next : target_at (Some (tool w)) a ≡ n
+    jump_to_next = rw (target_is a n w h) refl
+
+-- what a block's word names is its next
+pub next_is : (t : Words) (code : Code) (x : Piece) → Shaped t code x → next_of code x.row ≡ x.next
+next_is t code x (inl r) =
+    let e : link_at x.row ≡ x.row.at + 4 = cond-true x.row.base _ _ r.base in
+    link_is code x.row (x.row.at + 4) x.next r.jump e r.hops (r.stands).1.0
+next_is t code x (inr r) =
+    let l = r.len in
+    let n : x.row.at + 4 * (x.row.len - 1) ≡ x.row.at + 4 * length x.body = omega arith in
+    let e : link_at x.row ≡ x.row.at + 4 * length x.body = cond-false x.row.base _ _ r.mini ∙ n in
+    link_is code x.row (x.row.at + 4 * length x.body) x.next r.jump e r.hops (stands_at code x.row.at (x.body ++ tool r.jump ∷ []) (length x.body) (tool r.jump) r.stands (get_append x.body (tool r.jump)))
+
+pub mini_or_base : (x : Piece) → IsBase x ⊎ (x.row.base ≡ false)
+mini_or_base x = ⊎_elim (λ e. inl (record { base = e })) (λ e. inr e) (cases_Bool x.row.base)
+
+-- a word of a block is written anew, and the others stand
+module _ (t : Words) (g : Ground t) (code : Code) (rows : List Row) (ps : List Piece) (clock : ℕ) (st : Static t code rows ps clock) where
+  -- a jump from a block to an address of the tool text is in reach
+  pub tool_hops : (o : Piece) → In o ps → (to : ℕ) → to % 4 ≡ 0 → tool_at t ≤ to → to ≤ tool_at t + 393216 → Hops (link_at o.row) to (jump_word (link_at o.row) to)
+  tool_hops o ho to al lo hi =
+      let i = link_in t code o.row o.body o.next (st.shapes o ho) in
+      let k = st.places o ho in
+      let a = k.aligned in
+      let l = k.low in
+      let u = k.high in
+      let i0 = i.0 in
+      let i1 = i.1 in
+      let i2 = i.2.1 in
+      let gh = g.high in
+      jump_hops (link_at o.row) to (omega arith) (omega arith) (omega arith) al (omega arith) (omega arith)
+
+  pub shapes_but : (o : Piece) → In o ps → (new jump : ℕ) → Hops (link_at o.row) new jump → (x : Piece) → In x ps → ShapedAs t (insert code (link_at o.row) (tool jump)) x.row x.body (cond (x.row.at == o.row.at) new x.next)
+  shapes_but o ho new jump hop x hx =
+      ⊎_elim
+      (λ (e : x.row.at ≡ o.row.at).
+      let same = one_block t code rows ps clock st x o hx ho e in
+      subst (λ n. ShapedAs t (insert code (link_at o.row) (tool jump)) x.row x.body n) (sym (cond-true (x.row.at == o.row.at) new x.next (eq-eqb _ _ e)))
+      (subst (λ (u : Piece). ShapedAs t (insert code (link_at u.row) (tool jump)) x.row x.body new) same
+      (shaped_next t code x.row x.body x.next new jump (subst (λ (u : Piece). Hops (link_at u.row) new jump) (sym same) hop) (st.shapes x hx))))
+      (λ (e : x.row.at ≡ o.row.at → ⊥).
+      subst (λ n. ShapedAs t (insert code (link_at o.row) (tool jump)) x.row x.body n) (sym (cond-false (x.row.at == o.row.at) new x.next (ne_eqb _ _ e)))
+      (shaped_other t code x.row x.body x.next (link_at o.row) _ (away e) (st.shapes x hx)))
+      (cases_eq x.row.at o.row.at)
+    where
+      away : (x.row.at ≡ o.row.at → ⊥) → (link_at o.row < x.row.at) ⊎ (x.row.at + 4 * x.row.len ≤ link_at o.row)
+      away e =
+          let i = link_in t code o.row o.body o.next (st.shapes o ho) in
+          let i0 = i.0 in
+          let i1 = i.1 in
+          ⊎_elim (λ y. absurd (e (ap (λ (u : Piece). u.row.at) y))) (λ (a : Apart x.row.at x.row.len o.row.at o.row.len). ⊎_elim (λ l. inr (omega arith)) (λ l. inl (omega arith)) a) (st.apart x o hx ho)
+
+  -- the text stands under a write in a block
+  pub text_other : (o : Piece) → In o ps → (w : MarkedWord) (a u : ℕ) → program_word t a ≡ Some u → get (insert code (link_at o.row) w) a ≡ get code a
+  text_other o ho w a u e =
+      let i = (link_in t code o.row o.body o.next (st.shapes o ho)).0 in
+      let low = (st.places o ho).low in
+      let under = text_low t a u e in get_other code (link_at o.row) a w (λ z. omega arith)
+
+  pub point_word : (b : Piece) → In b ps → IsBase b → (u : ℕ) × (program_word t b.row.point ≡ Some u)
+  point_word b hb k = ⊎_elim (λ (r : BaseShape t code b.row b.next). (r.word, r.here)) (λ (r : MiniShape code b.row b.body b.next). absurd (true≢false (sym k.base ∙ r.mini))) (st.shapes b hb)
+
+  door_other : (o : Piece) → In o ps → (w : MarkedWord) (b : Piece) → In b ps → IsBase b → Door code b → Door (insert code (link_at o.row) w) b
+  door_other o ho w b hb k d = let q = point_word b hb k in record { jump = d.jump; stands = text_other o ho w b.row.point q.0 q.1 ∙ d.stands; hops = d.hops }
+
+  pub doors_but : (f : Row → Status) → ((x : Piece) → In x ps → IsBase x → f x.row ≡ x.row.status) → (o : Piece) → In o ps → (w : MarkedWord) (b : Piece) → In b ps → IsBase b → f b.row ≡ Live → Door (insert code (link_at o.row) w) b
+  doors_but f same o ho w b hb k e = door_other o ho w b hb k (st.doors b hb k (sym (same b hb k) ∙ e))
+
+  pub words_but : (f : Row → Status) (n fam age : Piece → ℕ) → ((x : Piece) → In x ps → IsBase x → f x.row ≡ x.row.status) → (o : Piece) → In o ps → (w : MarkedWord) (a u : ℕ) → program_word t a ≡ Some u → TextWord (insert code (link_at o.row) w) (map (rework f n fam age) ps) a u
+  words_but f n fam age same o ho w a u e =
+      let other = text_other o ho w a u e in
+      ⊎_elim (λ z. inl (other ∙ z))
+      (λ (z : (d : Piece) × In d ps × IsBase d × (d.row.point ≡ a) × (d.row.status ≡ Live) × Door code d).
+      let d' = rework f n fam age z.0 in
+      inr (d', map_in (rework f n fam age) ps z.0 z.1, record { base = (z.2).base }, z.3, same z.0 z.1 z.2 ∙ z.4, door_of (insert code (link_at o.row) w) z.0 d' refl refl (door_other o ho w z.0 z.1 z.2 z.5)))
+      (st.words a u e)
+
+-- LinkMini
+module _ (c : Core) (s : Plain) (v : Inv c s) (p m : ℕ) (b r : Row) (eb : current_base c.rows p ≡ Some b) (hr : In r c.rows) (rb : r.base ≡ false) (rp : r.point ≡ p) (ra : r.at ≡ m) (rs : r.status ≡ Written) (rn : next_of c.code r ≡ next_of c.code b) where
+  abbrev ps : List Piece
+  ps = v.ps
+
+  abbrev clock : ℕ
+  clock = v.clock
+
+  st : Static c.program c.code c.rows v.ps v.clock
+  st = v.static
+
+  pb : Current v.ps p b
+  pb = current_piece c.program c.code c.rows v.ps v.clock v.static p b eb
+
+  pm : (d : Piece) × In d v.ps × (r ≡ d.row)
+  pm = piece_of c.program c.code c.rows v.ps v.clock v.static r hr
+
+  pm_at : (pm.0).row.at ≡ m
+  pm_at = sym (ap (λ (u : Row). u.at) pm.2) ∙ ra
+
+  pm_mini : (pm.0).row.base ≡ false
+  pm_mini = sym (ap (λ (u : Row). u.base) pm.2) ∙ rb
+
+  pm_written : (pm.0).row.status ≡ Written
+  pm_written = sym (ap (λ (u : Row). u.status) pm.2) ∙ rs
+
+  same_next : (pm.0).next ≡ (pb.d).next
+  same_next = sym (next_is c.program c.code pm.0 (st.shapes pm.0 pm.1)) ∙ (ap (next_of c.code) (sym pm.2) ∙ (rn ∙ (ap (next_of c.code) pb.row ∙ next_is c.program c.code pb.d (st.shapes pb.d pb.is_in))))
+
+  abbrev f : Row → Status
+  f = at_set m Live
+
+  abbrev n : Piece → ℕ
+  n x = cond (x.row.at == (pb.d).row.at) m x.next
+
+  abbrev fam : Piece → ℕ
+  fam x = cond (x.row.at == m) (pb.d).row.at x.family
+
+  abbrev age : Piece → ℕ
+  age x = cond (x.row.at == m) v.clock x.age
+
+  hit : (x : Piece) → In x v.ps → x.row.at ≡ m → x ≡ pm.0
+  hit x h e = one_block c.program c.code c.rows v.ps v.clock v.static x pm.0 h pm.1 (e ∙ sym pm_at)
+
+  -- the others are not at m
+  fam_miss : (x : Piece) → (x.row.at ≡ m → ⊥) → fam x ≡ x.family
+  fam_miss x e = cond-false (x.row.at == m) _ _ (ne_eqb _ _ e)
+
+  age_miss : (x : Piece) → (x.row.at ≡ m → ⊥) → age x ≡ x.age
+  age_miss x e = cond-false (x.row.at == m) _ _ (ne_eqb _ _ e)
+
+  fam_hit : (x : Piece) → x.row.at ≡ m → fam x ≡ (pb.d).row.at
+  fam_hit x e = cond-true (x.row.at == m) _ _ (eq-eqb _ _ e)
+
+  age_hit : (x : Piece) → x.row.at ≡ m → age x ≡ v.clock
+  age_hit x e = cond-true (x.row.at == m) _ _ (eq-eqb _ _ e)
+
+  linked_not : (x : Piece) → In x v.ps → Linked x → x.row.at ≡ m → ⊥
+  linked_not x h k e = k.was (ap (λ (u : Piece). u.row.status) (hit x h e) ∙ pm_written)
+
+  base_not : (x : Piece) → In x v.ps → IsBase x → x.row.at ≡ m → ⊥
+  base_not x h k e = true≢false (sym k.base ∙ (ap (λ (u : Piece). u.row.base) (hit x h e) ∙ pm_mini))
+
+  linked_back : (x : Piece) → (x.row.at ≡ m → ⊥) → Linked (rework f n fam age x) → Linked x
+  linked_back x e k = record { mini = k.mini; was = λ w. k.was (at_miss m Live x.row e ∙ w) }
+
+  up : (x : Piece) → (x.row.status ≡ Written → ⊥) → f x.row ≡ Written → ⊥
+  up x w e = ⊎_elim (λ i. let h = at_hit m Live x.row i in absurd cc) (λ i. w (sym (at_miss m Live x.row i) ∙ e)) (cases_eq x.row.at m)
+
+  base_status : (x : Piece) → In x v.ps → IsBase x → f x.row ≡ x.row.status
+  base_status x h k = at_miss m Live x.row (base_not x h k)
+
+  -- what led on before leads on
+  on : (family from from' q : ℕ) (live live' : Bool) → (live' ≡ true → live ≡ true) → from ≤ from' → ((y : Piece) → In y v.ps → LiveOf family y → y.age < from' → y.age < from) → (family ≡ (pb.d).row.at → from' ≤ v.clock) → Leads v.ps family from q live → Leads (map (rework f n fam age) v.ps) family from' q live'
+  on family from from' q live live' le wide back low l =
+      leads_kept v.ps f n fam age family from from' q live live' l (let o = l.below in omega arith)
+      (λ y h mi fm lv lo hi. ⊎_elim
+      (λ (i : y.row.at ≡ m). let a = age_hit y i in let z = low (sym fm ∙ fam_hit y i) in absurd (omega arith))
+      (λ (i : y.row.at ≡ m → ⊥). let a = age_miss y i in
+      let o : LiveOf family y = record { mini = mi; of = sym (fam_miss y i) ∙ fm; live = sym (at_miss m Live y.row i) ∙ lv } in
+      l.free y h o (subst (λ z. l.lo < z) a lo) (back y h o (subst (λ z. z < from') a hi)))
+      (cases_eq y.row.at m))
+      (λ u h k fm lv at. let i = linked_not u h k in (up u k.was, fam_miss u i ∙ fm, age_miss u i, λ e. at_miss m Live u.row i ∙ lv (le e)))
+
+  head : Leads v.ps (pb.d).row.at v.clock (pb.d).next (is_current (pb.d).row.status)
+  head = st.heads pb.d pb.is_in pb.base
+
+  first : (x : Piece) → In x v.ps → x.row.at ≡ m → age x ≡ v.clock → 0 < age x
+  first x h i a = let l = head.below in omega arith
+
+  ages : (x : Piece) → In x v.ps → Linked (rework f n fam age x) → (0 < age x) × (age x < v.clock + 1)
+  ages x h k = ⊎_elim (λ (i : x.row.at ≡ m). let a = age_hit x i in (first x h i a, omega arith)) (λ (i : x.row.at ≡ m → ⊥). let o = st.ages x h (linked_back x i k) in let a = age_miss x i in (omega arith, omega arith)) (cases_eq x.row.at m)
+
+  distinct : (x y : Piece) → In x v.ps → In y v.ps → Linked (rework f n fam age x) → Linked (rework f n fam age y) → age x ≡ age y → x ≡ y
+  distinct x y hx hy kx ky e = ⊎_elim
+      (λ (i : x.row.at ≡ m). ⊎_elim (λ (j : y.row.at ≡ m). hit x hx i ∙ sym (hit y hy j))
+      (λ (j : y.row.at ≡ m → ⊥). let o = (st.ages y hy (linked_back y j ky)).1 in let a = age_hit x i in let z = age_miss y j in absurd (omega arith)) (cases_eq y.row.at m))
+      (λ (i : x.row.at ≡ m → ⊥). ⊎_elim
+      (λ (j : y.row.at ≡ m). let o = (st.ages x hx (linked_back x i kx)).1 in let a = age_hit y j in let z = age_miss x i in absurd (omega arith))
+      (λ (j : y.row.at ≡ m → ⊥). st.distinct x y hx hy (linked_back x i kx) (linked_back y j ky) (sym (age_miss x i) ∙ (e ∙ age_miss y j))) (cases_eq y.row.at m))
+      (cases_eq x.row.at m)
+
+  families : (x : Piece) → In x v.ps → Linked (rework f n fam age x) → (d : Piece) × In d v.ps × IsBase d × (d.row.at ≡ fam x) × (d.row.point ≡ x.row.point)
+  families x h k = ⊎_elim
+      (λ (i : x.row.at ≡ m). (pb.d, pb.is_in, pb.base, sym (fam_hit x i), pb.point ∙ (sym rp ∙ (ap (λ (u : Row). u.point) pm.2 ∙ sym (ap (λ (u : Piece). u.row.point) (hit x h i))))))
+      (λ (i : x.row.at ≡ m → ⊥). let o = st.families x h (linked_back x i k) in (o.0, (o.1).is_in, (o.1).base, (o.1).at ∙ sym (fam_miss x i), (o.1).point))
+      (cases_eq x.row.at m)
+
+  used : (x y : Piece) → In x v.ps → In y v.ps → Linked (rework f n fam age x) → IsBase y → y.row.at ≡ fam x → f x.row ≡ Live → is_current (f y.row) ≡ true
+  used x y hx hy kx by e lv = ap is_current (base_status y hy by) ∙ ⊎_elim
+      (λ (i : x.row.at ≡ m). ap (λ (u : Piece). is_current u.row.status) (one_block c.program c.code c.rows v.ps v.clock v.static y pb.d hy pb.is_in (e ∙ fam_hit x i)) ∙ pb.current)
+      (λ (i : x.row.at ≡ m → ⊥). let k = linked_back x i kx in st.used x y hx k (family_of c.program c.code c.rows v.ps v.clock v.static x y hx hy k by (e ∙ fam_miss x i)) (sym (at_miss m Live x.row i) ∙ lv))
+      (cases_eq x.row.at m)
+
+  next_miss : (x : Piece) → (x.row.at ≡ (pb.d).row.at → ⊥) → n x ≡ x.next
+  next_miss x e = cond-false (x.row.at == (pb.d).row.at) m x.next (ne_eqb _ _ e)
+
+  mini_not : (x : Piece) → In x v.ps → x.row.base ≡ false → x.row.at ≡ (pb.d).row.at → ⊥
+  mini_not x h k e = true≢false (sym (pb.base).base ∙ (sym (ap (λ (u : Piece). u.row.base) (one_block c.program c.code c.rows v.ps v.clock v.static x pb.d h pb.is_in e)) ∙ k))
+
+  chains : (x : Piece) → In x v.ps → Linked (rework f n fam age x) → Leads (map (rework f n fam age) v.ps) (fam x) (age x) (n x) (is_live (f x.row))
+  chains x h k = ⊎_elim
+      (λ (i : x.row.at ≡ m).
+      let same = hit x h i in
+      subst (λ a. Leads (map (rework f n fam age) v.ps) a (age x) (n x) (is_live (f x.row))) (sym (fam_hit x i))
+      (subst (λ a. Leads (map (rework f n fam age) v.ps) (pb.d).row.at a (n x) (is_live (f x.row))) (sym (age_hit x i))
+      (subst (λ a. Leads (map (rework f n fam age) v.ps) (pb.d).row.at v.clock a (is_live (f x.row))) (sym (next_miss x (mini_not x h k.mini) ∙ (ap (λ (u : Piece). u.next) same ∙ same_next)))
+      (on (pb.d).row.at v.clock v.clock (pb.d).next (is_current (pb.d).row.status) (is_live (f x.row)) (λ e. pb.current) (omega arith) (λ y hy o l. l) (λ e. omega arith) head))))
+      (λ (i : x.row.at ≡ m → ⊥).
+      let kx = linked_back x i k in
+      let a = (st.ages x h kx).1 in
+      subst (λ a. Leads (map (rework f n fam age) v.ps) a (age x) (n x) (is_live (f x.row))) (sym (fam_miss x i))
+      (subst (λ a. Leads (map (rework f n fam age) v.ps) x.family a (n x) (is_live (f x.row))) (sym (age_miss x i))
+      (subst (λ a. Leads (map (rework f n fam age) v.ps) x.family x.age a (is_live (f x.row))) (sym (next_miss x (mini_not x h k.mini)))
+      (on x.family x.age x.age x.next (is_live x.row.status) (is_live (f x.row)) (λ e. ap is_live (sym (at_miss m Live x.row i)) ∙ e) (omega arith) (λ y hy o l. l) (λ e. omega arith) (st.chains x h kx)))))
+      (cases_eq x.row.at m)
+
+  heads : (x : Piece) → In x v.ps → IsBase x → Leads (map (rework f n fam age) v.ps) x.row.at (v.clock + 1) (n x) (is_current (f x.row))
+  heads x h k = ⊎_elim
+      (λ (i : x.row.at ≡ (pb.d).row.at).
+      subst (λ a. Leads (map (rework f n fam age) v.ps) x.row.at (v.clock + 1) a (is_current (f x.row))) (sym (cond-true (x.row.at == (pb.d).row.at) m x.next (eq-eqb _ _ i)))
+      (record {
+        lo = v.clock;
+        below = omega arith;
+        free = λ y hy o a l. omega arith;
+        to = inr (
+          rework f n fam age pm.0,
+          map_in (rework f n fam age) v.ps pm.0 pm.1,
+          record { mini = pm_mini; was = λ e. let g = at_hit m Live (pm.0).row pm_at in absurd cc },
+          fam_hit pm.0 pm_at ∙ sym i,
+          age_hit pm.0 pm_at,
+          pm_at,
+          λ e. at_hit m Live (pm.0).row pm_at,
+        );
+      }))
+      (λ (i : x.row.at ≡ (pb.d).row.at → ⊥).
+      subst (λ a. Leads (map (rework f n fam age) v.ps) x.row.at (v.clock + 1) a (is_current (f x.row))) (sym (next_miss x i))
+      (on x.row.at v.clock (v.clock + 1) x.next (is_current x.row.status) (is_current (f x.row)) (λ e. ap is_current (sym (base_status x h k)) ∙ e) (omega arith)
+      (λ y hy o l. (st.ages y hy (record { mini = o.mini; was = λ w. let z = o.live in absurd cc })).1) (λ e. absurd (i e)) (st.heads x h k)))
+      (cases_eq x.row.at (pb.d).row.at)
+
+  -- the jump of the head, which is written anew
+  abbrev jump : ℕ
+  jump = jump_word (link_at (pb.d).row) m
+
+  hop : Hops (link_at (pb.d).row) m (jump_word (link_at (pb.d).row) m)
+  hop =
+      let k = st.places pm.0 pm.1 in
+      let al = k.aligned in
+      let lo = k.low in
+      let hi = k.high in
+      let e = pm_at in tool_hops c.program v.ground c.code c.rows v.ps v.clock v.static pb.d pb.is_in m (omega arith) (omega arith) (omega arith)
+
+  linked : Static c.program (insert c.code (link_at (pb.d).row) (tool jump)) (map (with_status f) c.rows) (map (rework f n fam age) v.ps) (v.clock + 1)
+  linked =
+      static_kept v.ps f n fam age c.program c.code (insert c.code (link_at (pb.d).row) (tool jump)) c.rows v.clock (v.clock + 1) st
+      (λ x h. shapes_but c.program v.ground c.code c.rows v.ps v.clock v.static pb.d pb.is_in m jump hop x h)
+      (words_but c.program v.ground c.code c.rows v.ps v.clock v.static f n fam age base_status pb.d pb.is_in (tool jump))
+      (doors_but c.program v.ground c.code c.rows v.ps v.clock v.static f base_status pb.d pb.is_in (tool jump))
+      (λ x h k e. ap is_current (sym (base_status x h k)) ∙ e)
+      ages distinct families used chains heads
+
+  pub link_mini : Kept All NoPiece (at_set m Live) Nowhere v.ps c (mini_linked (Some b) m c) s
+  link_mini =
+      subst (λ (z : Row). Kept All NoPiece (at_set m Live) Nowhere v.ps c (mini_linked (Some z) m c) s) (sym pb.row)
+      (reworked c s v f n fam age Nowhere (insert c.code (link_at (pb.d).row) (tool jump)) (v.clock + 1) (omega arith) linked
+      (λ x h w e. up x w e) (λ x h k. fam_miss x (linked_not x h k)) (λ x h k. age_miss x (linked_not x h k))
+      (λ a u e but. text_other c.program v.ground c.code c.rows v.ps v.clock v.static pb.d pb.is_in (tool jump) a u e))
