@@ -15,3 +15,5 @@ pub mod Adding
 pub mod Arming
 pub mod Steps
 pub mod Sames
+pub mod Beginning
+pub mod Erasing
