@@ -48,7 +48,7 @@ distance_fits from to lo hi a b f t = (omega arith, omega arith)
 pub jump_hops : (from to : ℕ) → from ≤ to + 1048576 → to ≤ from + 1048574 → from % 4 ≡ 0 → to % 4 ≡ 0 → from < 2 ^ 32 → to < 2 ^ 32 → Hops from to (jump_word from to)
 jump_hops from to lo hi a b f t = record { offset = distance from to; is = jal_reads (distance from to) (distance_fits from to lo hi a b f t); leads = omega arith }
 
-reached : (from to : ℕ) → reaches from to ≡ true → (from ≤ to + 1048576) × (to ≤ from + 1048574)
+pub reached : (from to : ℕ) → reaches from to ≡ true → (from ≤ to + 1048576) × (to ≤ from + 1048574)
 reached from to e = let p = and_parts (nat_le from (to + 1048576)) (nat_le to (from + 1048574)) e in (leb-true from (to + 1048576) p.0, leb-true to (from + 1048574) p.1)
 
 -- the words that save x5 and restore it

@@ -4,3 +4,4 @@ pub mod Encodings
 pub mod Registers
 pub mod Frame
 pub mod Hops
+pub mod Moving

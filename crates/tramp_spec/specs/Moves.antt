@@ -1,5 +1,5 @@
 -- For proofs alone: all that a proof about patched programs needs of moved words.
-use Rattle.std.specs.Prelude.{◌≡◌, ◌≢◌, ℕ, ◌+◌, ◌*◌, ◌%◌, ◌<◌, ◌≤◌, ◌⊎◌, Bool, true, false, Option, Some, List, length, Ok, slice_get}
+use Rattle.std.specs.Prelude.{◌≡◌, ◌≢◌, ℕ, ◌+◌, ◌*◌, ◌%◌, ◌^◌, ◌<◌, ◌≤◌, ◌⊎◌, Bool, true, false, Option, Some, List, length, Ok, slice_get}
 use Rattle.rv_word.specs.Registers.{reg}
 use Rattle.rv_word.specs.Names.{jump_of, has_scratch}
 use Rattle.rv_word.specs.Table.{decode_of}
@@ -22,42 +22,45 @@ pub record Alike (a b : List ℕ) : Type 0 where
 
 -- Behind the tick, the moved word of number `place`, the moved words lead to where the word itself leads: at once where the tick
 -- jumps, else by a Leave word.
-abbrev pub LeadsHome : ℕ → ℕ → ℕ → List MarkedWord → ℕ → ℕ → Type 0
-LeadsHome word place to moved pc home =
-    ((is_jump word ≡ true) × (pc ≡ home))
-    ⊎ ((is_jump word ≡ false) × (j : ℕ) × (left : ℕ) × (place < j) × (j < length moved) × (pc ≡ to + 4 * j) × (slice_get moved j ≡ Some (leave left)) × (jump_of (decode_of left) (to + 4 * j) ≡ Some home))
+abbrev pub LeadsHome : Bool → ℕ → ℕ → List MarkedWord → ℕ → ℕ → Type 0
+LeadsHome jumped place to moved pc home =
+    ((jumped ≡ true) × (pc ≡ home))
+    ⊎ ((jumped ≡ false) × (j : ℕ) × (left : ℕ) × (place < j) × (j < length moved) × (pc ≡ to + 4 * j) × (slice_get moved j ≡ Some (leave left)) × (jump_of (decode_of left) (to + 4 * j) ≡ Some home))
 
--- the tick `word` at its place, and the program's word at its own, lead to the same
-abbrev pub SameStep : ℕ → ℕ → ℕ → List MarkedWord → Outcome → Outcome → Type 0
-SameStep word place to moved (Stops c) (Stops d) = c ≡ d
-SameStep word place to moved (Goes pc regs p) (Goes home others q) = (p ≡ q) × Alike regs others × LeadsHome word place to moved pc home
-SameStep word place to moved (Stops c) (Goes home others q) = ⊥
-SameStep word place to moved (Goes pc regs p) (Stops d) = ⊥
+-- the tick at its place, and the program's word at its own, lead to the same
+abbrev pub SameStep : Bool → ℕ → ℕ → List MarkedWord → Outcome → Outcome → Type 0
+SameStep jumped place to moved (Stops c) (Stops d) = c ≡ d
+SameStep jumped place to moved (Goes pc regs p) (Goes home others q) = (p ≡ q) × Alike regs others × LeadsHome jumped place to moved pc home
+SameStep jumped place to moved (Stops c) (Goes home others q) = ⊥
+SameStep jumped place to moved (Goes pc regs p) (Stops d) = ⊥
 
 abbrev pub bench : List ℕ → List ℕ → Bench
 bench regs bank = record { regs = regs; bank = bank }
 
--- the moved words of the word at a point, from `to` on
-pub record Moves (word point to : ℕ) (moved : List MarkedWord) : Type 0 where
+-- the moved words of the word at a point, from `to` on: at `place` the tick, with what is rebuilt at each place, and whether it jumps
+pub record MovesBy (place : ℕ) (rebuilds : ℕ → Option ℕ) (jumped : Bool) (word point to : ℕ) (moved : List MarkedWord) : Type 0 where
   -- the registers at moved word j, from those at the first
   pub before : ℕ → List ℕ → List ℕ
   pub start : (regs : List ℕ) → before 0 regs ≡ regs
-  pub size : (j : ℕ) (regs : List ℕ) → j ≤ own_place word → length (before j regs) ≡ length regs
+  pub size : (j : ℕ) (regs : List ℕ) → j ≤ place → length (before j regs) ≡ length regs
   -- the words before the tick are the tool's, and change registers alone
-  pub silent : (j : ℕ) → j < own_place word → (w : ℕ) × (slice_get moved j ≡ Some (tool w))
+  pub silent : (j : ℕ) → j < place → (w : ℕ) × (slice_get moved j ≡ Some (tool w))
       × ((regs bank : List ℕ) (ticks : ℕ) → length regs ≡ 32
       → step_on bank_len w ticks (to + 4 * j) (bench (before j regs) bank) ≡ Ok (stand (to + 4 * (j + 1)) (bench (before (j + 1) regs) bank)))
-  pub like : (j k : ℕ) (regs : List ℕ) → j ≤ own_place word → 0 < k → k < 31 → rebuilt word j ≢ Some k → reg (before j regs) k ≡ reg regs k
+  pub like : (j k : ℕ) (regs : List ℕ) → j ≤ place → 0 < k → k < 31 → rebuilds j ≢ Some k → reg (before j regs) k ≡ reg regs k
   -- the tick does what the program's word does
-  pub tick : (w : ℕ) × (slice_get moved (own_place word) ≡ Some (own w))
+  pub tick : (w : ℕ) × (slice_get moved place ≡ Some (own w))
       × ((regs others : List ℕ) (h : ℕ) (p : Prog) → Alike regs others
-      → SameStep w (own_place word) to moved (exec_of w (to + 4 * own_place word) h (before (own_place word) regs) p) (exec_of word point h others p))
+      → SameStep jumped place to moved (exec_of w (to + 4 * place) h (before place regs) p) (exec_of word point h others p))
   -- the words behind it are jumps back to the program
-  pub leaves : (j : ℕ) → own_place word < j → j < length moved → (w home : ℕ) × (slice_get moved j ≡ Some (leave w)) × (jump_of (decode_of w) (to + 4 * j) ≡ Some home)
+  pub leaves : (j : ℕ) → place < j → j < length moved → (w home : ℕ) × (slice_get moved j ≡ Some (leave w)) × (jump_of (decode_of w) (to + 4 * j) ≡ Some home)
       × ((x : Bench) (ticks : ℕ) → step_on 0 w ticks (to + 4 * j) x ≡ Ok (stand home x))
 
--- Each word that doesn't name x31 moves, from the text to the tool text behind it, where it can be moved at all.
+abbrev pub Moves : ℕ → ℕ → ℕ → List MarkedWord → Type 0
+Moves word = MovesBy (own_place word) (rebuilt word) (is_jump word) word
+
+-- Each word of 32 bits that doesn't name x31 moves, from the text to the tool text behind it, where it can be moved at all.
 abbrev pub WordsMove : Type 0
 WordsMove =
-    (word point to : ℕ) (moved : List MarkedWord) → has_scratch word ≡ false → point % 4 ≡ 0 → to % 4 ≡ 0 → point < 0x60000000 → point < to → to ≤ point + 1048000
+    (word point to : ℕ) (moved : List MarkedWord) → has_scratch word ≡ false → word < 2 ^ 32 → point % 4 ≡ 0 → to % 4 ≡ 0 → point < 0x60000000 → point < to → to ≤ point + 1048000
     → moved_of word point to ≡ Some moved → Moves word point to moved
