@@ -1,6 +1,7 @@
 -- The patched machine begins as the program.
-use Rattle.std.proofs.Common.{◌≡◌, ℕ, zero, suc, ◌+◌, ◌*◌, ◌/◌, ◌%◌, ◌<◌, ◌≤◌, List, [], ◌∷◌, length, replicate, Option, Some, None, refl, sym, ap, ◌∙◌, subst, arith, inl, inr}
+use Rattle.std.proofs.Common.{◌≡◌, ℕ, zero, suc, ◌+◌, ◌*◌, ◌/◌, ◌%◌, ◌^◌, ◌<◌, ◌≤◌, List, [], ◌∷◌, length, replicate, Option, Some, None, refl, sym, ap, ◌∙◌, subst, arith, inl, inr}
 use Rattle.std.specs.Prelude.{Bool, true, false, cond, map, slice_get}
+use Rattle.std.specs.List.{AllByRecursion}
 use Rattle.std.specs.FinMap.{get, from_entries}
 use Rattle.std.proofs.lemmas.Grind.{common_steps}
 use Rattle.std.proofs.lemmas.List.{length-map, length-replicate}
@@ -46,6 +47,11 @@ unscratched : (ws : List ℕ) (at i w : ℕ) → scratch_in ws at ≡ None → s
 unscratched [] at i w n e = absurd cc
 unscratched (v ∷ vs) at i w n e = unscratched_at v vs at w (has_scratch v) refl n (λ j m f. unscratched vs (at + 4) j w m f) i e
 
+narrow_at : (ws : List ℕ) (i w : ℕ) → AllByRecursion (λ v. v < 2 ^ 32) ws → slice_get ws i ≡ Some w → w < 2 ^ 32
+narrow_at [] i w a e = absurd cc
+narrow_at (v ∷ vs) zero w a e = let s : v ≡ w = cc in subst (λ n. n < 2 ^ 32) s a.0
+narrow_at (v ∷ vs) (suc i) w a e = narrow_at vs i w a.1 e
+
 length_words : (n : ℕ) (bytes : List ℕ) → length (words_in n bytes) ≡ n
 length_words zero bytes = refl
 length_words (suc n) bytes = ap suc (length_words n _)
@@ -62,6 +68,7 @@ ground image p =
       high = omega arith;
       short = omega arith;
       plain = λ i w e. unscratched (words_of (text_of image)) image.text_at i w p.unscratched e;
+      narrow = λ i w e. narrow_at (words_of (text_of image)) i w p.narrow e;
     }
 
 -- ---- the harts

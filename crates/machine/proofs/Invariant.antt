@@ -1,5 +1,5 @@
 -- What is kept at every event.
-use Rattle.std.proofs.Common.{◌≡◌, ◌≢◌, ℕ, ◌+◌, ◌*◌, ◌%◌, ◌<◌, ◌≤◌, List, [], ◌∷◌, ◌++◌, length, Option, Some, None}
+use Rattle.std.proofs.Common.{◌≡◌, ◌≢◌, ℕ, ◌+◌, ◌*◌, ◌%◌, ◌^◌, ◌<◌, ◌≤◌, List, [], ◌∷◌, ◌++◌, length, Option, Some, None}
 use Rattle.std.specs.Prelude.{map, Bool, true, false, slice_get, ◌⊎◌}
 use Rattle.std.specs.FinMap.{get}
 use Rattle.pn_types.specs.declared.limits.TheConstants.{TOOL_TEXT_LEN}
@@ -33,6 +33,7 @@ pub record Ground (t : Words) : Type 0 where
   pub high : t.at + 4 * length t.words ≤ 0x60000000
   pub short : 4 * length t.words ≤ 524288
   pub plain : (i w : ℕ) → slice_get t.words i ≡ Some w → has_scratch w ≡ false
+  pub narrow : (i w : ℕ) → slice_get t.words i ≡ Some w → w < 2 ^ 32
 
 -- ---- blocks
 

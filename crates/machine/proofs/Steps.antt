@@ -9,7 +9,6 @@ use Rattle.rv_word.specs.declared.outcome.Cause.{Cause}
 use Rattle.rv_exec.specs.Run.{run_from, LegalFrom}
 use Rattle.rv_exec.proofs.Runs.{run_from-append, LegalFrom-append}
 use Rattle.tramp_spec.specs.Harts.{Hart, Solo, step_of, is_tick}
-use Rattle.tramp_spec.specs.Moves.{WordsMove}
 use Rattle.machine.specs.Cores.{Core, Row}
 use Rattle.machine.specs.Places.{program_pc}
 use Rattle.machine.specs.Turns.{fetched, may_turn, turn_by, put_back, ticks_by, turn_alone}
@@ -98,65 +97,64 @@ within (a ∷ xs) (b ∷ ys) (suc h) x l e = within xs ys h x (let m : length xs
 abbrev pub Does : Core → Plain → Event → Type 0
 Does c s e = LegalFrom c.program c.budget (owned c e) s × Inv (after c e) (run_from c.program (owned c e) s)
 
-module _ (moves : WordsMove) where
-  turn_by_tick : (c : Core) (s : Plain) (h : ℕ) (x : Hart) (y : PlainHart) (b : Bool) (z : Solo) (v : Inv c s) → slice_get c.harts h ≡ Some x → slice_get s.harts h ≡ Some y → OwesBy b c.program c.budget v.ps h z y c.prog
-      → LegalFrom c.program c.budget (cond b (h ∷ []) []) s × Inv (put_back c h z) (run_from c.program (cond b (h ∷ []) []) s)
-  turn_by_tick c s h x y true z v ex ey o =
-      let may : IsTrue (can c.budget s h) = subst (λ q. IsTrue (may_go q c.budget)) (sym ey) o.0 in
-      let a : Alone = plain.turn_alone c.program h (record { hart = y; prog = s.prog }) in
-      let d : Dynamic c.program c.budget v.ps z.hart a.hart = subst (λ q. Dynamic c.program c.budget v.ps z.hart (plain.turn_alone c.program h (record { hart = y; prog = q })).hart) v.prog o.1 in
-      let p : z.prog ≡ a.prog = o.2 ∙ ap (λ q. (plain.turn_alone c.program h (record { hart = y; prog = q })).prog) v.prog in
-      let i = puts c s (plain.put_back s h a) h x a.hart z v ex (get_set_same s.harts h y a.hart ey) (λ j n. get_set_other s.harts h j a.hart n) (length_slice_set s.harts h a.hart) d p in
-      ((may, tt), subst (λ q. Inv (put_back c h z) (turn_of q c.program h s)) (sym ey) i)
-  turn_by_tick c s h x y false z v ex ey o =
-      (tt, puts c s s h x y z v ex ey (λ j n. refl) refl o.0 (o.1 ∙ v.prog))
+turn_by_tick : (c : Core) (s : Plain) (h : ℕ) (x : Hart) (y : PlainHart) (b : Bool) (z : Solo) (v : Inv c s) → slice_get c.harts h ≡ Some x → slice_get s.harts h ≡ Some y → OwesBy b c.program c.budget v.ps h z y c.prog
+    → LegalFrom c.program c.budget (cond b (h ∷ []) []) s × Inv (put_back c h z) (run_from c.program (cond b (h ∷ []) []) s)
+turn_by_tick c s h x y true z v ex ey o =
+    let may : IsTrue (can c.budget s h) = subst (λ q. IsTrue (may_go q c.budget)) (sym ey) o.0 in
+    let a : Alone = plain.turn_alone c.program h (record { hart = y; prog = s.prog }) in
+    let d : Dynamic c.program c.budget v.ps z.hart a.hart = subst (λ q. Dynamic c.program c.budget v.ps z.hart (plain.turn_alone c.program h (record { hart = y; prog = q })).hart) v.prog o.1 in
+    let p : z.prog ≡ a.prog = o.2 ∙ ap (λ q. (plain.turn_alone c.program h (record { hart = y; prog = q })).prog) v.prog in
+    let i = puts c s (plain.put_back s h a) h x a.hart z v ex (get_set_same s.harts h y a.hart ey) (λ j n. get_set_other s.harts h j a.hart n) (length_slice_set s.harts h a.hart) d p in
+    ((may, tt), subst (λ q. Inv (put_back c h z) (turn_of q c.program h s)) (sym ey) i)
+turn_by_tick c s h x y false z v ex ey o =
+    (tt, puts c s s h x y z v ex ey (λ j n. refl) refl o.0 (o.1 ∙ v.prog))
 
-  not_stopped : (x : Hart) (budget : ℕ) → IsTrue (may_turn (Some x) budget) → (x.stop ≡ None) × ((x.inside ≡ true) ⊎ (x.ticks < budget))
-  not_stopped x budget m =
-      let p = and_parts (is_none x.stop) (x.inside || nat_lt x.ticks budget) m in
-      (none_of x.stop p.0, ⊎_elim (λ e. inl e) (λ e. inr (ltb-true x.ticks budget (grind (arith, common_steps, e, p.1)))) (cases_Bool x.inside))
-    where
-      none_of : (o : Option Cause) → is_none o ≡ true → o ≡ None
-      none_of None e = refl
-      none_of (Some cause) e = absurd cc
+not_stopped : (x : Hart) (budget : ℕ) → IsTrue (may_turn (Some x) budget) → (x.stop ≡ None) × ((x.inside ≡ true) ⊎ (x.ticks < budget))
+not_stopped x budget m =
+    let p = and_parts (is_none x.stop) (x.inside || nat_lt x.ticks budget) m in
+    (none_of x.stop p.0, ⊎_elim (λ e. inl e) (λ e. inr (ltb-true x.ticks budget (grind (arith, common_steps, e, p.1)))) (cases_Bool x.inside))
+  where
+    none_of : (o : Option Cause) → is_none o ≡ true → o ≡ None
+    none_of None e = refl
+    none_of (Some cause) e = absurd cc
 
-  turns : (c : Core) (s : Plain) (h : ℕ) (v : Inv c s) (o : Option Hart) → slice_get c.harts h ≡ o → IsTrue (may_turn o c.budget)
-      → LegalFrom c.program c.budget (cond (ticks_by o c) (h ∷ []) []) s × Inv (turn_by o c h) (run_from c.program (cond (ticks_by o c) (h ∷ []) []) s)
-  turns c s h v None e m = absurd cc
-  turns c s h v (Some x) e m =
-      let q = within c.harts s.harts h x v.many e in
-      let k = not_stopped x c.budget m in
-      let d = v.harts h x q.0 e q.1 in
-      let o = turn_keeps moves c.program v.ground c.budget c.code c.rows v.ps v.clock v.static h x q.0 c.prog d k.0 k.1 in
-      turn_by_tick c s h x q.0 (is_tick (fetched c.program c.code x)) (turn_alone c h x) v e q.1 o
+turns : (c : Core) (s : Plain) (h : ℕ) (v : Inv c s) (o : Option Hart) → slice_get c.harts h ≡ o → IsTrue (may_turn o c.budget)
+    → LegalFrom c.program c.budget (cond (ticks_by o c) (h ∷ []) []) s × Inv (turn_by o c h) (run_from c.program (cond (ticks_by o c) (h ∷ []) []) s)
+turns c s h v None e m = absurd cc
+turns c s h v (Some x) e m =
+    let q = within c.harts s.harts h x v.many e in
+    let k = not_stopped x c.budget m in
+    let d = v.harts h x q.0 e q.1 in
+    let o = turn_keeps c.program v.ground c.budget c.code c.rows v.ps v.clock v.static h x q.0 c.prog d k.0 k.1 in
+    turn_by_tick c s h x q.0 (is_tick (fetched c.program c.code x)) (turn_alone c h x) v e q.1 o
 
-  -- one event
-  pub step : (c : Core) (s : Plain) (e : Event) → Inv c s → May c e → Does c s e
-  step c s (Turn h) v m = turns c s h v (slice_get c.harts h) refl m
-  step c s (Write b) v m = (tt, ((write c s v b m).kept).inv)
-  step c s (LinkMini p m) v k =
-      let q = k.mini in
-      (tt, subst (λ o. Inv (mini_linked o m c) s) (sym k.current) (link_mini c s v p m k.base q.row k.current q.listed q.mini q.point q.at q.is k.next).inv)
-  step c s (UnlinkMini p m) v k = (tt, (unlink_mini c s v m k.row k.listed k.mini k.at k.is).inv)
-  step c s (LinkPoint p) v k = (tt, subst (λ o. Inv (point_linked o p c) s) (sym k.current) (link_point c s v p k.base k.word k.current k.program).inv)
-  step c s (UnlinkPoint p) v k = (tt, unlinks_point c s v p (plain.program_word c.program p) refl)
-    where
-      unlinks_point : (c : Core) (s : Plain) (v : Inv c s) (p : ℕ) (o : Option ℕ) → plain.program_word c.program p ≡ o → Inv (point_unlinked o p c) s
-      unlinks_point c s v p None e = v
-      unlinks_point c s v p (Some w) e = (unlink_point c s v p w e).inv
-  step c s (Free p) v m = (tt, (freed c s v p m).inv)
-  step c s (Arm i) v m = (tt, arms c s i m.quiet v)
-  step c s (Sample i) v m = (tt, v)
+-- one event
+pub step : (c : Core) (s : Plain) (e : Event) → Inv c s → May c e → Does c s e
+step c s (Turn h) v m = turns c s h v (slice_get c.harts h) refl m
+step c s (Write b) v m = (tt, ((write c s v b m).kept).inv)
+step c s (LinkMini p m) v k =
+    let q = k.mini in
+    (tt, subst (λ o. Inv (mini_linked o m c) s) (sym k.current) (link_mini c s v p m k.base q.row k.current q.listed q.mini q.point q.at q.is k.next).inv)
+step c s (UnlinkMini p m) v k = (tt, (unlink_mini c s v m k.row k.listed k.mini k.at k.is).inv)
+step c s (LinkPoint p) v k = (tt, subst (λ o. Inv (point_linked o p c) s) (sym k.current) (link_point c s v p k.base k.word k.current k.program).inv)
+step c s (UnlinkPoint p) v k = (tt, unlinks_point c s v p (plain.program_word c.program p) refl)
+  where
+    unlinks_point : (c : Core) (s : Plain) (v : Inv c s) (p : ℕ) (o : Option ℕ) → plain.program_word c.program p ≡ o → Inv (point_unlinked o p c) s
+    unlinks_point c s v p None e = v
+    unlinks_point c s v p (Some w) e = (unlink_point c s v p w e).inv
+step c s (Free p) v m = (tt, (freed c s v p m).inv)
+step c s (Arm i) v m = (tt, arms c s i m.quiet v)
+step c s (Sample i) v m = (tt, v)
 
-  -- all events
-  pub all_events : (es : List Event) (t : Words) (budget : ℕ) (c : Core) (s : Plain) → c.program ≡ t → c.budget ≡ budget → Inv c s → Legal es c → LegalFrom t budget (owns es c) s × Inv (replay es c) (run_from t (owns es c) s)
-  all_events [] t budget c s et eb v l = (tt, v)
-  all_events (e ∷ es) t budget c s et eb v l =
-      let a = step c s e v l.0 in
-      let f = fixed c e in
-      let a0 : LegalFrom t budget (owned c e) s = subst (λ q. LegalFrom q budget (owned c e) s) et (subst (λ b. LegalFrom c.program b (owned c e) s) eb a.0) in
-      let a1 : Inv (after c e) (run_from t (owned c e) s) = subst (λ q. Inv (after c e) (run_from q (owned c e) s)) et a.1 in
-      let r = all_events es t budget (after c e) (run_from t (owned c e) s) (f.0 ∙ et) (f.1 ∙ eb) a1 l.1 in (
-        LegalFrom-append t budget (owned c e) (owns es (after c e)) s a0 r.0,
-        subst (Inv (replay es (after c e))) (sym (run_from-append t (owned c e) (owns es (after c e)) s)) r.1,
-      )
+-- all events
+pub all_events : (es : List Event) (t : Words) (budget : ℕ) (c : Core) (s : Plain) → c.program ≡ t → c.budget ≡ budget → Inv c s → Legal es c → LegalFrom t budget (owns es c) s × Inv (replay es c) (run_from t (owns es c) s)
+all_events [] t budget c s et eb v l = (tt, v)
+all_events (e ∷ es) t budget c s et eb v l =
+    let a = step c s e v l.0 in
+    let f = fixed c e in
+    let a0 : LegalFrom t budget (owned c e) s = subst (λ q. LegalFrom q budget (owned c e) s) et (subst (λ b. LegalFrom c.program b (owned c e) s) eb a.0) in
+    let a1 : Inv (after c e) (run_from t (owned c e) s) = subst (λ q. Inv (after c e) (run_from q (owned c e) s)) et a.1 in
+    let r = all_events es t budget (after c e) (run_from t (owned c e) s) (f.0 ∙ et) (f.1 ∙ eb) a1 l.1 in (
+      LegalFrom-append t budget (owned c e) (owns es (after c e)) s a0 r.0,
+      subst (Inv (replay es (after c e))) (sym (run_from-append t (owned c e) (owns es (after c e)) s)) r.1,
+    )

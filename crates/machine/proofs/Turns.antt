@@ -26,12 +26,13 @@ use Rattle.tramp_spec.specs.Bodies.{Safe, Harmless, Leap, Keeps, Stands}
 use Rattle.tramp_spec.specs.Harts.{Hart, Solo, bench_of, stopped, ticked, own_hart, own_step, other_hart, other_step, marked_step, step_of, is_tick}
 use Rattle.tramp_spec.specs.Marks.{own, enter, tool, leave, is_jump, inside_after}
 use Rattle.tramp_spec.specs.MovedWords.{moved_of, own_place}
-use Rattle.tramp_spec.specs.Moves.{Agree, Alike, Moves, SameStep, LeadsHome, bench, WordsMove}
+use Rattle.tramp_spec.specs.Moves.{Agree, Alike, Moves, SameStep, LeadsHome, bench}
 use Rattle.tramp_spec.specs.Steps.{Bench, Stood, stand, step_on, with_value, with_doubleword}
 use Rattle.tramp_spec.specs.declared.mark.Mark.{Mark}
 use Rattle.tramp_spec.specs.declared.mark.Mark.TheVariants.{Own, Enter, Tool, Leave}
 use Rattle.tramp_spec.specs.declared.mark.MarkedWord.{MarkedWord}
-use Rattle.tramp_spec.proofs.Frame.{SameOutcome, execs}
+use Rattle.tramp_spec.proofs.Moving.{words_move}
+use Rattle.tramp_spec.proofs.Frame.{Same, execs}
 use Rattle.tramp_spec.proofs.Hops.{Hops, hop_steps, save_steps, restore_steps, saved_back, length_set_bank}
 use Rattle.tramp_spec.proofs.Registers.{length_with, read_back, read_but, zero_reg}
 use Rattle.machine.specs.Cores.{In, Code, Row, Written, Live, tool_at, is_live, is_current, is_text_word, is_tool_word, is_word_of}
@@ -114,7 +115,7 @@ is_none_of (Some c) e = absurd cc
 pub wrap_next : (pc : ℕ) → pc + 4 < 2 ^ 64 → next pc ≡ pc + 4
 wrap_next pc l = omega arith
 
-module _ (moves : WordsMove) (t : Words) (g : Ground t) (budget : ℕ) (code : Code) (rows : List Row) (ps : List Piece) (clock : ℕ) (st : Static t code rows ps clock) (h : ℕ) (x : Hart) (y : PlainHart) (p : Prog) (d : Dynamic t budget ps x y) (on : x.stop ≡ None) where
+module _ (t : Words) (g : Ground t) (budget : ℕ) (code : Code) (rows : List Row) (ps : List Piece) (clock : ℕ) (st : Static t code rows ps clock) (h : ℕ) (x : Hart) (y : PlainHart) (p : Prog) (d : Dynamic t budget ps x y) (on : x.stop ≡ None) where
   abbrev Owes : Option MarkedWord → Type 0
   Owes o = OwesBy (is_tick o) t budget ps h (step_of o h (program_pc code rows x) (record { hart = x; prog = p })) y p
 
@@ -142,7 +143,7 @@ module _ (moves : WordsMove) (t : Words) (g : Ground t) (budget : ℕ) (code : C
 
   -- ---- outside
 
-  own_outcome : (w : ℕ) (a b : Outcome) → x.inside ≡ false → x.pc ≡ y.pc → SameOutcome a b
+  own_outcome : (w : ℕ) (a b : Outcome) → x.inside ≡ false → x.pc ≡ y.pc → Same a b
       → Dynamic t budget ps (own_step (done a x.regs p) w (program_pc code rows x) x).hart (after_done (done b y.regs p) y).hart × ((own_step (done a x.regs p) w (program_pc code rows x) x).prog ≡ (after_done (done b y.regs p) y).prog)
   own_outcome w (Stops c) (Stops e) i pc s =
       (downs c (program_pc code rows x) _ (cond-false x.inside (home_of code rows x.pc) x.pc i ∙ pc) (ap (λ k. record { pc = y.pc; regs = y.regs; ticks = y.ticks + 1; stop = Some k }) (sym s)), refl)
@@ -163,8 +164,8 @@ module _ (moves : WordsMove) (t : Words) (g : Ground t) (budget : ℕ) (code : C
 
   own_outside : (w : ℕ) → has_scratch w ≡ false → x.inside ≡ false → x.pc ≡ y.pc → Agree x.regs y.regs → x.ticks < budget → program_word t y.pc ≡ Some w → Owes (Some (own w))
   own_outside w n i e a l f =
-      let same : SameOutcome (exec_of w x.pc h x.regs p) (exec_of w y.pc h y.regs p) =
-        subst (λ q. SameOutcome (exec_of w x.pc h x.regs p) (exec_of w q h y.regs p)) e (execs w x.pc h x.regs y.regs p n (record { agree = a; first = d.first; second = d.second })) in
+      let same : Same (exec_of w x.pc h x.regs p) (exec_of w y.pc h y.regs p) =
+        subst (λ q. Same (exec_of w x.pc h x.regs p) (exec_of w q h y.regs p)) e (execs w x.pc h x.regs y.regs p n (record { agree = a; first = d.first; second = d.second })) in
       let both = own_outcome w (exec_of w x.pc h x.regs p) (exec_of w y.pc h y.regs p) i e same in
       let to : (o : Option ℕ) → Type 0 = λ o.
         Dynamic t budget ps (own_step (done (exec_of w x.pc h x.regs p) x.regs p) w (program_pc code rows x) x).hart (after_done (done (plain.fetched o h y p) y.regs p) y).hart
@@ -316,7 +317,7 @@ module _ (moves : WordsMove) (t : Words) (g : Ground t) (budget : ℕ) (code : C
         here = s.here;
         moved = s.moved;
         movable = s.movable;
-        moves = moves s.word b.row.point (moved_at b.row.at) s.moved (g.plain q.i s.word q.is) (omega arith) (omega arith) (omega arith) (omega arith) (omega arith) s.movable;
+        moves = words_move s.word b.row.point (moved_at b.row.at) s.moved (g.plain q.i s.word q.is) (g.narrow q.i s.word q.is) (omega arith) (omega arith) (omega arith) (omega arith) (omega arith) s.movable;
       }
 
   same_word : (b : Piece) → (m : MovedWord t b) → (s : BaseShape t code b.row b.next) → m.moved ≡ s.moved
@@ -423,12 +424,12 @@ module _ (moves : WordsMove) (t : Words) (g : Ground t) (budget : ℕ) (code : C
       (inr (inr (inr (inl (record { m = m; j = k.j + 1; low = up; pc = refl; home = k.home; before = k.before; regs = k.regs; size = k.size; agree = k.agree; is = refl })))))))
 
   -- the tick
-  tick_outcome : (b : Piece) → In b ps → IsBase b → (b.row.status ≡ Written → ⊥) → x.inside ≡ true → (m : MovedWord t b) (w : ℕ) (o u : Outcome) → program_pc code rows x ≡ y.pc → SameStep w (own_place m.word) (moved_at b.row.at) m.moved o u
+  tick_outcome : (b : Piece) → In b ps → IsBase b → (b.row.status ≡ Written → ⊥) → x.inside ≡ true → (m : MovedWord t b) (w : ℕ) (jumped : Bool) (o u : Outcome) → program_pc code rows x ≡ y.pc → is_jump w ≡ jumped → SameStep jumped (own_place m.word) (moved_at b.row.at) m.moved o u
       → Dynamic t budget ps (own_step (done o x.regs p) w (program_pc code rows x) x).hart (after_done (done u y.regs p) y).hart × ((own_step (done o x.regs p) w (program_pc code rows x) x).prog ≡ (after_done (done u y.regs p) y).prog)
-  tick_outcome b hb bs was i m w (Stops c) (Stops e) home s = (downs c (program_pc code rows x) _ home (ap (λ k. record { pc = y.pc; regs = y.regs; ticks = y.ticks + 1; stop = Some k }) (sym s)), refl)
-  tick_outcome b hb bs was i m w (Stops c) (Goes pc a q) home s = absurd s
-  tick_outcome b hb bs was i m w (Goes pc a q) (Stops c) home s = absurd s
-  tick_outcome b hb bs was i m w (Goes pc a q) (Goes qc e r) home s = (
+  tick_outcome b hb bs was i m w jumped (Stops c) (Stops e) home tj s = (downs c (program_pc code rows x) _ home (ap (λ k. record { pc = y.pc; regs = y.regs; ticks = y.ticks + 1; stop = Some k }) (sym s)), refl)
+  tick_outcome b hb bs was i m w jumped (Stops c) (Goes pc a q) home tj s = absurd s
+  tick_outcome b hb bs was i m w jumped (Goes pc a q) (Stops c) home tj s = absurd s
+  tick_outcome b hb bs was i m w jumped (Goes pc a q) (Goes qc e r) home tj s = (
     record {
       ticks = ap (λ n. n + 1) d.ticks;
       stop = d.stop;
@@ -437,14 +438,15 @@ module _ (moves : WordsMove) (t : Words) (g : Ground t) (budget : ℕ) (code : C
       bank = d.bank;
       down = λ k z. absurd cc;
       hart = λ z. ⊎_elim
-          (λ (k : (is_jump w ≡ true) × (pc ≡ qc)). inl (record { outside = grind (arith, common_steps, i, k.0); pc = k.1; agree = (s.1).agree }))
-          (λ (k : (is_jump w ≡ false) × (j : ℕ) × (left : ℕ) × (own_place m.word < j) × (j < length m.moved) × (pc ≡ moved_at b.row.at + 4 * j) × (slice_get m.moved j ≡ Some (leave left)) × (jump_of (decode_of left) (moved_at b.row.at + 4 * j) ≡ Some qc)).
+          (λ (k : (jumped ≡ true) × (pc ≡ qc)). let out : is_jump w ≡ true = tj ∙ k.0 in inl (record { outside = grind (arith, common_steps, i, out); pc = k.1; agree = (s.1).agree }))
+          (λ (k : (jumped ≡ false) × (j : ℕ) × (left : ℕ) × (own_place m.word < j) × (j < length m.moved) × (pc ≡ moved_at b.row.at + 4 * j) × (slice_get m.moved j ≡ Some (leave left)) × (jump_of (decode_of left) (moved_at b.row.at + 4 * j) ≡ Some qc)).
+          let out : is_jump w ≡ false = tj ∙ k.0 in
           inr (inl (record {
             b = b;
             is_in = hb;
             base = bs;
             was = was;
-            inside = grind (arith, common_steps, i, k.0);
+            inside = grind (arith, common_steps, i, out);
             place = inr (inr (inr (inr (record { m = m; j = k.1; above = k.3; low = k.4; pc = k.5; left = k.2; stands = k.6; home = k.7; agree = (s.1).agree }))));
           })))
           s.2;
@@ -463,12 +465,12 @@ module _ (moves : WordsMove) (t : Words) (g : Ground t) (budget : ℕ) (code : C
       let f = fetch_moved b hb bs m (own_place m.word) (own w) i pc tk.1 in
       let at = (let z = k.pc in let lo : b.row.at ≤ x.pc = omega arith in lo) in
       let home : program_pc code rows x ≡ y.pc = cond-true x.inside (home_of code rows x.pc) x.pc i ∙ (home_word t code rows ps clock st b x.pc (own w) hb at f.2 f.1 ∙ sym k.home) in
-      let same0 = tk.2 k.regs y.regs h p (record { agree = k.agree; first = k.size; second = d.second }) in
-      let same1 : SameStep w (own_place m.word) to m.moved (exec_of w x.pc h x.regs p) (exec_of m.word y.pc h y.regs p) =
-        subst (λ a. SameStep w (own_place m.word) to m.moved (exec_of w a h x.regs p) (exec_of m.word y.pc h y.regs p)) (sym pc)
-        (subst (λ rs. SameStep w (own_place m.word) to m.moved (exec_of w (to + 4 * own_place m.word) h rs p) (exec_of m.word y.pc h y.regs p)) (sym is)
-        (subst (λ a. SameStep w (own_place m.word) to m.moved (exec_of w (to + 4 * own_place m.word) h ((m.moves).before (own_place m.word) k.regs) p) (exec_of m.word a h y.regs p)) (sym k.home) same0)) in
-      let both = tick_outcome b hb bs was i m w (exec_of w x.pc h x.regs p) (exec_of m.word y.pc h y.regs p) home same1 in
+      let same0 = tk.3 k.regs y.regs h p (record { agree = k.agree; first = k.size; second = d.second }) in
+      let same1 : SameStep (is_jump m.word) (own_place m.word) to m.moved (exec_of w x.pc h x.regs p) (exec_of m.word y.pc h y.regs p) =
+        subst (λ a. SameStep (is_jump m.word) (own_place m.word) to m.moved (exec_of w a h x.regs p) (exec_of m.word y.pc h y.regs p)) (sym pc)
+        (subst (λ rs. SameStep (is_jump m.word) (own_place m.word) to m.moved (exec_of w (to + 4 * own_place m.word) h rs p) (exec_of m.word y.pc h y.regs p)) (sym is)
+        (subst (λ a. SameStep (is_jump m.word) (own_place m.word) to m.moved (exec_of w (to + 4 * own_place m.word) h ((m.moves).before (own_place m.word) k.regs) p) (exec_of m.word a h y.regs p)) (sym k.home) same0)) in
+      let both = tick_outcome b hb bs was i m w (is_jump m.word) (exec_of w x.pc h x.regs p) (exec_of m.word y.pc h y.regs p) home tk.2 same1 in
       let here : program_word t y.pc ≡ Some m.word = ap (program_word t) k.home ∙ m.here in
       let to' : (o : Option ℕ) → Type 0 = λ o.
         Dynamic t budget ps (own_step (done (exec_of w x.pc h x.regs p) x.regs p) w (program_pc code rows x) x).hart (after_done (done (plain.fetched o h y p) y.regs p) y).hart

@@ -1,5 +1,6 @@
 -- Laws of the definitions, for the law functions of this crate.
-use Rattle.std.specs.Prelude.{◌≡◌, ℕ, None, List}
+use Rattle.std.specs.Prelude.{◌≡◌, ℕ, ◌^◌, ◌<◌, None, List}
+use Rattle.std.specs.List.{AllByRecursion}
 use Rattle.pn_types.specs.Images.{IsImage, text_of}
 use Rattle.pn_types.specs.declared.image.Image.{Image}
 use Rattle.rv_word.specs.Names.{words_of, scratch_in}
@@ -15,9 +16,10 @@ ReplaysGoOn = (es others : List Event) (c : Core) → GoOn es others c
 
 -- ---- erasure
 
--- an image whose text never names x31, which is the tool's
+-- an image whose text is of words of 32 bits, and never names x31, which is the tool's
 pub record IsProgram (i : Image) : Type 0 where
   pub image : IsImage i
+  pub narrow : AllByRecursion (λ w. w < 2 ^ 32) (words_of (text_of i))
   pub unscratched : scratch_in (words_of (text_of i)) i.text_at ≡ None
 
 -- The ticks of these events are a run of the unpatched program, and the patched machine is that program's state behind it.

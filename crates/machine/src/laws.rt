@@ -1,8 +1,17 @@
 //! What holds of the definitions.
 
 ghost use Rattle.machine.specs.FirstTurns.{FirstTurns};
-ghost use Rattle.machine.specs.Laws.{ReplaysGoOn};
+ghost use Rattle.machine.specs.Laws.{Erasure, ReplaysGoOn};
 ghost use Rattle.machine.specs.Measures.{LevelsGoOn, MeasuresAdd};
+
+/// Erasure. Take any image whose text is of words of 32 bits that never name x31, any number of harts and budget, and any list of
+/// events each of which may happen when it comes: turns, also inside trampolines, and blocks that are written, linked,
+/// unlinked and freed. The turns that execute words of the program are a legal run of the unpatched program, and behind the list the patched
+/// machine is that program behind this run: memory, reservations and output are equal, and each hart has the program's ticks, stop,
+/// pc and registers x1 to x30, those that the tool has saved or is rebuilding being taken from where they are.
+pub fn erasure()
+    ensures { Erasure }
+{}
 
 /// Lists of events may be parted anywhere: what a list leads to, what it owns and whether it is legal go on from its first part.
 pub fn replays_go_on()

@@ -20,7 +20,7 @@ use Rattle.rv_word.specs.declared.action.Action.{Action}
 use Rattle.rv_word.specs.declared.action.Action.TheVariants.{Compute, Jump, BranchTo}
 use Rattle.tramp_spec.specs.Banks.{bank_len}
 use Rattle.tramp_spec.specs.Jumps.{distance, reaches, jump_word, upper, lower, put_number, is_signed_word}
-use Rattle.tramp_spec.specs.Marks.{own, tool, leave, jumps}
+use Rattle.tramp_spec.specs.Marks.{own, tool, leave, jumps, is_jump}
 use Rattle.tramp_spec.specs.MovedWords.{moved_auipc, moved_jump, moved_jal, moved_jalr, moved_branch, moved_plain, moved_decoded, moved_of, is_target, own_place, own_place_decoded, rebuilt, rebuilt_decoded, between}
 use Rattle.tramp_spec.specs.Moves.{Agree, Alike, LeadsHome, SameStep, MovesBy, Moves, WordsMove, bench}
 use Rattle.tramp_spec.specs.Steps.{Bench, Stood, stand, step_on, step_decoded, perform_on, with_value}
@@ -210,25 +210,25 @@ module _ (point to : ℕ) (pa : point % 4 ≡ 0) (ta : to % 4 ≡ 0) (lo : point
         let e : next (to + 4 * 0) ≡ to + 4 * 1 = omega arith in
         inr (refl, 1, jump_word (to + 4) (point + 4), omega arith, omega arith, e, refl, target_is (to + 4) (point + 4) (jump_word (to + 4) (point + 4)) (back 1 (omega arith)) ∙ ap (λ n. Some n) (sym next_point))
 
-    plain_by : (r : ℕ → Option ℕ)
+    plain_by : (r : ℕ → Option ℕ) → is_jump word ≡ false
         → ((regs others : List ℕ) (h : ℕ) (p : Prog) → Alike regs others → SameOutcome (LeadsHome false 0 to (moved_plain word point to)) (exec_of word (to + 4 * 0) h regs p) (exec_of word point h others p))
         → MovesBy 0 r false word point to (moved_plain word point to)
-    plain_by r s =
+    plain_by r j s =
         record {
-          before = λ j regs. regs;
+          before = λ i regs. regs;
           start = λ regs. refl;
-          size = λ j regs l. refl;
-          silent = λ j l. absurd (omega arith);
-          like = λ j k regs l m n e. refl;
-          tick = (word, refl, λ regs others h p a. to_step false 0 to (moved_plain word point to) (exec_of word (to + 4 * 0) h regs p) (exec_of word point h others p) (s regs others h p a));
+          size = λ i regs l. refl;
+          silent = λ i l. absurd (omega arith);
+          like = λ i k regs l m n e. refl;
+          tick = (word, refl, j, λ regs others h p a. to_step false 0 to (moved_plain word point to) (exec_of word (to + 4 * 0) h regs p) (exec_of word point h others p) (s regs others h p a));
           leaves = plain_leaves;
         }
 
     -- an instruction that asks the same at each pc, and leads to the next word
     plain_one : (i : Instr) (r : ℕ → Option ℕ) → decode_of word ≡ Some i → names 31 i ≡ false
-        → ((pc qc a b : ℕ) → action i pc a b ≡ action i qc a b) → ((pc a b : ℕ) → is_straight (action i pc a b) ≡ true)
+        → ((pc qc a b : ℕ) → action i pc a b ≡ action i qc a b) → ((pc a b : ℕ) → is_straight (action i pc a b) ≡ true) → jumps (Some i) ≡ false
         → MovesBy 0 r false word point to (moved_plain word point to)
-    plain_one i r e n same on = plain_by r (λ regs others h p s.
+    plain_one i r e n same on j = plain_by r (ap jumps e ∙ j) (λ regs others h p s.
         let R = LeadsHome false 0 to (moved_plain word point to) in
         let k : SameOutcome R (perform h (asked i point others) (to + 4 * 0) regs p) (perform h (asked i point others) point others p) =
             straight R (to + 4 * 0) point plain_next h (asked i point others) regs others p (on point _ _) s in
@@ -239,7 +239,7 @@ module _ (point to : ℕ) (pa : point % 4 ≡ 0) (ta : to % 4 ≡ 0) (lo : point
 
     -- a word that is no instruction
     plain_none : decode_of word ≡ None → MovesBy 0 (rebuilt_decoded None) false word point to (moved_plain word point to)
-    plain_none e = plain_by (rebuilt_decoded None) (λ regs others h p s.
+    plain_none e = plain_by (rebuilt_decoded None) (ap jumps e) (λ regs others h p s.
         subst (λ o. SameOutcome (LeadsHome false 0 to (moved_plain word point to)) (exec_decoded o (to + 4 * 0) h regs p) (exec_decoded o point h others p)) (sym e) refl)
 
   -- ---- auipc
@@ -306,7 +306,7 @@ module _ (point to : ℕ) (pa : point % 4 ≡ 0) (ta : to % 4 ≡ 0) (lo : point
           size = auipc_size;
           silent = auipc_silent;
           like = auipc_like;
-          tick = (word_of (Addiw rd rd (lower (wrap (point + imm)))), refl, auipc_tick);
+          tick = (word_of (Addiw rd rd (lower (wrap (point + imm)))), refl, ap jumps (addiw_reads rd rd (lower (wrap (point + imm))) (auipc_low word rd imm e) (auipc_low word rd imm e) (lower_fits (wrap (point + imm)))), auipc_tick);
           leaves = auipc_leaves;
         }
 
@@ -330,7 +330,7 @@ module _ (point to : ℕ) (pa : point % 4 ≡ 0) (ta : to % 4 ≡ 0) (lo : point
           size = λ j regs l. refl;
           silent = λ j l. absurd (omega arith);
           like = λ j k regs l m n d. refl;
-          tick = (w, refl, λ regs others h p s.
+          tick = (w, refl, ap jumps k.is, λ regs others h p s.
               let x = hop_execs w (to + 4 * 0) (wrap (point + offset)) h regs p k t.1 in
               let y = jal_program others h p t.1 in
               let o : with_reg others rd (next point) ≡ others = ap (λ q. with_reg others q (next point)) z ∙ with_zero others (next point) in
@@ -388,7 +388,7 @@ module _ (point to : ℕ) (pa : point % 4 ≡ 0) (ta : to % 4 ≡ 0) (lo : point
           size = jal_size;
           silent = jal_silent z;
           like = jal_like;
-          tick = (w, refl, λ regs others h p s.
+          tick = (w, refl, ap jumps (t.0).is, λ regs others h p s.
               let u = upper (point + 4) in
               let x = hop_execs w (to + 4 * 2) (wrap (point + offset)) h (jal_before 2 regs) p t.0 t.1 in
               let y = jal_program others h p t.1 in
@@ -436,7 +436,7 @@ module _ (point to : ℕ) (pa : point % 4 ≡ 0) (ta : to % 4 ≡ 0) (lo : point
           size = λ j regs l. refl;
           silent = λ j l. absurd (omega arith);
           like = λ j k regs l m o d. refl;
-          tick = (word, refl, λ regs others h p s.
+          tick = (word, refl, ap jumps e, λ regs others h p s.
               let o : (rs : List ℕ) (at : ℕ) → with_reg rs rd (next at) ≡ rs = λ rs at. ap (λ q. with_reg rs q (next at)) z ∙ with_zero rs (next at) in
               let t : wrap (reg regs rs1 + offset) / 2 * 2 ≡ wrap (reg others rs1 + offset) / 2 * 2 = ap (λ a. wrap (a + offset) / 2 * 2) (agree_but regs others rs1 s.first s.second s.agree source_other) in
               let x : exec_of word (to + 4 * 0) h regs p ≡ jump_to (wrap (reg others rs1 + offset) / 2 * 2) regs p =
@@ -536,7 +536,7 @@ module _ (point to : ℕ) (pa : point % 4 ≡ 0) (ta : to % 4 ≡ 0) (lo : point
           size = jalr_size;
           silent = jalr_silent narrow z;
           like = jalr_like;
-          tick = (word_of (Jalr 0 31 0), refl, jalr_tick);
+          tick = (word_of (Jalr 0 31 0), refl, ap jumps jalr_reads, jalr_tick);
           leaves = λ j l m. absurd (omega arith);
         }
 
@@ -602,7 +602,7 @@ module _ (point to : ℕ) (pa : point % 4 ≡ 0) (ta : to % 4 ≡ 0) (lo : point
           size = λ j regs l. refl;
           silent = λ j l. absurd (omega arith);
           like = λ j k regs l m o d. refl;
-          tick = (word_of (Branch op rs1 rs2 8), refl, branch_tick);
+          tick = (word_of (Branch op rs1 rs2 8), refl, ap jumps (let low = branch_low word op rs1 rs2 offset e in branch_reads op rs1 rs2 low.0 low.1), branch_tick);
           leaves = branch_leaves;
         }
 
@@ -610,8 +610,8 @@ module _ (point to : ℕ) (pa : point % 4 ≡ 0) (ta : to % 4 ≡ 0) (lo : point
 
   -- an instruction of the last kind, whose words are the plain ones
   plain_is : (word : ℕ) (i : Instr) (moved : List MarkedWord) (r : ℕ → Option ℕ) → decode_of word ≡ Some i → names 31 i ≡ false → Some (moved_plain word point to) ≡ Some moved
-      → ((pc qc a b : ℕ) → action i pc a b ≡ action i qc a b) → ((pc a b : ℕ) → is_straight (action i pc a b) ≡ true) → MovesBy 0 r false word point to moved
-  plain_is word i moved r e n m same on = let k : moved_plain word point to ≡ moved = cc in subst (MovesBy 0 r false word point to) k (plain_one word i r e n same on)
+      → ((pc qc a b : ℕ) → action i pc a b ≡ action i qc a b) → ((pc a b : ℕ) → is_straight (action i pc a b) ≡ true) → jumps (Some i) ≡ false → MovesBy 0 r false word point to moved
+  plain_is word i moved r e n m same on j = let k : moved_plain word point to ≡ moved = cc in subst (MovesBy 0 r false word point to) k (plain_one word i r e n same on j)
 
   jal_by : (b : Bool) (word rd offset : ℕ) (moved : List MarkedWord) → (rd == 0) ≡ b → decode_of word ≡ Some (Jal rd offset)
       → cond b (cond (is_target to (wrap (point + offset))) (Some (moved_jump (wrap (point + offset)) to)) None) (cond (is_target (to + 8) (wrap (point + offset))) (Some (moved_jal rd (wrap (point + offset)) point to)) None) ≡ Some moved
@@ -643,21 +643,21 @@ module _ (point to : ℕ) (pa : point % 4 ≡ 0) (ta : to % 4 ≡ 0) (lo : point
       let k = movable (is_target (to + 8) (wrap (point + offset))) (moved_branch op rs1 rs2 (wrap (point + offset)) point to) moved m in
       subst (MovesBy 0 (λ j. None) false word point to) k.1 (branch_moves word op rs1 rs2 offset e n k.0 (λ j. None))
   moves_by None word moved l e n m = let k : moved_plain word point to ≡ moved = cc in subst (MovesBy 0 (λ j. None) false word point to) k (plain_none word e)
-  moves_by (Some (Lui rd imm)) word moved l e n m = plain_is word (Lui rd imm) moved (λ j. None) e n m (λ pc qc a b. refl) (λ pc a b. refl)
-  moves_by (Some (Load op rd rs1 offset)) word moved l e n m = plain_is word (Load op rd rs1 offset) moved (λ j. None) e n m (λ pc qc a b. refl) (λ pc a b. refl)
-  moves_by (Some (Store op rs1 rs2 offset)) word moved l e n m = plain_is word (Store op rs1 rs2 offset) moved (λ j. None) e n m (λ pc qc a b. refl) (λ pc a b. refl)
-  moves_by (Some (OpImm op rd rs1 imm)) word moved l e n m = plain_is word (OpImm op rd rs1 imm) moved (λ j. None) e n m (λ pc qc a b. refl) (λ pc a b. refl)
-  moves_by (Some (ShiftImm op rd rs1 by)) word moved l e n m = plain_is word (ShiftImm op rd rs1 by) moved (λ j. None) e n m (λ pc qc a b. refl) (λ pc a b. refl)
-  moves_by (Some (Addiw rd rs1 imm)) word moved l e n m = plain_is word (Addiw rd rs1 imm) moved (λ j. None) e n m (λ pc qc a b. refl) (λ pc a b. refl)
-  moves_by (Some (ShiftImm32 op rd rs1 by)) word moved l e n m = plain_is word (ShiftImm32 op rd rs1 by) moved (λ j. None) e n m (λ pc qc a b. refl) (λ pc a b. refl)
-  moves_by (Some (Op op rd rs1 rs2)) word moved l e n m = plain_is word (Op op rd rs1 rs2) moved (λ j. None) e n m (λ pc qc a b. refl) (λ pc a b. refl)
-  moves_by (Some (Op32 op rd rs1 rs2)) word moved l e n m = plain_is word (Op32 op rd rs1 rs2) moved (λ j. None) e n m (λ pc qc a b. refl) (λ pc a b. refl)
-  moves_by (Some (Fence rd rs1 high)) word moved l e n m = plain_is word (Fence rd rs1 high) moved (λ j. None) e n m (λ pc qc a b. refl) (λ pc a b. refl)
-  moves_by (Some Ecall) word moved l e n m = plain_is word Ecall moved (λ j. None) e n m (λ pc qc a b. refl) (λ pc a b. refl)
-  moves_by (Some Ebreak) word moved l e n m = plain_is word Ebreak moved (λ j. None) e n m (λ pc qc a b. refl) (λ pc a b. refl)
-  moves_by (Some (Lr width rd rs1 order)) word moved l e n m = plain_is word (Lr width rd rs1 order) moved (λ j. None) e n m (λ pc qc a b. refl) (λ pc a b. refl)
-  moves_by (Some (Sc width rd rs1 rs2 order)) word moved l e n m = plain_is word (Sc width rd rs1 rs2 order) moved (λ j. None) e n m (λ pc qc a b. refl) (λ pc a b. refl)
-  moves_by (Some (Amo op width rd rs1 rs2 order)) word moved l e n m = plain_is word (Amo op width rd rs1 rs2 order) moved (λ j. None) e n m (λ pc qc a b. refl) (λ pc a b. refl)
+  moves_by (Some (Lui rd imm)) word moved l e n m = plain_is word (Lui rd imm) moved (λ j. None) e n m (λ pc qc a b. refl) (λ pc a b. refl) refl
+  moves_by (Some (Load op rd rs1 offset)) word moved l e n m = plain_is word (Load op rd rs1 offset) moved (λ j. None) e n m (λ pc qc a b. refl) (λ pc a b. refl) refl
+  moves_by (Some (Store op rs1 rs2 offset)) word moved l e n m = plain_is word (Store op rs1 rs2 offset) moved (λ j. None) e n m (λ pc qc a b. refl) (λ pc a b. refl) refl
+  moves_by (Some (OpImm op rd rs1 imm)) word moved l e n m = plain_is word (OpImm op rd rs1 imm) moved (λ j. None) e n m (λ pc qc a b. refl) (λ pc a b. refl) refl
+  moves_by (Some (ShiftImm op rd rs1 by)) word moved l e n m = plain_is word (ShiftImm op rd rs1 by) moved (λ j. None) e n m (λ pc qc a b. refl) (λ pc a b. refl) refl
+  moves_by (Some (Addiw rd rs1 imm)) word moved l e n m = plain_is word (Addiw rd rs1 imm) moved (λ j. None) e n m (λ pc qc a b. refl) (λ pc a b. refl) refl
+  moves_by (Some (ShiftImm32 op rd rs1 by)) word moved l e n m = plain_is word (ShiftImm32 op rd rs1 by) moved (λ j. None) e n m (λ pc qc a b. refl) (λ pc a b. refl) refl
+  moves_by (Some (Op op rd rs1 rs2)) word moved l e n m = plain_is word (Op op rd rs1 rs2) moved (λ j. None) e n m (λ pc qc a b. refl) (λ pc a b. refl) refl
+  moves_by (Some (Op32 op rd rs1 rs2)) word moved l e n m = plain_is word (Op32 op rd rs1 rs2) moved (λ j. None) e n m (λ pc qc a b. refl) (λ pc a b. refl) refl
+  moves_by (Some (Fence rd rs1 high)) word moved l e n m = plain_is word (Fence rd rs1 high) moved (λ j. None) e n m (λ pc qc a b. refl) (λ pc a b. refl) refl
+  moves_by (Some Ecall) word moved l e n m = plain_is word Ecall moved (λ j. None) e n m (λ pc qc a b. refl) (λ pc a b. refl) refl
+  moves_by (Some Ebreak) word moved l e n m = plain_is word Ebreak moved (λ j. None) e n m (λ pc qc a b. refl) (λ pc a b. refl) refl
+  moves_by (Some (Lr width rd rs1 order)) word moved l e n m = plain_is word (Lr width rd rs1 order) moved (λ j. None) e n m (λ pc qc a b. refl) (λ pc a b. refl) refl
+  moves_by (Some (Sc width rd rs1 rs2 order)) word moved l e n m = plain_is word (Sc width rd rs1 rs2 order) moved (λ j. None) e n m (λ pc qc a b. refl) (λ pc a b. refl) refl
+  moves_by (Some (Amo op width rd rs1 rs2 order)) word moved l e n m = plain_is word (Amo op width rd rs1 rs2 order) moved (λ j. None) e n m (λ pc qc a b. refl) (λ pc a b. refl) refl
 
 pub words_move : WordsMove
 unfolding moved_of own_place rebuilt

@@ -49,7 +49,7 @@ pub record MovesBy (place : ℕ) (rebuilds : ℕ → Option ℕ) (jumped : Bool)
       → step_on bank_len w ticks (to + 4 * j) (bench (before j regs) bank) ≡ Ok (stand (to + 4 * (j + 1)) (bench (before (j + 1) regs) bank)))
   pub like : (j k : ℕ) (regs : List ℕ) → j ≤ place → 0 < k → k < 31 → rebuilds j ≢ Some k → reg (before j regs) k ≡ reg regs k
   -- the tick does what the program's word does
-  pub tick : (w : ℕ) × (slice_get moved place ≡ Some (own w))
+  pub tick : (w : ℕ) × (slice_get moved place ≡ Some (own w)) × (is_jump w ≡ jumped)
       × ((regs others : List ℕ) (h : ℕ) (p : Prog) → Alike regs others
       → SameStep jumped place to moved (exec_of w (to + 4 * place) h (before place regs) p) (exec_of word point h others p))
   -- the words behind it are jumps back to the program

@@ -1,5 +1,6 @@
 //! What holds of the definitions.
 
+ghost use Rattle.tramp_spec.specs.Moves.{WordsMove};
 ghost use Rattle.tramp_spec.specs.Routes.{BodiesGoOn};
 ghost use Rattle.tramp_spec.specs.Rows.{MovedRows, CodeRows};
 
@@ -16,4 +17,10 @@ pub fn code_rows()
 /// Harmless bodies may stand behind each other, and behind guards that lead to them or over them.
 pub fn bodies_go_on()
     ensures { BodiesGoOn }
+{}
+
+/// Moved words do what the program's word does at its own place: those before the tick build registers, the tick has the word's
+/// effect, and those behind it lead to where the word itself leads.
+pub fn words_move()
+    ensures { WordsMove }
 {}

@@ -9,5 +9,5 @@ mod laws;
 mod mark;
 
 pub use block::{Block, Moved};
-pub use laws::{bodies_go_on, code_rows, moved_rows};
+pub use laws::{bodies_go_on, code_rows, moved_rows, words_move};
 pub use mark::{Mark, MarkedWord};
