@@ -1,17 +1,16 @@
 -- Write and Free keep what is kept.
-use Rattle.std.proofs.Common.{◌≡◌, ℕ, zero, suc, ◌+◌, ◌-◌, ◌*◌, ◌%◌, ◌<◌, ◌≤◌, List, [], ◌∷◌, ◌++◌, length, Option, Some, refl, sym, ap, ◌∙◌, subst, arith, ⊎_elim, inl, inr}
-use Rattle.std.specs.Prelude.{filter, Bool, true, false, not, IsTrue, ◌⊎◌, ◌&&◌, ◌==◌, slice_get}
+use Rattle.std.proofs.Common.{◌≡◌, ℕ, zero, suc, ◌+◌, ◌*◌, ◌%◌, ◌<◌, ◌≤◌, List, [], ◌∷◌, ◌++◌, length, Some, refl, sym, ap, ◌∙◌, subst, arith, ⊎_elim, inl, inr}
+use Rattle.std.specs.Prelude.{filter, Bool, true, false, not, ◌⊎◌, ◌==◌, slice_get}
 use Rattle.std.specs.FinMap.{get}
 use Rattle.std.proofs.lemmas.Bool.{true≢false, cases_Bool, cases_eq, eq-eqb, ne_eqb, not_from_false, not_from_true, and_left, and_right, and_from}
 use Rattle.std.proofs.lemmas.Option.{slice_get_within}
 use Rattle.pn_types.specs.declared.limits.TheConstants.{TOOL_TEXT_LEN}
-use Rattle.rv_word.specs.Words.{word_of}
 use Rattle.rv_word.specs.Plain.{Words, PlainHart, Plain, program_word}
-use Rattle.rv_word.specs.declared.instr.Instr.TheVariants.{Jal}
-use Rattle.tramp_spec.specs.Blocks.{base_words, mini_words, tail_of, moved_at}
+use Rattle.tramp_spec.specs.Codes.{Code, tool_at, put_words}
+use Rattle.tramp_spec.specs.Blocks.{tail_of, moved_at}
 use Rattle.tramp_spec.specs.Bodies.{Safe}
 use Rattle.tramp_spec.specs.Harts.{Hart, bench_of}
-use Rattle.tramp_spec.specs.Jumps.{jump_word, distance, reaches}
+use Rattle.tramp_spec.specs.Jumps.{jump_word}
 use Rattle.tramp_spec.specs.Marks.{own, tool}
 use Rattle.tramp_spec.specs.MovedWords.{moved_of, own_place}
 use Rattle.tramp_spec.specs.Steps.{Bench}
@@ -19,28 +18,39 @@ use Rattle.tramp_spec.specs.declared.block.Block.{Block}
 use Rattle.tramp_spec.specs.declared.mark.MarkedWord.{MarkedWord}
 use Rattle.tramp_spec.proofs.Hops.{Hops, jump_hops}
 use Rattle.tramp_spec.proofs.Encodings.{jump_reads}
-use Rattle.machine.specs.Cores.{In, Code, Row, Status, Written, Live, Retired, Core, is_live, is_current, tool_at}
+use Rattle.machine.specs.Cores.{In, Row, Status, Written, Live, Retired, Core, is_live, is_current}
 use Rattle.machine.specs.Places.{holds}
 use Rattle.machine.specs.Events.{Apart, StandsIn, MayWrite, HasShape}
-use Rattle.machine.specs.Effects.{row_of, put_words, is_kept, written}
-use Rattle.machine.proofs.Lists.{map_in, in_snoc, snoc_old, map_snoc, in_filter, filter_in, map_filter, put_words_other, put_words_stand, stands_put, Stands, same_some}
-use Rattle.machine.proofs.Invariant.{Ground, Piece, the_row, IsBase, Linked, LiveOf, base_with, BaseShape, MiniShape, ShapedAs, Shaped, Placed, Leads, HasFamily, Door, TextWord, Static, Outside, AtSave, AtSaved, MovedWord, AtMoved, AtLeave, BasePlace, InBase, InMini, Dynamic, Inv}
+use Rattle.machine.specs.Effects.{row_of, is_kept, written}
+use Rattle.machine.proofs.Lists.{in_snoc, snoc_old, map_snoc, in_filter, filter_in, map_filter, put_words_other, put_words_stand, stands_put, Stands, same_some}
+use Rattle.machine.proofs.Invariant.{Piece, the_row, IsBase, Linked, LiveOf, base_with, BaseShape, MiniShape, ShapedAs, Shaped, Placed, Leads, HasFamily, Door, Static, AtSave, AtSaved, MovedWord, AtMoved, AtLeave, InBase, InMini, Dynamic, Inv}
 use Rattle.machine.proofs.Homes.{has_len, row_in, covers}
 use Rattle.machine.proofs.Turns.{text_low}
 use Rattle.machine.proofs.Points.{live_true, same_point, base_point}
 use Rattle.machine.proofs.Follow.{Image, Kept, All, NoPiece, Nowhere}
 use Rattle.machine.proofs.Minis.{point_word}
-use Rattle.machine.proofs.Blocks.{mini_len, base_place}
+use Rattle.machine.proofs.Blocks.{mini_len}
 
 shaped_put : (t : Words) (code : Code) (at : ℕ) (ws : List MarkedWord) (row : Row) (body : List MarkedWord) (next : ℕ) → Apart row.at row.len at (length ws) → ShapedAs t code row body next → ShapedAs t (put_words at ws code) row body next
 shaped_put t code at ws row body next o (inl r) =
     inl (record {
-      base = r.base; word = r.word; here = r.here; moved = r.moved; movable = r.movable; len = r.len; jump = r.jump; hops = r.hops;
+      base = r.base;
+      word = r.word;
+      here = r.here;
+      moved = r.moved;
+      movable = r.movable;
+      len = r.len;
+      jump = r.jump;
+      hops = r.hops;
       stands = stands_put at ws code row.at (base_with r.jump r.moved) (let l = r.len in ⊎_elim (λ x. inl (omega arith)) (λ x. inr x) o) r.stands;
     })
 shaped_put t code at ws row body next o (inr r) =
     inr (record {
-      mini = r.mini; len = r.len; harmless = r.harmless; jump = r.jump; hops = r.hops;
+      mini = r.mini;
+      len = r.len;
+      harmless = r.harmless;
+      jump = r.jump;
+      hops = r.hops;
       stands = stands_put at ws code row.at (body ++ tool r.jump ∷ []) (let l = r.len in let e = mini_len body (tool r.jump) in ⊎_elim (λ x. inl (omega arith)) (λ x. inr x) o) r.stands;
     })
 
@@ -209,11 +219,17 @@ write_base c s v b may e h =
     let al = k.aligned in
     let hop : Hops (b.at + 4) (tail_of b.at) (jump_word (b.at + 4) (tail_of b.at)) = jump_hops (b.at + 4) (tail_of b.at) (omega arith) (omega arith) (omega arith) (omega arith) (let n = ap length k.is in omega arith) (let n = ap length k.is in omega arith) in
     let shaped : Shaped c.program (put_words b.at b.words c.code) new =
-      inl (record {
-        base = e; word = k.word; here = k.here; moved = k.moved; movable = k.movable; len = ap length k.is ∙ (let z : suc (suc (suc (length k.moved))) ≡ 3 + length k.moved = omega arith in z);
-        jump = jump_word (b.at + 4) (tail_of b.at); hops = hop;
-        stands = subst (λ l. Stands (put_words b.at b.words c.code) b.at l) k.is (put_words_stand b.at b.words c.code);
-      }) in
+    inl (record {
+      base = e;
+      word = k.word;
+      here = k.here;
+      moved = k.moved;
+      movable = k.movable;
+      len = ap length k.is ∙ (let z : suc (suc (suc (length k.moved))) ≡ 3 + length k.moved = omega arith in z);
+      jump = jump_word (b.at + 4) (tail_of b.at);
+      hops = hop;
+      stands = subst (λ l. Stands (put_words b.at b.words c.code) b.at l) k.is (put_words_stand b.at b.words c.code);
+    }) in
     record {
       new = new;
       base = refl;
@@ -229,10 +245,14 @@ write_mini c s v b may e h =
     let hop = jump_reads at h.0 in
     let new : Piece = record { row = row_of b; body = k.body; next = hop.0; family = 0; age = 0 } in
     let shaped : Shaped c.program (put_words b.at b.words c.code) new =
-      inr (record {
-        mini = e; len = ap length k.is ∙ mini_len k.body (tool (jump_word at h.0)); harmless = k.harmless; jump = jump_word at h.0; hops = record { offset = hop.1; is = hop.2; leads = hop.3 };
-        stands = subst (λ l. Stands (put_words b.at b.words c.code) b.at l) k.is (put_words_stand b.at b.words c.code);
-      }) in
+    inr (record {
+      mini = e;
+      len = ap length k.is ∙ mini_len k.body (tool (jump_word at h.0));
+      harmless = k.harmless;
+      jump = jump_word at h.0;
+      hops = record { offset = hop.1; is = hop.2; leads = hop.3 };
+      stands = subst (λ l. Stands (put_words b.at b.words c.code) b.at l) k.is (put_words_stand b.at b.words c.code);
+    }) in
     record {
       new = new;
       base = refl;

@@ -1,5 +1,5 @@
 -- Arm keeps what is kept: it changes banks, and no hart is inside.
-use Rattle.std.proofs.Common.{◌≡◌, ℕ, zero, suc, ◌+◌, ◌-◌, ◌%◌, ◌^◌, List, [], ◌∷◌, length, Option, Some, None, refl, sym, ap, ◌∙◌, subst, ⊎_elim, inl, inr}
+use Rattle.std.proofs.Common.{◌≡◌, ℕ, zero, suc, ◌+◌, ◌-◌, ◌%◌, ◌^◌, List, [], ◌∷◌, length, Some, refl, sym, ◌∙◌, subst, ⊎_elim, inl}
 use Rattle.std.specs.Prelude.{if◌then◌else◌, ◌==◌, map, Bool, true, false, slice_get, slice_set, ◌⊎◌}
 use Rattle.std.proofs.lemmas.Bool.{true≢false}
 use Rattle.std.proofs.lemmas.List.{length-map}

@@ -1,25 +1,25 @@
 -- The patched machine begins as the program.
-use Rattle.std.proofs.Common.{◌≡◌, ℕ, zero, suc, ◌+◌, ◌*◌, ◌/◌, ◌%◌, ◌^◌, ◌<◌, ◌≤◌, List, [], ◌∷◌, length, replicate, Option, Some, None, refl, sym, ap, ◌∙◌, subst, arith, inl, inr}
+use Rattle.std.proofs.Common.{◌≡◌, ℕ, zero, suc, ◌+◌, ◌*◌, ◌/◌, ◌^◌, ◌<◌, ◌≤◌, List, [], ◌∷◌, length, replicate, Some, None, refl, sym, ap, ◌∙◌, subst, arith, inl}
 use Rattle.std.specs.Prelude.{Bool, true, false, cond, map, slice_get}
 use Rattle.std.specs.List.{AllByRecursion}
 use Rattle.std.specs.FinMap.{get, from_entries}
-use Rattle.std.proofs.lemmas.Grind.{common_steps}
 use Rattle.std.proofs.lemmas.List.{length-map, length-replicate}
-use Rattle.pn_types.specs.Images.{IsImage, text_of}
+use Rattle.pn_types.specs.Images.{text_of}
 use Rattle.pn_types.specs.declared.image.Image.{Image}
-use Rattle.pn_types.proofs.ImageLemmas.{IsRange, text_range}
+use Rattle.pn_types.proofs.ImageLemmas.{text_range}
 use Rattle.rv_word.specs.Names.{has_scratch, scratch_in, words_in, words_of}
-use Rattle.rv_word.specs.Plain.{Words, PlainHart, program_word}
+use Rattle.rv_word.specs.Plain.{PlainHart}
 use Rattle.rv_mem.specs.Start.{program_of, heap_len, stack_at, stack_len, heap_at}
 use Rattle.rv_exec.specs.Start.{start, start_regs, start_hart, harts_from}
+use Rattle.tramp_spec.specs.Codes.{Code, text_entries, text_code}
 use Rattle.tramp_spec.proofs.Registers.{length_with}
 use Rattle.tramp_spec.specs.Banks.{bank_len}
 use Rattle.tramp_spec.specs.Harts.{Hart}
 use Rattle.tramp_spec.specs.Marks.{own}
-use Rattle.machine.specs.Cores.{Code, text_entries, text_code, first_hart, start_core}
+use Rattle.machine.specs.Cores.{first_hart, start_core}
 use Rattle.machine.specs.Laws.{IsProgram}
-use Rattle.machine.proofs.Lists.{get_same, get_other, same_some}
-use Rattle.machine.proofs.Invariant.{Ground, Piece, Static, Outside, Dynamic, Inv}
+use Rattle.machine.proofs.Lists.{get_same, get_other}
+use Rattle.machine.proofs.Invariant.{Ground, Static, Dynamic, Inv}
 use Rattle.machine.proofs.Turns.{in_text}
 
 -- ---- the text

@@ -1,18 +1,19 @@
 -- What a change of one word or of the rows leaves.
-use Rattle.std.proofs.Common.{◌≡◌, ℕ, zero, suc, ◌+◌, ◌-◌, ◌*◌, ◌<◌, ◌≤◌, List, [], ◌∷◌, ◌++◌, length, Option, Some, None, refl, sym, ap, ◌∙◌, subst, arith, ⊎_elim, inl, inr}
-use Rattle.std.specs.Prelude.{map, Bool, true, false, cond, slice_get, ◌⊎◌}
+use Rattle.std.proofs.Common.{◌≡◌, ℕ, suc, ◌+◌, ◌-◌, ◌*◌, ◌<◌, ◌≤◌, List, [], ◌∷◌, ◌++◌, length, Some, refl, sym, ap, ◌∙◌, subst, arith, ⊎_elim, inl, inr}
+use Rattle.std.specs.Prelude.{map, Bool, true, false, ◌⊎◌}
 use Rattle.std.specs.FinMap.{get, insert}
 use Rattle.std.proofs.lemmas.Bool.{cond-true, cond-false}
 use Rattle.rv_word.specs.Plain.{Words, PlainHart, program_word}
+use Rattle.tramp_spec.specs.Codes.{Code}
 use Rattle.tramp_spec.specs.Harts.{Hart}
 use Rattle.tramp_spec.specs.Marks.{tool}
 use Rattle.tramp_spec.specs.declared.mark.MarkedWord.{MarkedWord}
 use Rattle.tramp_spec.proofs.Hops.{Hops}
-use Rattle.machine.specs.Cores.{In, Code, Row, Status, Written, Live, is_live, is_current}
+use Rattle.machine.specs.Cores.{In, Row, Status, Written, Live, is_live, is_current}
 use Rattle.machine.specs.Effects.{with_status}
 use Rattle.machine.specs.Events.{Apart, link_at}
 use Rattle.machine.proofs.Lists.{in_map, map_in, map_follows, get_same, get_other, Stands, stands_other}
-use Rattle.machine.proofs.Invariant.{Piece, the_row, IsBase, Linked, LiveOf, base_with, BaseShape, MiniShape, ShapedAs, Shaped, Placed, Leads, HasFamily, Door, TextWord, Static, BasePlace, InBase, InMini, Outside, Dynamic}
+use Rattle.machine.proofs.Invariant.{Piece, the_row, IsBase, Linked, base_with, ShapedAs, Shaped, Placed, Leads, HasFamily, Door, TextWord, Static, BasePlace, InBase, InMini, Outside, Dynamic}
 
 -- ---- one word
 
@@ -34,12 +35,23 @@ mini_len (v ∷ vs) w = let e = mini_len vs w in omega (arith, e)
 pub shaped_other : (t : Words) (code : Code) (row : Row) (body : List MarkedWord) (next a : ℕ) (w : MarkedWord) → (a < row.at) ⊎ (row.at + 4 * row.len ≤ a) → ShapedAs t code row body next → ShapedAs t (insert code a w) row body next
 shaped_other t code row body next a w o (inl r) =
     inl (record {
-      base = r.base; word = r.word; here = r.here; moved = r.moved; movable = r.movable; len = r.len; jump = r.jump; hops = r.hops;
+      base = r.base;
+      word = r.word;
+      here = r.here;
+      moved = r.moved;
+      movable = r.movable;
+      len = r.len;
+      jump = r.jump;
+      hops = r.hops;
       stands = stands_other code a w row.at (base_with r.jump r.moved) (let l = r.len in ⊎_elim (λ x. inl x) (λ x. inr (omega arith)) o) r.stands;
     })
 shaped_other t code row body next a w o (inr r) =
     inr (record {
-      mini = r.mini; len = r.len; harmless = r.harmless; jump = r.jump; hops = r.hops;
+      mini = r.mini;
+      len = r.len;
+      harmless = r.harmless;
+      jump = r.jump;
+      hops = r.hops;
       stands = stands_other code a w row.at (body ++ tool r.jump ∷ []) (let l = r.len in let m = mini_len body (tool r.jump) in ⊎_elim (λ x. inl x) (λ x. inr (omega arith)) o) r.stands;
     })
 
@@ -54,18 +66,32 @@ pub shaped_next : (t : Words) (code : Code) (row : Row) (body : List MarkedWord)
 shaped_next t code row body old new jump h (inl r) =
     let e = link_base row r.base in
     inl (record {
-      base = r.base; word = r.word; here = r.here; moved = r.moved; movable = r.movable; len = r.len; jump = jump;
+      base = r.base;
+      word = r.word;
+      here = r.here;
+      moved = r.moved;
+      movable = r.movable;
+      len = r.len;
+      jump = jump;
       hops = subst (λ a. Hops a new jump) e h;
-      stands = subst (λ a. Stands (insert code a (tool jump)) row.at (base_with jump r.moved)) (sym e)
-          (get_other code (row.at + 4) row.at (tool jump) (λ x. omega arith) ∙ (r.stands).0,
-          (get_same code (row.at + 4) (tool jump),
-          (get_other code (row.at + 4) (row.at + 4 + 4) (tool jump) (λ x. omega arith) ∙ (r.stands).1.1.0,
-          stands_other code (row.at + 4) (tool jump) (row.at + 4 + 4 + 4) r.moved (inl (omega arith)) (r.stands).1.1.1)));
+      stands = subst (λ a. Stands (insert code a (tool jump)) row.at (base_with jump r.moved)) (sym e) (
+        get_other code (row.at + 4) row.at (tool jump) (λ x. omega arith) ∙ (r.stands).0,
+        (
+          get_same code (row.at + 4) (tool jump),
+          (
+            get_other code (row.at + 4) (row.at + 4 + 4) (tool jump) (λ x. omega arith) ∙ (r.stands).1.1.0,
+            stands_other code (row.at + 4) (tool jump) (row.at + 4 + 4 + 4) r.moved (inl (omega arith)) (r.stands).1.1.1,
+          ),
+        ),
+      );
     })
 shaped_next t code row body old new jump h (inr r) =
     let e = link_mini row (length body) r.mini r.len in
     inr (record {
-      mini = r.mini; len = r.len; harmless = r.harmless; jump = jump;
+      mini = r.mini;
+      len = r.len;
+      harmless = r.harmless;
+      jump = jump;
       hops = subst (λ a. Hops a new jump) e h;
       stands = subst (λ a. Stands (insert code a (tool jump)) row.at (body ++ tool jump ∷ [])) (sym e) (mini_next code row.at body (tool r.jump) (tool jump) r.stands);
     })
@@ -164,13 +190,28 @@ base_place t budget f n fam age b x y (inr (inr (inr (inl k)))) =
     let m = k.m in
     inr (inr (inr (inl (record {
       m = record { word = m.word; here = m.here; moved = m.moved; movable = m.movable; moves = m.moves };
-      j = k.j; low = k.low; pc = k.pc; home = k.home; before = k.before; regs = k.regs; size = k.size; agree = k.agree; is = k.is;
+      j = k.j;
+      low = k.low;
+      pc = k.pc;
+      home = k.home;
+      before = k.before;
+      regs = k.regs;
+      size = k.size;
+      agree = k.agree;
+      is = k.is;
     }))))
 base_place t budget f n fam age b x y (inr (inr (inr (inr k)))) =
     let m = k.m in
     inr (inr (inr (inr (record {
       m = record { word = m.word; here = m.here; moved = m.moved; movable = m.movable; moves = m.moves };
-      j = k.j; above = k.above; low = k.low; pc = k.pc; left = k.left; stands = k.stands; home = k.home; agree = k.agree;
+      j = k.j;
+      above = k.above;
+      low = k.low;
+      pc = k.pc;
+      left = k.left;
+      stands = k.stands;
+      home = k.home;
+      agree = k.agree;
     }))))
 
 module _ (ps : List Piece) (f : Row → Status) (n fam age : Piece → ℕ) where

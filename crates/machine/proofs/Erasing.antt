@@ -1,9 +1,8 @@
 -- Every list of legal events leaves the program what it is.
-use Rattle.std.proofs.Common.{ℕ, refl}
-use Rattle.pn_types.specs.declared.image.Image.{Image}
+use Rattle.std.proofs.Common.{refl}
 use Rattle.rv_mem.specs.Start.{program_of}
 use Rattle.rv_exec.specs.Start.{start}
-use Rattle.rv_exec.specs.Run.{run, run_from}
+use Rattle.rv_exec.specs.Run.{run}
 use Rattle.machine.specs.Cores.{start_core}
 use Rattle.machine.specs.Laws.{Erasure}
 use Rattle.machine.specs.Replays.{replay, owns}

@@ -1,5 +1,5 @@
 -- Thirteen turns, one by one.
-use Rattle.std.proofs.Common.{◌≡◌, ℕ, zero, suc, List, [], ◌∷◌, ◌++◌, Option, Some, None, refl, ap, sym, ◌∙◌}
+use Rattle.std.proofs.Common.{◌≡◌, ℕ, suc, List, [], ◌∷◌, ◌++◌, Option, Some, None, refl, ap, ◌∙◌}
 use Rattle.std.specs.FinMap.{get, gets}
 use Rattle.std.specs.Prelude.{Bool, true, false, replicate, slice_index, map}
 use Rattle.rv_word.specs.Exec.{action, perform, prog_of}
@@ -8,14 +8,15 @@ use Rattle.rv_word.specs.Registers.{reg, with_reg}
 use Rattle.rv_word.specs.Table.{decode_of}
 use Rattle.rv_word.specs.declared.outcome.Cause.{Cause}
 use Rattle.rv_word.specs.declared.outcome.Cause.TheVariants.{Exit}
+use Rattle.tramp_spec.specs.Codes.{Code}
 use Rattle.tramp_spec.specs.Banks.{bank_len}
 use Rattle.tramp_spec.specs.Marks.{own, enter, tool, leave}
 use Rattle.tramp_spec.specs.Steps.{perform_on}
 use Rattle.tramp_spec.specs.Statements.{body_of}
 use Rattle.tramp_spec.specs.Harts.{Hart}
-use Rattle.machine.specs.Cores.{Core, Code, Row, Status, Live}
+use Rattle.machine.specs.Cores.{Core, Row, Live}
 use Rattle.machine.specs.Turns.{turn}
-use Rattle.machine.specs.Events.{Event, Turn}
+use Rattle.machine.specs.Events.{Turn}
 use Rattle.machine.specs.Effects.{owned}
 use Rattle.machine.specs.Replays.{replay, owns}
 use Rattle.machine.specs.FirstTurns.{three_words, linked_core, turns, FirstTurns}

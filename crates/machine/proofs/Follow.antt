@@ -1,9 +1,10 @@
 -- How the blocks after an event follow from those before it.
-use Rattle.std.proofs.Common.{◌≡◌, ℕ, ◌<◌, List, length, Some, refl, sym, subst, inl}
+use Rattle.std.proofs.Common.{◌≡◌, ℕ, ◌<◌, List, Some, refl, sym, subst, inl}
 use Rattle.std.specs.Prelude.{map, ◌⊎◌}
 use Rattle.std.specs.FinMap.{get}
 use Rattle.rv_word.specs.Plain.{Plain, program_word}
-use Rattle.machine.specs.Cores.{In, Code, Row, Status, Written, Core}
+use Rattle.tramp_spec.specs.Codes.{Code}
+use Rattle.machine.specs.Cores.{In, Row, Status, Written, Core}
 use Rattle.machine.specs.Effects.{with_status}
 use Rattle.machine.proofs.Lists.{in_map, map_in}
 use Rattle.machine.proofs.Invariant.{Piece, Linked, Static, Inv}

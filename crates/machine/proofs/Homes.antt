@@ -1,15 +1,16 @@
 -- Where the program is while a hart stands in a block.
-use Rattle.std.proofs.Common.{◌≡◌, ℕ, ◌+◌, ◌-◌, ◌*◌, ◌/◌, ◌%◌, ◌<◌, ◌≤◌, List, length, Option, Some, None, refl, sym, ap, ◌∙◌, subst, arith, ⊎_elim, inl, inr}
-use Rattle.std.specs.Prelude.{map, find, Bool, true, false, cond, slice_get, ◌⊎◌, ◌&&◌, ◌==◌, nat_le, nat_lt}
+use Rattle.std.proofs.Common.{◌≡◌, ℕ, ◌+◌, ◌-◌, ◌*◌, ◌<◌, ◌≤◌, List, Some, sym, ap, ◌∙◌, subst, arith, ⊎_elim}
+use Rattle.std.specs.Prelude.{true, nat_le, nat_lt}
 use Rattle.std.specs.FinMap.{get}
-use Rattle.std.proofs.lemmas.Bool.{true≢false, cases_Bool, cond-true, cond-false, and_parts, and_from, lt-ltb, ltb-true, leb-true, le-leb}
+use Rattle.std.proofs.lemmas.Bool.{and_parts, and_from, lt-ltb, ltb-true, leb-true, le-leb}
 use Rattle.rv_word.specs.Names.{jump_of}
 use Rattle.rv_word.specs.Table.{decode_of}
 use Rattle.rv_word.specs.Plain.{Words}
+use Rattle.tramp_spec.specs.Codes.{Code}
 use Rattle.tramp_spec.specs.Blocks.{home_by, target_or}
-use Rattle.tramp_spec.specs.Marks.{leave, is_leave}
+use Rattle.tramp_spec.specs.Marks.{leave}
 use Rattle.tramp_spec.specs.declared.mark.MarkedWord.{MarkedWord}
-use Rattle.machine.specs.Cores.{In, Code, Row}
+use Rattle.machine.specs.Cores.{In, Row}
 use Rattle.machine.specs.Places.{holds, block_at, home_in, home_of, home_of_word}
 use Rattle.machine.specs.Events.{Apart}
 use Rattle.machine.proofs.Lists.{in_map, map_in, find_gives, find_finds}

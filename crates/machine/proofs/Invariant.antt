@@ -1,5 +1,5 @@
 -- What is kept at every event.
-use Rattle.std.proofs.Common.{◌≡◌, ◌≢◌, ℕ, ◌+◌, ◌*◌, ◌%◌, ◌^◌, ◌<◌, ◌≤◌, List, [], ◌∷◌, ◌++◌, length, Option, Some, None}
+use Rattle.std.proofs.Common.{◌≡◌, ◌≢◌, ℕ, ◌+◌, ◌*◌, ◌%◌, ◌^◌, ◌<◌, ◌≤◌, List, [], ◌∷◌, ◌++◌, length, Some, None}
 use Rattle.std.specs.Prelude.{map, Bool, true, false, slice_get, ◌⊎◌}
 use Rattle.std.specs.FinMap.{get}
 use Rattle.pn_types.specs.declared.limits.TheConstants.{TOOL_TEXT_LEN}
@@ -12,6 +12,7 @@ use Rattle.rv_word.specs.declared.outcome.Cause.{Cause}
 use Rattle.rv_word.specs.declared.instr.Instr.TheVariants.{Load, Store}
 use Rattle.rv_word.specs.declared.instr.LoadOp.TheVariants.{Ld}
 use Rattle.rv_word.specs.declared.instr.StoreOp.TheVariants.{Sd}
+use Rattle.tramp_spec.specs.Codes.{Code, tool_at}
 use Rattle.tramp_spec.specs.Banks.{bank_len, saved_x5}
 use Rattle.tramp_spec.specs.Blocks.{tail_of, moved_at}
 use Rattle.tramp_spec.specs.Bodies.{Safe, Harmless}
@@ -21,7 +22,7 @@ use Rattle.tramp_spec.specs.MovedWords.{moved_of, own_place}
 use Rattle.tramp_spec.specs.Moves.{Agree, Moves}
 use Rattle.tramp_spec.specs.declared.mark.MarkedWord.{MarkedWord}
 use Rattle.tramp_spec.proofs.Hops.{Hops}
-use Rattle.machine.specs.Cores.{In, Code, Row, Status, Written, Live, Core, is_live, is_current, tool_at}
+use Rattle.machine.specs.Cores.{In, Row, Written, Live, Core, is_live, is_current}
 use Rattle.machine.specs.Events.{Apart}
 use Rattle.machine.proofs.Lists.{Stands}
 

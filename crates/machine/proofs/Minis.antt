@@ -1,20 +1,20 @@
 -- LinkMini keeps what is kept.
-use Rattle.std.proofs.Common.{◌≡◌, ℕ, ◌+◌, ◌-◌, ◌*◌, ◌%◌, ◌<◌, ◌≤◌, List, [], ◌∷◌, ◌++◌, length, Option, Some, refl, sym, ap, ◌∙◌, subst, arith, ⊎_elim, inl, inr}
-use Rattle.std.specs.Prelude.{map, Bool, true, false, cond, slice_get, ◌⊎◌, ◌==◌}
+use Rattle.std.proofs.Common.{◌≡◌, ℕ, ◌+◌, ◌-◌, ◌*◌, ◌%◌, ◌<◌, ◌≤◌, List, [], ◌∷◌, ◌++◌, length, Some, refl, sym, ap, ◌∙◌, subst, arith, ⊎_elim, inl, inr}
+use Rattle.std.specs.Prelude.{map, Bool, true, false, cond, ◌⊎◌, ◌==◌}
 use Rattle.std.specs.FinMap.{get, insert}
 use Rattle.std.proofs.lemmas.Bool.{true≢false, cases_Bool, cases_eq, cond-true, cond-false, eq-eqb, ne_eqb}
 use Rattle.rv_word.specs.Plain.{Words, Plain, program_word}
-use Rattle.tramp_spec.specs.Blocks.{tail_of}
+use Rattle.tramp_spec.specs.Codes.{Code, tool_at}
 use Rattle.tramp_spec.specs.Jumps.{jump_word}
 use Rattle.tramp_spec.specs.Marks.{tool}
 use Rattle.tramp_spec.specs.declared.mark.MarkedWord.{MarkedWord}
 use Rattle.tramp_spec.proofs.Hops.{Hops, target_is, jump_hops}
-use Rattle.machine.specs.Cores.{In, Code, Row, Status, Written, Live, Core, is_live, is_current, tool_at}
-use Rattle.machine.specs.Effects.{with_status, at_set, mini_linked, lead_to}
-use Rattle.machine.specs.Events.{Apart, link_at, next_of, target_at, current_base, HasMini}
+use Rattle.machine.specs.Cores.{In, Row, Status, Written, Live, Core, is_live, is_current}
+use Rattle.machine.specs.Effects.{with_status, at_set, mini_linked}
+use Rattle.machine.specs.Events.{Apart, link_at, next_of, target_at, current_base}
 use Rattle.machine.proofs.Lists.{map_in, get_other, stands_at, get_append}
-use Rattle.machine.proofs.Invariant.{Ground, Piece, IsBase, Linked, LiveOf, base_with, BaseShape, MiniShape, ShapedAs, Shaped, Placed, Leads, HasFamily, Door, TextWord, Static, Inv}
-use Rattle.machine.proofs.Homes.{piece_of, one_block, has_len}
+use Rattle.machine.proofs.Invariant.{Ground, Piece, IsBase, Linked, LiveOf, BaseShape, MiniShape, ShapedAs, Shaped, Leads, Door, TextWord, Static, Inv}
+use Rattle.machine.proofs.Homes.{piece_of, one_block}
 use Rattle.machine.proofs.Turns.{text_low}
 use Rattle.machine.proofs.Points.{at_hit, at_miss, Current, current_piece, family_of}
 use Rattle.machine.proofs.Follow.{Kept, All, NoPiece, Nowhere, reworked}

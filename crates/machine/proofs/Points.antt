@@ -1,20 +1,20 @@
 -- LinkPoint and UnlinkPoint keep what is kept.
-use Rattle.std.proofs.Common.{◌≡◌, ℕ, ◌+◌, ◌*◌, ◌%◌, ◌<◌, ◌≤◌, List, length, Option, Some, refl, sym, ap, ◌∙◌, subst, arith, ⊎_elim, inl, inr}
-use Rattle.std.specs.Prelude.{map, Bool, true, false, slice_get, ◌⊎◌, ◌&&◌, ◌==◌}
+use Rattle.std.proofs.Common.{◌≡◌, ℕ, ◌+◌, ◌%◌, ◌≤◌, List, Some, refl, sym, ap, ◌∙◌, subst, arith, ⊎_elim, inl, inr}
+use Rattle.std.specs.Prelude.{map, Bool, true, false, ◌⊎◌, ◌&&◌, ◌==◌}
 use Rattle.std.specs.FinMap.{get, insert}
 use Rattle.std.proofs.lemmas.Bool.{true≢false, cases_Bool, cases_eq, cond-true, cond-false, eq-eqb, ne_eqb, eqb-true, and_parts, and_from, and_left, and_right}
 use Rattle.rv_word.specs.Plain.{Words, Plain, program_word}
+use Rattle.tramp_spec.specs.Codes.{Code, tool_at}
 use Rattle.tramp_spec.specs.Jumps.{jump_word}
 use Rattle.tramp_spec.specs.Marks.{own, enter}
-use Rattle.tramp_spec.specs.declared.mark.MarkedWord.{MarkedWord}
 use Rattle.tramp_spec.proofs.Hops.{Hops, jump_hops}
-use Rattle.machine.specs.Cores.{In, Code, Row, Status, Written, Live, Retired, Core, is_live, is_current, tool_at}
-use Rattle.machine.specs.Effects.{with_status, at_set, retired_at, point_linked, point_unlinked}
+use Rattle.machine.specs.Cores.{In, Row, Status, Written, Live, Retired, Core, is_live, is_current}
+use Rattle.machine.specs.Effects.{at_set, retired_at, point_linked, point_unlinked}
 use Rattle.machine.specs.Events.{is_linked, current_base}
-use Rattle.machine.proofs.Lists.{in_map, map_in, find_gives, get_same, get_other, same_some}
-use Rattle.machine.proofs.Invariant.{Ground, Piece, the_row, IsBase, Linked, Leads, HasFamily, Door, TextWord, Static, Dynamic, Inv}
+use Rattle.machine.proofs.Lists.{map_in, find_gives, get_same, get_other, same_some}
+use Rattle.machine.proofs.Invariant.{Ground, Piece, IsBase, Linked, Leads, HasFamily, Door, TextWord, Static, Inv}
 use Rattle.machine.proofs.Homes.{piece_of, one_block}
-use Rattle.machine.proofs.Turns.{InText, in_text, text_low}
+use Rattle.machine.proofs.Turns.{in_text, text_low}
 use Rattle.machine.proofs.Follow.{Kept, All, NoPiece, reworked}
 use Rattle.machine.proofs.Blocks.{shaped_other, static_kept, leads_kept, rework, door_of}
 

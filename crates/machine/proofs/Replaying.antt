@@ -1,9 +1,9 @@
 -- Lists of events in two parts.
-use Rattle.std.proofs.Common.{◌≡◌, ℕ, List, [], ◌∷◌, ◌++◌, refl, sym, ap, ◌∙◌, append_assoc}
+use Rattle.std.proofs.Common.{◌≡◌, List, [], ◌∷◌, ◌++◌, refl, sym, ap, ◌∙◌, append_assoc}
 use Rattle.machine.specs.Cores.{Core}
 use Rattle.machine.specs.Events.{Event}
 use Rattle.machine.specs.Effects.{after, owned}
-use Rattle.machine.specs.Replays.{replay, Legal, owns, GoOn}
+use Rattle.machine.specs.Replays.{replay, Legal, owns}
 use Rattle.machine.specs.Laws.{ReplaysGoOn}
 
 pub replay-append : (es others : List Event) (c : Core) → replay (es ++ others) c ≡ replay others (replay es c)

@@ -1,8 +1,8 @@
 -- From what is kept: the patched machine is the program's.
-use Rattle.std.proofs.Common.{◌≡◌, ◌≢◌, ℕ, zero, suc, ◌+◌, ◌-◌, ◌*◌, ◌/◌, ◌<◌, ◌≤◌, List, [], ◌∷◌, ◌++◌, length, Option, Some, None, refl, sym, ap, ◌∙◌, subst, arith, ⊎_elim, inl, inr}
-use Rattle.std.specs.Prelude.{Bool, true, false, cond, slice_get, ◌⊎◌, ◌&&◌, ◌||◌, ◌==◌, nat_le}
+use Rattle.std.proofs.Common.{◌≡◌, ◌≢◌, ℕ, zero, suc, ◌+◌, ◌*◌, ◌<◌, ◌≤◌, List, [], ◌∷◌, ◌++◌, length, Option, Some, None, refl, sym, ap, ◌∙◌, subst, arith, ⊎_elim, inl, inr}
+use Rattle.std.specs.Prelude.{Bool, true, false, slice_get, ◌⊎◌, ◌&&◌, ◌==◌}
 use Rattle.std.specs.FinMap.{get}
-use Rattle.std.proofs.lemmas.Bool.{true≢false, cases_Bool, cases_eq, cases_lt, cond-true, cond-false, and_left, and_right, and_from, eq-eqb, ne_eqb}
+use Rattle.std.proofs.lemmas.Bool.{true≢false, cases_eq, cases_lt, cond-true, cond-false, and_left, and_right, and_from, eq-eqb, ne_eqb}
 use Rattle.std.proofs.lemmas.Grind.{common_steps}
 use Rattle.std.proofs.lemmas.Option.{slice_get_within}
 use Rattle.rv_word.specs.Names.{jump_of}
@@ -14,18 +14,16 @@ use Rattle.rv_word.specs.declared.outcome.Cause.{Cause}
 use Rattle.rv_word.specs.declared.instr.Instr.TheVariants.{Load, Store}
 use Rattle.rv_word.specs.declared.instr.LoadOp.TheVariants.{Ld}
 use Rattle.rv_word.specs.declared.instr.StoreOp.TheVariants.{Sd}
-use Rattle.tramp_spec.specs.Banks.{saved_x5}
+use Rattle.tramp_spec.specs.Codes.{Code}
 use Rattle.tramp_spec.specs.Blocks.{tail_of, moved_at, home_by, is_saved, rebuilding}
 use Rattle.tramp_spec.specs.Bodies.{Safe}
 use Rattle.tramp_spec.specs.Harts.{Hart, bench_of}
 use Rattle.tramp_spec.specs.Marks.{own, tool, leave}
 use Rattle.tramp_spec.specs.MovedWords.{moved_of, own_place, rebuilt}
-use Rattle.tramp_spec.specs.Moves.{Agree, Moves}
-use Rattle.tramp_spec.specs.Steps.{Bench}
 use Rattle.tramp_spec.specs.declared.mark.MarkedWord.{MarkedWord}
-use Rattle.machine.specs.Cores.{In, Code, Row, Core}
-use Rattle.machine.specs.Places.{block_at, word_no, home_of, program_pc, saved_in, has_saved, rebuilding_by, rebuilding_in, rebuilding_of, seen}
-use Rattle.machine.specs.Same.{SameHart, SameProgram}
+use Rattle.machine.specs.Cores.{In, Row, Core}
+use Rattle.machine.specs.Places.{block_at, word_no, program_pc, saved_in, has_saved, rebuilding_by, rebuilding_in, rebuilding_of, seen}
+use Rattle.machine.specs.Same.{SameProgram}
 use Rattle.machine.proofs.Lists.{stands_at, get_append, get_before, same_some}
 use Rattle.machine.proofs.Invariant.{Piece, IsBase, Linked, base_with, BaseShape, MiniShape, Static, Saved, Outside, AtSave, AtSaved, MovedWord, AtMoved, AtLeave, InBase, InMini, Dynamic, Inv}
 use Rattle.machine.proofs.Homes.{block_is, home_word, home_leave}
@@ -130,7 +128,7 @@ module _ (t : Words) (budget : ℕ) (code : Code) (rows : List Row) (ps : List P
           let pc = number_of z.j z.pc in
           let l : suc (suc (suc z.j)) < (k.b).row.len = omega arith in
           let at_own : (w : MarkedWord) → slice_get m.moved z.j ≡ Some w → get code x.pc ≡ Some w =
-            λ w e. at_base k.b k.is_in k.base (suc (suc (suc z.j))) w pc (subst (λ ws. slice_get ws z.j ≡ Some w) same e) in
+          λ w e. at_base k.b k.is_in k.base (suc (suc (suc z.j))) w pc (subst (λ ws. slice_get ws z.j ≡ Some w) same e) in
           record {
             pc = ⊎_elim
                 (λ (q : z.j < own_place m.word). let si = (m.moves).silent z.j q in home_is k.b (suc (suc (suc z.j))) k.is_in k.inside pc l (tool si.0) (at_own (tool si.0) si.1) ∙ sym z.home)

@@ -1,16 +1,15 @@
 -- One event, and all of them.
-use Rattle.std.proofs.Common.{◌≡◌, ℕ, zero, suc, ◌<◌, List, [], ◌∷◌, ◌++◌, length, Option, Some, None, refl, sym, ap, ◌∙◌, subst, arith, ⊎_elim, inl, inr}
-use Rattle.std.specs.Prelude.{Bool, true, false, cond, is_none, IsTrue, slice_get, slice_set, ◌⊎◌, ◌&&◌, ◌||◌, nat_lt}
-use Rattle.std.proofs.lemmas.Bool.{true≢false, cases_Bool, cases_eq, and_parts, ltb-true}
+use Rattle.std.proofs.Common.{◌≡◌, ℕ, zero, suc, ◌<◌, List, [], ◌∷◌, length, Option, Some, None, refl, sym, ap, ◌∙◌, subst, arith, ⊎_elim, inl, inr}
+use Rattle.std.specs.Prelude.{Bool, true, false, cond, is_none, IsTrue, slice_get, slice_set, ◌⊎◌, ◌||◌, nat_lt}
+use Rattle.std.proofs.lemmas.Bool.{cases_Bool, cases_eq, and_parts, ltb-true}
 use Rattle.std.proofs.lemmas.Grind.{common_steps}
 use Rattle.rv_word.specs.Plain.{Words, PlainHart, Plain, Alone, plain, turn_of, may_go, can}
 use Rattle.rv_word.specs.Plain as plain
 use Rattle.rv_word.specs.declared.outcome.Cause.{Cause}
 use Rattle.rv_exec.specs.Run.{run_from, LegalFrom}
 use Rattle.rv_exec.proofs.Runs.{run_from-append, LegalFrom-append}
-use Rattle.tramp_spec.specs.Harts.{Hart, Solo, step_of, is_tick}
+use Rattle.tramp_spec.specs.Harts.{Hart, Solo, is_tick}
 use Rattle.machine.specs.Cores.{Core, Row}
-use Rattle.machine.specs.Places.{program_pc}
 use Rattle.machine.specs.Turns.{fetched, may_turn, turn_by, put_back, ticks_by, turn_alone}
 use Rattle.machine.specs.Events.{Event, Turn, Write, LinkMini, UnlinkMini, LinkPoint, UnlinkPoint, Free, Arm, Sample, May, current_base, HasMini}
 use Rattle.machine.specs.Effects.{after, owned, mini_linked, point_linked, point_unlinked}
@@ -18,7 +17,7 @@ use Rattle.machine.specs.Effects as effects
 use Rattle.machine.specs.Events as events
 use Rattle.machine.specs.Replays.{replay, Legal, owns}
 use Rattle.machine.proofs.Lists.{get_set_same, get_set_other, length_slice_set, same_some}
-use Rattle.machine.proofs.Invariant.{Piece, Dynamic, Inv}
+use Rattle.machine.proofs.Invariant.{Dynamic, Inv}
 use Rattle.machine.proofs.Turns.{OwesBy, turn_keeps}
 use Rattle.machine.proofs.Points.{link_point, unlink_point}
 use Rattle.machine.proofs.Minis.{link_mini}

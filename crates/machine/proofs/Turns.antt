@@ -1,18 +1,16 @@
 -- A turn of a hart keeps what is kept of it.
-use Rattle.std.proofs.Common.{◌≡◌, ◌≢◌, ℕ, zero, suc, ◌+◌, ◌-◌, ◌*◌, ◌/◌, ◌%◌, ◌^◌, ◌<◌, ◌≤◌, List, [], ◌∷◌, ◌++◌, length, Option, Some, None, Result, Ok, Err, refl, sym, ap, ◌∙◌, subst, arith, ⊎_elim, inl, inr}
-use Rattle.std.specs.Prelude.{Bool, true, false, cond, not, is_none, IsTrue, slice_get, ◌⊎◌, ◌&&◌, ◌||◌, ◌==◌, nat_le, nat_lt, unwrap_or}
+use Rattle.std.proofs.Common.{◌≡◌, ℕ, zero, suc, ◌+◌, ◌-◌, ◌*◌, ◌/◌, ◌%◌, ◌^◌, ◌<◌, ◌≤◌, List, [], ◌∷◌, ◌++◌, length, Option, Some, None, Ok, refl, sym, ap, ◌∙◌, subst, arith, ⊎_elim, inl, inr}
+use Rattle.std.specs.Prelude.{Bool, true, false, cond, not, is_none, IsTrue, slice_get, ◌⊎◌, ◌&&◌, ◌==◌, nat_le, nat_lt, unwrap_or}
 use Rattle.std.specs.FinMap.{get}
-use Rattle.std.proofs.lemmas.Bool.{true≢false, cases_Bool, cases_lt, cases_eq, cond-true, cond-false, and_from, and_parts, lt-ltb, le-leb, eq-eqb, leb-true, ltb-true, eqb-true}
+use Rattle.std.proofs.lemmas.Bool.{true≢false, cases_lt, cases_eq, cond-true, cond-false, and_from, and_parts, lt-ltb, le-leb, eq-eqb, leb-true, eqb-true}
 use Rattle.std.proofs.lemmas.Grind.{common_steps}
 use Rattle.std.proofs.lemmas.Option.{slice_get_within}
 use Rattle.pn_types.specs.declared.limits.TheConstants.{TOOL_TEXT_LEN}
-use Rattle.rv_word.specs.Memory.{in_range}
 use Rattle.rv_word.specs.Names.{has_scratch, jump_of}
 use Rattle.rv_word.specs.Registers.{reg, with_reg}
 use Rattle.rv_word.specs.Table.{decode_of}
 use Rattle.rv_word.specs.Words.{word_of}
-use Rattle.rv_word.specs.Values.{wrap}
-use Rattle.rv_word.specs.Exec.{Prog, Outcome, Stops, Goes, Done, done, exec_of, next}
+use Rattle.rv_word.specs.Exec.{Prog, Outcome, Stops, Goes, done, exec_of, next}
 use Rattle.rv_word.specs.Plain.{Words, PlainHart, Alone, program_word, may_go, after_done, hart_after}
 use Rattle.rv_word.specs.Plain as plain
 use Rattle.rv_word.specs.declared.outcome.Cause.{Cause}
@@ -20,27 +18,27 @@ use Rattle.rv_word.specs.declared.outcome.Cause.TheVariants.{FetchOutside}
 use Rattle.rv_word.specs.declared.instr.Instr.TheVariants.{Load, Store}
 use Rattle.rv_word.specs.declared.instr.LoadOp.TheVariants.{Ld}
 use Rattle.rv_word.specs.declared.instr.StoreOp.TheVariants.{Sd}
-use Rattle.tramp_spec.specs.Banks.{bank_len, saved_x5, set_bank, reach_of}
+use Rattle.tramp_spec.specs.Codes.{Code, tool_at, is_text_word, is_tool_word}
+use Rattle.tramp_spec.specs.Banks.{bank_len, saved_x5, set_bank}
 use Rattle.tramp_spec.specs.Blocks.{tail_of, moved_at}
-use Rattle.tramp_spec.specs.Bodies.{Safe, Harmless, Leap, Keeps, Stands}
-use Rattle.tramp_spec.specs.Harts.{Hart, Solo, bench_of, stopped, ticked, own_hart, own_step, other_hart, other_step, marked_step, step_of, is_tick}
-use Rattle.tramp_spec.specs.Marks.{own, enter, tool, leave, is_jump, inside_after}
+use Rattle.tramp_spec.specs.Bodies.{Safe, Harmless, Leap}
+use Rattle.tramp_spec.specs.Harts.{Hart, Solo, bench_of, stopped, ticked, own_step, other_hart, step_of, is_tick}
+use Rattle.tramp_spec.specs.Marks.{own, enter, tool, leave, is_jump}
 use Rattle.tramp_spec.specs.MovedWords.{moved_of, own_place}
-use Rattle.tramp_spec.specs.Moves.{Agree, Alike, Moves, SameStep, LeadsHome, bench}
-use Rattle.tramp_spec.specs.Steps.{Bench, Stood, stand, step_on, with_value, with_doubleword}
-use Rattle.tramp_spec.specs.declared.mark.Mark.{Mark}
-use Rattle.tramp_spec.specs.declared.mark.Mark.TheVariants.{Own, Enter, Tool, Leave}
+use Rattle.tramp_spec.specs.Moves.{Agree, SameStep, bench}
+use Rattle.tramp_spec.specs.Steps.{Bench, stand, step_on, with_value, with_doubleword}
+use Rattle.tramp_spec.specs.declared.mark.Mark.TheVariants.{Enter, Tool, Leave}
 use Rattle.tramp_spec.specs.declared.mark.MarkedWord.{MarkedWord}
 use Rattle.tramp_spec.proofs.Moving.{words_move}
 use Rattle.tramp_spec.proofs.Frame.{Same, execs}
 use Rattle.tramp_spec.proofs.Hops.{Hops, hop_steps, save_steps, restore_steps, saved_back, length_set_bank}
-use Rattle.tramp_spec.proofs.Registers.{length_with, read_back, read_but, zero_reg}
-use Rattle.machine.specs.Cores.{In, Code, Row, Written, Live, tool_at, is_live, is_current, is_text_word, is_tool_word, is_word_of}
+use Rattle.tramp_spec.proofs.Registers.{length_with, read_back, read_but}
+use Rattle.machine.specs.Cores.{In, Row, Written, Live, is_live, is_current}
 use Rattle.machine.specs.Places.{home_of, program_pc}
 use Rattle.machine.specs.Turns.{fetched}
 use Rattle.machine.proofs.Lists.{stands_at, get_append, get_before, same_some}
-use Rattle.machine.proofs.Invariant.{Ground, Piece, IsBase, Linked, base_with, BaseShape, MiniShape, Shaped, Placed, Leads, HasFamily, Door, TextWord, Static, Saved, Outside, AtSave, AtSaved, MovedWord, AtMoved, AtLeave, BasePlace, InBase, InMini, HartOk, Dynamic}
-use Rattle.machine.proofs.Homes.{has_len, one_block, home_word, home_leave}
+use Rattle.machine.proofs.Invariant.{Ground, Piece, IsBase, Linked, base_with, BaseShape, MiniShape, Leads, HasFamily, Door, Static, Saved, Outside, AtSave, AtSaved, MovedWord, AtMoved, AtLeave, BasePlace, InBase, InMini, HartOk, Dynamic}
+use Rattle.machine.proofs.Homes.{one_block, home_word}
 
 -- ---- the program's words
 
@@ -165,18 +163,18 @@ module _ (t : Words) (g : Ground t) (budget : ℕ) (code : Code) (rows : List Ro
   own_outside : (w : ℕ) → has_scratch w ≡ false → x.inside ≡ false → x.pc ≡ y.pc → Agree x.regs y.regs → x.ticks < budget → program_word t y.pc ≡ Some w → Owes (Some (own w))
   own_outside w n i e a l f =
       let same : Same (exec_of w x.pc h x.regs p) (exec_of w y.pc h y.regs p) =
-        subst (λ q. Same (exec_of w x.pc h x.regs p) (exec_of w q h y.regs p)) e (execs w x.pc h x.regs y.regs p n (record { agree = a; first = d.first; second = d.second })) in
+      subst (λ q. Same (exec_of w x.pc h x.regs p) (exec_of w q h y.regs p)) e (execs w x.pc h x.regs y.regs p n (record { agree = a; first = d.first; second = d.second })) in
       let both = own_outcome w (exec_of w x.pc h x.regs p) (exec_of w y.pc h y.regs p) i e same in
       let to : (o : Option ℕ) → Type 0 = λ o.
-        Dynamic t budget ps (own_step (done (exec_of w x.pc h x.regs p) x.regs p) w (program_pc code rows x) x).hart (after_done (done (plain.fetched o h y p) y.regs p) y).hart
-        × ((own_step (done (exec_of w x.pc h x.regs p) x.regs p) w (program_pc code rows x) x).prog ≡ (after_done (done (plain.fetched o h y p) y.regs p) y).prog) in
+      Dynamic t budget ps (own_step (done (exec_of w x.pc h x.regs p) x.regs p) w (program_pc code rows x) x).hart (after_done (done (plain.fetched o h y p) y.regs p) y).hart
+      × ((own_step (done (exec_of w x.pc h x.regs p) x.regs p) w (program_pc code rows x) x).prog ≡ (after_done (done (plain.fetched o h y p) y.regs p) y).prog) in
       let k : to (program_word t y.pc) = subst to (sym f) both in (can_go l, k.0, k.1)
 
   none_outside : x.inside ≡ false → x.pc ≡ y.pc → x.ticks < budget → program_word t y.pc ≡ None → Owes None
   none_outside i e l f =
       let to : (o : Option ℕ) → Type 0 = λ o.
-        Dynamic t budget ps (ticked (stopped x (program_pc code rows x) FetchOutside)) (after_done (done (plain.fetched o h y p) y.regs p) y).hart
-        × (p ≡ (after_done (done (plain.fetched o h y p) y.regs p) y).prog) in
+      Dynamic t budget ps (ticked (stopped x (program_pc code rows x) FetchOutside)) (after_done (done (plain.fetched o h y p) y.regs p) y).hart
+      × (p ≡ (after_done (done (plain.fetched o h y p) y.regs p) y).prog) in
       let k : to (program_word t y.pc) = subst to (sym f) (downs FetchOutside (program_pc code rows x) _ (cond-false x.inside (home_of code rows x.pc) x.pc i ∙ e) refl, refl) in (can_go l, k.0, k.1)
 
   -- ---- words that are no ticks
@@ -390,8 +388,8 @@ module _ (t : Words) (g : Ground t) (budget : ℕ) (code : Code) (rows : List Ro
       let room : nat_lt 5 (length x.regs) ≡ true = ap (nat_lt 5) d.first in
       let sv = k.saved in
       let agree : Agree (with_reg x.regs 5 v) y.regs = λ r l. ⊎_elim
-          (λ (e : r ≡ 5). ap (reg (with_reg x.regs 5 v)) e ∙ (read_back x.regs 5 v refl room ∙ (sv.saved ∙ ap (reg y.regs) (sym e))))
-          (λ (e : r ≡ 5 → ⊥). read_but x.regs 5 r v e ∙ sv.agree r l e) (cases_eq r 5) in
+      (λ (e : r ≡ 5). ap (reg (with_reg x.regs 5 v)) e ∙ (read_back x.regs 5 v refl room ∙ (sv.saved ∙ ap (reg y.regs) (sym e))))
+      (λ (e : r ≡ 5 → ⊥). read_but x.regs 5 r v e ∙ sv.agree r l e) (cases_eq r 5) in
       owes (Some (tool (word_of (Load Ld 5 0 8)))) (fetch_base b hb bs 2 (tool (word_of (Load Ld 5 0 8))) i pc (omega arith) refl)
       (tool_to (word_of (Load Ld 5 0 8)) (next x.pc) (with_value (bench_of x) 5 v) (restore_steps x.ticks x.pc (bench_of x))
       (in_base b hb bs was (record x { pc = next x.pc; regs = with_reg x.regs 5 v }) on refl size d.bank i
@@ -415,8 +413,8 @@ module _ (t : Words) (g : Ground t) (budget : ℕ) (code : Code) (rows : List Ro
       let to = moved_at b.row.at in
       let s = (m.moves).silent k.j l in
       let step : step_on bank_len s.0 x.ticks x.pc (bench_of x) ≡ Ok (stand (to + 4 * (k.j + 1)) (bench ((m.moves).before (k.j + 1) k.regs) x.bank)) =
-        subst (λ pc. step_on bank_len s.0 x.ticks pc (bench_of x) ≡ Ok (stand (to + 4 * (k.j + 1)) (bench ((m.moves).before (k.j + 1) k.regs) x.bank))) (sym k.pc)
-        (subst (λ rs. step_on bank_len s.0 x.ticks (to + 4 * k.j) (bench rs x.bank) ≡ Ok (stand (to + 4 * (k.j + 1)) (bench ((m.moves).before (k.j + 1) k.regs) x.bank))) (sym k.is) (s.2 k.regs x.bank x.ticks k.size)) in
+      subst (λ pc. step_on bank_len s.0 x.ticks pc (bench_of x) ≡ Ok (stand (to + 4 * (k.j + 1)) (bench ((m.moves).before (k.j + 1) k.regs) x.bank))) (sym k.pc)
+      (subst (λ rs. step_on bank_len s.0 x.ticks (to + 4 * k.j) (bench rs x.bank) ≡ Ok (stand (to + 4 * (k.j + 1)) (bench ((m.moves).before (k.j + 1) k.regs) x.bank))) (sym k.is) (s.2 k.regs x.bank x.ticks k.size)) in
       let up : k.j + 1 ≤ own_place m.word = omega arith in
       owes (Some (tool s.0)) (fetch_moved b hb bs m k.j (tool s.0) i k.pc s.1).0
       (tool_to s.0 (to + 4 * (k.j + 1)) (bench ((m.moves).before (k.j + 1) k.regs) x.bank) step
@@ -467,14 +465,14 @@ module _ (t : Words) (g : Ground t) (budget : ℕ) (code : Code) (rows : List Ro
       let home : program_pc code rows x ≡ y.pc = cond-true x.inside (home_of code rows x.pc) x.pc i ∙ (home_word t code rows ps clock st b x.pc (own w) hb at f.2 f.1 ∙ sym k.home) in
       let same0 = tk.3 k.regs y.regs h p (record { agree = k.agree; first = k.size; second = d.second }) in
       let same1 : SameStep (is_jump m.word) (own_place m.word) to m.moved (exec_of w x.pc h x.regs p) (exec_of m.word y.pc h y.regs p) =
-        subst (λ a. SameStep (is_jump m.word) (own_place m.word) to m.moved (exec_of w a h x.regs p) (exec_of m.word y.pc h y.regs p)) (sym pc)
-        (subst (λ rs. SameStep (is_jump m.word) (own_place m.word) to m.moved (exec_of w (to + 4 * own_place m.word) h rs p) (exec_of m.word y.pc h y.regs p)) (sym is)
-        (subst (λ a. SameStep (is_jump m.word) (own_place m.word) to m.moved (exec_of w (to + 4 * own_place m.word) h ((m.moves).before (own_place m.word) k.regs) p) (exec_of m.word a h y.regs p)) (sym k.home) same0)) in
+      subst (λ a. SameStep (is_jump m.word) (own_place m.word) to m.moved (exec_of w a h x.regs p) (exec_of m.word y.pc h y.regs p)) (sym pc)
+      (subst (λ rs. SameStep (is_jump m.word) (own_place m.word) to m.moved (exec_of w (to + 4 * own_place m.word) h rs p) (exec_of m.word y.pc h y.regs p)) (sym is)
+      (subst (λ a. SameStep (is_jump m.word) (own_place m.word) to m.moved (exec_of w (to + 4 * own_place m.word) h ((m.moves).before (own_place m.word) k.regs) p) (exec_of m.word a h y.regs p)) (sym k.home) same0)) in
       let both = tick_outcome b hb bs was i m w (is_jump m.word) (exec_of w x.pc h x.regs p) (exec_of m.word y.pc h y.regs p) home tk.2 same1 in
       let here : program_word t y.pc ≡ Some m.word = ap (program_word t) k.home ∙ m.here in
       let to' : (o : Option ℕ) → Type 0 = λ o.
-        Dynamic t budget ps (own_step (done (exec_of w x.pc h x.regs p) x.regs p) w (program_pc code rows x) x).hart (after_done (done (plain.fetched o h y p) y.regs p) y).hart
-        × ((own_step (done (exec_of w x.pc h x.regs p) x.regs p) w (program_pc code rows x) x).prog ≡ (after_done (done (plain.fetched o h y p) y.regs p) y).prog) in
+      Dynamic t budget ps (own_step (done (exec_of w x.pc h x.regs p) x.regs p) w (program_pc code rows x) x).hart (after_done (done (plain.fetched o h y p) y.regs p) y).hart
+      × ((own_step (done (exec_of w x.pc h x.regs p) x.regs p) w (program_pc code rows x) x).prog ≡ (after_done (done (plain.fetched o h y p) y.regs p) y).prog) in
       let r : to' (program_word t y.pc) = subst to' (sym here) both in
       owes (Some (own w)) f.0 (can_go k.before, r.0, r.1)
 
@@ -488,9 +486,9 @@ module _ (t : Words) (g : Ground t) (budget : ℕ) (code : Code) (rows : List Ro
       let home : l.1 ≡ y.pc = same_some (jump_of (decode_of k.left) (to + 4 * k.j)) l.1 y.pc (subst (λ w. jump_of (decode_of w) (to + 4 * k.j) ≡ Some l.1) word l.3) k.home in
       let step0 = l.4 (bench_of x) x.ticks in
       let step : step_on 0 k.left x.ticks x.pc (bench_of x) ≡ Ok (stand y.pc (bench_of x)) =
-        subst (λ a. step_on 0 k.left x.ticks a (bench_of x) ≡ Ok (stand y.pc (bench_of x))) (sym k.pc)
-        (subst (λ w. step_on 0 w x.ticks (to + 4 * k.j) (bench_of x) ≡ Ok (stand y.pc (bench_of x))) word
-        (subst (λ a. step_on 0 l.0 x.ticks (to + 4 * k.j) (bench_of x) ≡ Ok (stand a (bench_of x))) home step0)) in
+      subst (λ a. step_on 0 k.left x.ticks a (bench_of x) ≡ Ok (stand y.pc (bench_of x))) (sym k.pc)
+      (subst (λ w. step_on 0 w x.ticks (to + 4 * k.j) (bench_of x) ≡ Ok (stand y.pc (bench_of x))) word
+      (subst (λ a. step_on 0 l.0 x.ticks (to + 4 * k.j) (bench_of x) ≡ Ok (stand a (bench_of x))) home step0)) in
       owes (Some (leave k.left)) (fetch_moved b hb bs m k.j (leave k.left) i k.pc k.stands).0
       (leave_to k.left y.pc (bench_of x) step
       (record {
@@ -539,7 +537,7 @@ module _ (t : Words) (g : Ground t) (budget : ℕ) (code : Code) (rows : List Ro
           let ke = l.keeps in
           let sv = k.saved in
           let step : step_on bank_len l.word x.ticks x.pc (bench_of x) ≡ Ok (stand ((k.m).row.at + 4 * j) z) =
-            subst (λ a. step_on bank_len l.word x.ticks a (bench_of x) ≡ Ok (stand ((k.m).row.at + 4 * j) z)) (sym k.pc) l.step in
+          subst (λ a. step_on bank_len l.word x.ticks a (bench_of x) ≡ Ok (stand ((k.m).row.at + 4 * j) z)) (sym k.pc) l.step in
           owes (Some (tool l.word)) (here k.i (tool l.word) refl (omega arith) (get_before (k.m).body (tool shape.jump ∷ []) k.i (tool l.word) l.here))
           (tool_to l.word ((k.m).row.at + 4 * j) z step
           (record {

@@ -1,17 +1,18 @@
 -- UnlinkMini keeps what is kept.
-use Rattle.std.proofs.Common.{◌≡◌, ℕ, zero, suc, ◌+◌, ◌*◌, ◌%◌, ◌<◌, ◌≤◌, List, Option, Some, refl, sym, ap, ◌∙◌, subst, arith, ⊎_elim, inl, inr, length}
-use Rattle.std.specs.Prelude.{map, Bool, true, false, cond, slice_get, ◌⊎◌, ◌&&◌, ◌==◌}
-use Rattle.std.specs.FinMap.{get, insert}
+use Rattle.std.proofs.Common.{◌≡◌, ℕ, zero, suc, ◌+◌, ◌%◌, ◌<◌, ◌≤◌, List, Some, refl, sym, ap, ◌∙◌, subst, arith, ⊎_elim, inl, inr}
+use Rattle.std.specs.Prelude.{map, Bool, true, false, cond, ◌⊎◌, ◌&&◌, ◌==◌}
+use Rattle.std.specs.FinMap.{insert}
 use Rattle.std.proofs.lemmas.Bool.{true≢false, cases_eq, cases_order, cond-true, cond-false, eq-eqb, ne_eqb, eqb-true, and_parts, and_from}
-use Rattle.rv_word.specs.Plain.{Plain, program_word}
+use Rattle.rv_word.specs.Plain.{Plain}
+use Rattle.tramp_spec.specs.Codes.{Code, tool_at}
 use Rattle.tramp_spec.specs.Blocks.{tail_of}
 use Rattle.tramp_spec.specs.Jumps.{jump_word}
 use Rattle.tramp_spec.specs.Marks.{tool}
 use Rattle.tramp_spec.proofs.Hops.{Hops}
-use Rattle.machine.specs.Cores.{In, Code, Row, Status, Written, Live, Retired, Core, is_live, is_current, tool_at}
+use Rattle.machine.specs.Cores.{In, Row, Status, Written, Live, Retired, Core, is_live, is_current}
 use Rattle.machine.specs.Effects.{with_status, at_set, mini_unlinked}
 use Rattle.machine.specs.Events.{Apart, is_linked, link_at, next_of, before, row_at}
-use Rattle.machine.proofs.Lists.{map_in, find_gives, find_finds, get_other}
+use Rattle.machine.proofs.Lists.{find_gives, find_finds}
 use Rattle.machine.proofs.Invariant.{Piece, the_row, IsBase, Linked, LiveOf, BaseShape, MiniShape, Leads, Static, Inv}
 use Rattle.machine.proofs.Homes.{piece_of, one_block, has_len, row_in}
 use Rattle.machine.proofs.Points.{live_true, at_hit, at_miss, family_of}
@@ -340,7 +341,7 @@ module _ (c : Core) (s : Plain) (v : Inv c s) (m : ℕ) (r : Row) (hr : In r c.r
       let k = unlinks in
       let q = k.4 in
       let is : Kept All NoPiece (at_set m Retired) Nowhere v.ps c (mini_unlinked (Some k.0) (Some k.1) m c) s =
-        subst (λ (u : Row). Kept All NoPiece (at_set m Retired) Nowhere v.ps c (mini_unlinked (Some u) (Some k.1) m c) s) (sym q.2)
-        (subst (λ w. Kept All NoPiece (at_set m Retired) Nowhere v.ps c (record c { code = insert c.code (link_at (q.0).row) (tool (jump_word (link_at (q.0).row) w)); rows = map (with_status (at_set m Retired)) c.rows }) s) (sym k.5) (kept q.0 q.1 q.3 q.4)) in
+      subst (λ (u : Row). Kept All NoPiece (at_set m Retired) Nowhere v.ps c (mini_unlinked (Some u) (Some k.1) m c) s) (sym q.2)
+      (subst (λ w. Kept All NoPiece (at_set m Retired) Nowhere v.ps c (record c { code = insert c.code (link_at (q.0).row) (tool (jump_word (link_at (q.0).row) w)); rows = map (with_status (at_set m Retired)) c.rows }) s) (sym k.5) (kept q.0 q.1 q.3 q.4)) in
       subst (λ o. Kept All NoPiece (at_set m Retired) Nowhere v.ps c (mini_unlinked o (row_at c.rows m) m c) s) (sym k.2)
       (subst (λ o. Kept All NoPiece (at_set m Retired) Nowhere v.ps c (mini_unlinked (Some k.0) o m c) s) (sym k.3) is)

@@ -1,25 +1,20 @@
 -- What the events make of the patched machine. All that isn't named stays.
-use Rattle.std.specs.Prelude.{ℕ, ◌+◌, ◌==◌, ◌&&◌, not, if◌then◌else◌, Bool, true, false, Option, Some, None, List, [], ◌∷◌, ◌++◌, map, filter, length}
+use Rattle.std.specs.Prelude.{ℕ, ◌==◌, ◌&&◌, not, if◌then◌else◌, Bool, Option, Some, None, List, [], ◌∷◌, ◌++◌, map, filter, length}
 use Rattle.std.specs.FinMap.{insert}
 use Rattle.pn_types.specs.declared.placed.Placed.{Placed}
 use Rattle.rv_word.specs.Plain.{program_word}
+use Rattle.tramp_spec.specs.Codes.{Code, put_words}
 use Rattle.tramp_spec.specs.Marks.{own, enter, tool}
 use Rattle.tramp_spec.specs.Jumps.{jump_word}
 use Rattle.tramp_spec.specs.Slots.{places_of, set_places}
 use Rattle.tramp_spec.specs.Harts.{Hart}
 use Rattle.tramp_spec.specs.declared.block.Block.{Block}
-use Rattle.tramp_spec.specs.declared.mark.MarkedWord.{MarkedWord}
-use Rattle.machine.specs.Cores.{Status, Written, Live, Retired, Row, Core, Code, is_current}
+use Rattle.machine.specs.Cores.{Status, Written, Live, Retired, Row, Core, is_current}
 use Rattle.machine.specs.Turns.{turn, ticks_next}
 use Rattle.machine.specs.Events.{Event, Turn, Write, LinkMini, UnlinkMini, LinkPoint, UnlinkPoint, Free, Arm, Sample, current_base, row_at, link_at, next_of, is_linked, before}
 use Rattle.machine.specs.Openings.{opening_now}
 
 -- ---- words and blocks
-
--- the words from an address on
-abbrev pub put_words : ℕ → List MarkedWord → Code → Code
-put_words at [] code = code
-put_words at (w ∷ ws) code = put_words (at + 4) ws (insert code at w)
 
 -- the word that leads from a block to the next leads to an address
 abbrev pub lead_to : Row → ℕ → Code → Code

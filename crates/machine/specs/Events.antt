@@ -7,13 +7,14 @@ use Rattle.pn_types.specs.declared.placed.PlacedSite.{PlacedSite}
 use Rattle.rv_word.specs.Names.{jump_of}
 use Rattle.rv_word.specs.Plain.{program_word}
 use Rattle.rv_word.specs.Table.{decode_of}
+use Rattle.tramp_spec.specs.Codes.{Code, tool_at}
 use Rattle.tramp_spec.specs.Marks.{own, enter}
 use Rattle.tramp_spec.specs.Jumps.{jump_word}
 use Rattle.tramp_spec.specs.Blocks.{IsBase, IsMini, tail_of, target_or}
 use Rattle.tramp_spec.specs.Harts.{Hart}
 use Rattle.tramp_spec.specs.declared.block.Block.{Block}
 use Rattle.tramp_spec.specs.declared.mark.MarkedWord.{MarkedWord}
-use Rattle.machine.specs.Cores.{In, Status, Written, Live, Retired, Row, Core, Code, is_current, is_live, tool_at}
+use Rattle.machine.specs.Cores.{In, Status, Written, Live, Retired, Row, Core, is_current, is_live}
 use Rattle.machine.specs.Places.{holds}
 use Rattle.machine.specs.Turns.{is_runnable}
 

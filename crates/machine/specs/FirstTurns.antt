@@ -1,17 +1,17 @@
 -- Thirteen turns of three words, `addi a0, a0, 1`, `li a7, 93` and `ecall`, where a mini block at the first one counts on slot 2.
-use Rattle.std.specs.Prelude.{◌≡◌, ℕ, true, false, Some, None, List, [], ◌∷◌, replicate, map, slice_get, slice_index}
-use Rattle.std.specs.Option.{option_map}
+use Rattle.std.specs.Prelude.{◌≡◌, ℕ, true, false, Some, None, List, [], ◌∷◌, replicate, map, slice_index}
 use Rattle.pn_types.specs.declared.plan.Act.TheVariants.{Up}
 use Rattle.rv_word.specs.Exec.{prog_of}
 use Rattle.rv_word.specs.Memory.{memory_of}
 use Rattle.rv_word.specs.Plain.{Words}
 use Rattle.rv_word.specs.Registers.{reg, with_reg}
 use Rattle.rv_word.specs.declared.outcome.Cause.TheVariants.{Exit}
+use Rattle.tramp_spec.specs.Codes.{text_code}
 use Rattle.tramp_spec.specs.Marks.{own, leave}
 use Rattle.tramp_spec.specs.Blocks.{base_words, mini_words}
 use Rattle.tramp_spec.specs.Statements.{body_of}
 use Rattle.tramp_spec.specs.declared.block.Block.{Block}
-use Rattle.machine.specs.Cores.{Core, text_code}
+use Rattle.machine.specs.Cores.{Core}
 use Rattle.machine.specs.Events.{Event, Turn, Write, LinkMini, LinkPoint}
 use Rattle.machine.specs.Replays.{replay, owns}
 

@@ -1,10 +1,11 @@
 -- Instruments in the patched machine: what one carries, when it is in force, and its readings.
-use Rattle.std.specs.Prelude.{◌≡◌, ℕ, ◌+◌, ◌-◌, ◌*◌, ◌⊎◌, true, false, Option, Some, None, List, [], ◌∷◌, ◌++◌, length, map, take, slice_get, zero, suc, unwrap_or}
+use Rattle.std.specs.Prelude.{◌≡◌, ℕ, ◌+◌, ◌-◌, ◌⊎◌, true, false, List, [], ◌∷◌, ◌++◌, length, take, zero, suc, unwrap_or}
 use Rattle.std.specs.FinMap.{get}
 use Rattle.pn_types.specs.declared.placed.Placed.{Placed}
 use Rattle.pn_types.specs.declared.placed.PlacedSite.{PlacedSite}
 use Rattle.pn_types.specs.declared.plan.Plan.{Plan}
 use Rattle.pn_types.specs.declared.plan.Site.{Site}
+use Rattle.tramp_spec.specs.Codes.{Code}
 use Rattle.tramp_spec.specs.Marks.{tool}
 use Rattle.tramp_spec.specs.Bodies.{LeavesSlot}
 use Rattle.tramp_spec.specs.Harts.{Hart}
@@ -12,9 +13,8 @@ use Rattle.tramp_spec.specs.Slots.{places_of, reading_of, IsSlotOf, ArePlaces, S
 use Rattle.tramp_spec.specs.Statements.{body_of}
 use Rattle.tramp_spec.specs.declared.block.Block.{Block}
 use Rattle.tramp_spec.specs.declared.mark.MarkedWord.{MarkedWord}
-use Rattle.machine.specs.Cores.{In, Row, Core, Code}
+use Rattle.machine.specs.Cores.{In, Row, Core}
 use Rattle.machine.specs.Events.{Event, Turn, Write, LinkMini, UnlinkMini, LinkPoint, UnlinkPoint, Free, Arm, Sample}
-use Rattle.machine.specs.Effects.{after}
 use Rattle.machine.specs.Replays.{replay}
 
 -- ---- readings

@@ -1,14 +1,15 @@
 -- Where a hart stands among the blocks.
-use Rattle.std.specs.Prelude.{ℕ, ◌-◌, ◌*◌, ◌/◌, ◌==◌, ◌&&◌, if◌then◌else◌, Bool, true, false, Option, Some, None, List, find}
+use Rattle.std.specs.Prelude.{ℕ, ◌-◌, ◌*◌, ◌/◌, ◌==◌, ◌&&◌, if◌then◌else◌, Bool, false, Option, Some, None, List, find}
 use Rattle.std.specs.FinMap.{get}
 use Rattle.rv_word.specs.Memory.{in_range}
 use Rattle.rv_word.specs.Plain.{Words, program_word}
 use Rattle.rv_word.specs.Registers.{reg}
+use Rattle.tramp_spec.specs.Codes.{Code}
 use Rattle.tramp_spec.specs.Banks.{saved_x5}
 use Rattle.tramp_spec.specs.Blocks.{is_saved, rebuilding, home_by}
 use Rattle.tramp_spec.specs.Harts.{Hart}
 use Rattle.tramp_spec.specs.declared.mark.MarkedWord.{MarkedWord}
-use Rattle.machine.specs.Cores.{Code, Row, Core}
+use Rattle.machine.specs.Cores.{Row}
 
 -- an address is in a block
 abbrev pub holds : Row → ℕ → Bool

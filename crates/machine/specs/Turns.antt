@@ -1,19 +1,15 @@
 -- A turn of a hart of the patched machine.
-use Rattle.std.specs.Prelude.{ℕ, ◌&&◌, ◌||◌, nat_lt, if◌then◌else◌, Bool, false, Option, Some, None, is_none, List, slice_get, slice_set, unwrap_or}
-use Rattle.std.specs.FinMap.{get}
+use Rattle.std.specs.Prelude.{ℕ, ◌&&◌, ◌||◌, nat_lt, Bool, false, Option, Some, None, is_none, slice_get, slice_set}
 use Rattle.rv_word.specs.Plain.{Words}
-use Rattle.tramp_spec.specs.Marks.{tool}
+use Rattle.tramp_spec.specs.Codes.{Code, fetched_at}
 use Rattle.tramp_spec.specs.Harts.{Hart, Solo, step_of, is_tick}
 use Rattle.tramp_spec.specs.declared.mark.MarkedWord.{MarkedWord}
-use Rattle.machine.specs.Cores.{Code, Core, is_text_word, is_tool_word}
+use Rattle.machine.specs.Cores.{Core}
 use Rattle.machine.specs.Places.{program_pc}
 
--- What a hart fetches: inside, a word of the tool text, and one that was never written is 0; outside, a word of the text; and
--- else none.
+-- what a hart fetches
 abbrev pub fetched : Words → Code → Hart → Option MarkedWord
-fetched program code x =
-    if x.inside then (if is_tool_word program x.pc then Some (unwrap_or (get code x.pc) (tool 0)) else None)
-    else if is_text_word program x.pc then get code x.pc else None
+fetched program code x = fetched_at program code x.pc x.inside
 
 -- the hart isn't stopped, and is inside or has fewer ticks than the budget
 abbrev pub may_turn : Option Hart → ℕ → Bool

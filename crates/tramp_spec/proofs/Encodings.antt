@@ -1,18 +1,15 @@
 -- The words of the tool's instructions are read as these instructions.
-use Rattle.std.proofs.Common.{◌≡◌, ℕ, ◌+◌, ◌-◌, ◌*◌, ◌/◌, ◌%◌, ◌^◌, ◌<◌, Some, refl, ap, ◌∙◌, arith}
+use Rattle.std.proofs.Common.{◌≡◌, ℕ, ◌+◌, ◌*◌, ◌/◌, ◌%◌, ◌^◌, ◌<◌, Some, refl, arith}
 use Rattle.std.proofs.lemmas.Grind.{common_steps}
 use Rattle.rv_word.specs.Fields.{extended}
 use Rattle.rv_word.specs.Table.{decode_of}
-use Rattle.rv_word.specs.Words.{word_of, HasWord, IsExtended, IsJump}
+use Rattle.rv_word.specs.Words.{word_of, IsExtended, IsJump}
 use Rattle.tramp_spec.specs.Jumps.{distance, jump_word}
-use Rattle.rv_word.specs.declared.instr.Instr.{Instr}
-use Rattle.rv_word.specs.declared.instr.Instr.TheVariants.{Lui, Addiw, Jal, Jalr, Branch, Load, Store, OpImm, Op}
+use Rattle.rv_word.specs.declared.instr.Instr.TheVariants.{Lui, Addiw, Jal, Branch, Load, Store, OpImm}
 use Rattle.rv_word.specs.declared.instr.LoadOp.TheVariants.{Ld}
 use Rattle.rv_word.specs.declared.instr.StoreOp.TheVariants.{Sd}
 use Rattle.rv_word.specs.declared.instr.ImmOp.TheVariants.{Addi}
-use Rattle.rv_word.specs.declared.instr.RegOp.TheVariants.{Add, Sub}
-use Rattle.rv_word.specs.declared.instr.BranchOp.{BranchOp}
-use Rattle.rv_word.specs.declared.instr.BranchOp.TheVariants.{Beq, Bne, Blt, Bge, Bltu, Bgeu}
+use Rattle.rv_word.specs.declared.instr.BranchOp.TheVariants.{Beq, Bgeu}
 
 pub jal_reads : (d : ℕ) → IsJump 21 d → decode_of (word_of (Jal 0 d)) ≡ Some (Jal 0 d)
 unfolding decode_of

@@ -1,6 +1,6 @@
 -- A word that doesn't name x31 does the same with registers that agree below it.
-use Rattle.std.proofs.Common.{◌≡◌, ◌≢◌, ℕ, ◌<◌, ◌%◌, List, length, Option, Some, None, Result, Ok, Err, refl, ap, sym, ◌∙◌, subst, arith, Bool, true, false, cond}
-use Rattle.std.specs.Prelude.{◌==◌, ◌||◌, min, slice_set}
+use Rattle.std.proofs.Common.{◌≡◌, ◌≢◌, ℕ, ◌%◌, List, Option, Some, None, Result, Ok, Err, refl, ap, sym, ◌∙◌, subst, arith, Bool, true, false, cond}
+use Rattle.std.specs.Prelude.{◌==◌, ◌||◌, min}
 use Rattle.std.specs.Option.{option_map_or}
 use Rattle.std.proofs.lemmas.Grind.{common_steps}
 use Rattle.rv_word.specs.Memory.{load, store, bytes_at}
@@ -8,16 +8,14 @@ use Rattle.rv_word.specs.Registers.{reg, with_reg}
 use Rattle.rv_word.specs.Names.{names, has_scratch}
 use Rattle.rv_word.specs.Table.{decode_of}
 use Rattle.rv_word.specs.Values.{load_len, loaded, atomic_len, left_by, answered}
-use Rattle.rv_word.specs.Exec.{Prog, Outcome, Stops, Goes, first_operand, second_operand, action, asked, or_stop, next, jump_to, reserve, conditional, amo, atomic, perform, written, written_is, system_call, exec_instr, exec_decoded, exec_of, has, set_mem, broken, answers, minus}
+use Rattle.rv_word.specs.Exec.{Prog, Outcome, Stops, Goes, first_operand, second_operand, action, asked, or_stop, next, jump_to, conditional, atomic, perform, written, written_is, system_call, exec_instr, exec_decoded, exec_of, answers, minus}
 use Rattle.rv_word.specs.declared.outcome.MemStop.{MemStop}
-use Rattle.rv_word.specs.declared.outcome.Cause.TheVariants.{Exit, Illegal, Misaligned, TextAccess}
-use Rattle.rv_word.specs.declared.instr.AmoOp.{AmoOp}
+use Rattle.rv_word.specs.declared.outcome.Cause.TheVariants.{Exit, Misaligned}
 use Rattle.rv_word.specs.declared.instr.AtomicWidth.{AtomicWidth}
 use Rattle.rv_word.specs.declared.instr.Instr.{Instr}
-use Rattle.rv_word.specs.declared.instr.Instr.TheVariants.{Lui, Auipc, Jal, Jalr, Branch, Load, Store, OpImm, ShiftImm, Addiw, ShiftImm32, Op, Op32, Fence, Ecall, Ebreak, Lr, Sc, Amo}
 use Rattle.rv_word.specs.declared.action.Action.{Action}
 use Rattle.rv_word.specs.declared.action.Action.TheVariants.{Compute, Jump, BranchTo, ReadMemory, WriteMemory, LoadReserved, StoreConditional, AtomicAccess, SystemCall, Proceed, Halt}
-use Rattle.tramp_spec.specs.Moves.{Agree, Alike}
+use Rattle.tramp_spec.specs.Moves.{Alike}
 use Rattle.tramp_spec.proofs.Registers.{length_with, agree_with, agree_but}
 
 pub alike_with : (a b : List ℕ) (r v : ℕ) → Alike a b → Alike (with_reg a r v) (with_reg b r v)
@@ -131,6 +129,7 @@ performs h x pc a b p s = by (is_straight x) refl
     turned SystemCall e = absurd cc
     turned Proceed e = absurd cc
     turned (Halt c) e = absurd cc
+
     by : (t : Bool) → is_straight x ≡ t → Same (perform h x pc a p) (perform h x pc b p)
     by true e = straight (λ s t. s ≡ t) pc pc refl h x a b p e s
     by false e = turned x e

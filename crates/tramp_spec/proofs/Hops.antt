@@ -1,25 +1,22 @@
 -- Jumps of the tool, and the words of a base block that save x5 and restore it.
-use Rattle.std.proofs.Common.{◌≡◌, ◌≢◌, ℕ, ◌+◌, ◌-◌, ◌*◌, ◌/◌, ◌%◌, ◌^◌, ◌<◌, ◌≤◌, List, length, Option, Some, None, Result, Ok, Err, refl, ap, sym, ◌∙◌, subst, arith, Bool, true, false, cond}
-use Rattle.std.specs.Prelude.{◌==◌, nat_le, ◌&&◌, slice_index, slice_set, nat_lt}
-use Rattle.std.proofs.lemmas.Bool.{cond-true, cond-false, eq-eqb, and_parts, leb-true}
+use Rattle.std.proofs.Common.{◌≡◌, ℕ, ◌+◌, ◌%◌, ◌^◌, ◌<◌, ◌≤◌, List, length, Some, Ok, Err, refl, ap, ◌∙◌, arith, true}
+use Rattle.std.specs.Prelude.{◌==◌, nat_le}
+use Rattle.std.proofs.lemmas.Bool.{cond-true, eq-eqb, and_parts, leb-true}
 use Rattle.std.proofs.lemmas.Grind.{common_steps}
-use Rattle.rv_word.specs.Fields.{extended}
 use Rattle.rv_word.specs.Names.{jump_of}
-use Rattle.rv_word.specs.Registers.{reg, with_reg}
+use Rattle.rv_word.specs.Registers.{reg}
 use Rattle.rv_word.specs.Table.{decode_of}
 use Rattle.rv_word.specs.Words.{word_of, IsJump}
 use Rattle.rv_word.specs.Exec.{action, next}
-use Rattle.rv_word.specs.declared.outcome.Cause.{Cause}
 use Rattle.rv_word.specs.declared.outcome.Cause.TheVariants.{Misaligned}
-use Rattle.rv_word.specs.declared.instr.Instr.{Instr}
 use Rattle.rv_word.specs.declared.instr.Instr.TheVariants.{Jal, Load, Store}
 use Rattle.rv_word.specs.declared.instr.LoadOp.TheVariants.{Ld}
 use Rattle.rv_word.specs.declared.instr.StoreOp.TheVariants.{Sd}
-use Rattle.tramp_spec.specs.Banks.{bank_len, bank_at, set_bank, is_in_bank, saved_x5}
+use Rattle.tramp_spec.specs.Banks.{bank_len, set_bank, is_in_bank, saved_x5}
 use Rattle.tramp_spec.specs.Jumps.{distance, reaches, jump_word}
-use Rattle.tramp_spec.specs.Steps.{Bench, Stood, stand, leads_to, perform_on, step_on, step_decoded, with_value, with_doubleword}
+use Rattle.tramp_spec.specs.Steps.{Bench, stand, leads_to, perform_on, step_on, step_decoded, with_value, with_doubleword}
 use Rattle.tramp_spec.proofs.Encodings.{jal_reads}
-use Rattle.tramp_spec.proofs.Registers.{zero_reg, with_zero}
+use Rattle.tramp_spec.proofs.Registers.{with_zero}
 
 -- the word at `from` is a jump that keeps no address and leads to `to`
 pub record Hops (from to word : ℕ) : Type 0 where

@@ -1,34 +1,32 @@
 -- Each word that can be moved does at its new place what it does at its own.
-use Rattle.std.proofs.Common.{◌≡◌, ◌≢◌, ℕ, zero, suc, ◌+◌, ◌-◌, ◌*◌, ◌/◌, ◌%◌, ◌^◌, ◌<◌, ◌≤◌, List, [], ◌∷◌, ◌++◌, length, Option, Some, None, Result, Ok, Err, refl, ap, sym, ◌∙◌, subst, arith, ⊎_elim, inl, inr}
-use Rattle.std.specs.Prelude.{◌==◌, ◌||◌, ◌&&◌, nat_lt, nat_le, Bool, true, false, cond, slice_get, ◌⊎◌}
+use Rattle.std.proofs.Common.{◌≡◌, ◌≢◌, ℕ, zero, suc, ◌+◌, ◌*◌, ◌/◌, ◌%◌, ◌^◌, ◌<◌, ◌≤◌, List, [], ◌∷◌, length, Option, Some, None, Ok, refl, ap, sym, ◌∙◌, subst, arith, ⊎_elim, inl, inr}
+use Rattle.std.specs.Prelude.{◌==◌, ◌&&◌, nat_lt, Bool, true, false, cond, slice_get}
 use Rattle.std.specs.Option.{option_map_or}
-use Rattle.std.proofs.lemmas.Bool.{true≢false, cond-true, cond-false, cases_Bool, cases_eq, eqb-true, lt-ltb, eq-eqb, ne_eqb, and_parts, ltb-true}
+use Rattle.std.proofs.lemmas.Bool.{cond-true, cases_Bool, cases_eq, eqb-true, lt-ltb, eq-eqb, and_parts, ltb-true}
 use Rattle.std.proofs.lemmas.Grind.{common_steps}
 use Rattle.rv_word.specs.Fields.{extended, i_imm_of, rd_of, rs1_of, funct3_of, opcode_of}
 use Rattle.rv_word.specs.Registers.{reg, with_reg}
-use Rattle.rv_word.specs.Names.{names, has_scratch, jump_of}
+use Rattle.rv_word.specs.Names.{names, jump_of}
 use Rattle.rv_word.specs.Table.{decode_of, read_by, row, opcodes, jalr_of}
-use Rattle.rv_word.specs.Words.{word_of, IsExtended, IsJump}
+use Rattle.rv_word.specs.Words.{word_of, IsExtended}
 use Rattle.rv_word.specs.Values.{wrap, low_word, taken}
-use Rattle.rv_word.specs.Exec.{Prog, Outcome, Stops, Goes, action, asked, next, jump_to, perform, exec_instr, exec_decoded, exec_of}
+use Rattle.rv_word.specs.Exec.{Prog, Outcome, Stops, Goes, action, asked, next, jump_to, perform, exec_decoded, exec_of}
 use Rattle.rv_word.specs.declared.outcome.Cause.TheVariants.{Misaligned}
 use Rattle.rv_word.specs.declared.instr.BranchOp.{BranchOp}
 use Rattle.rv_word.specs.declared.instr.ImmOp.TheVariants.{Addi}
 use Rattle.rv_word.specs.declared.instr.Instr.{Instr}
 use Rattle.rv_word.specs.declared.instr.Instr.TheVariants.{Lui, Auipc, Jal, Jalr, Branch, Load, Store, OpImm, ShiftImm, Addiw, ShiftImm32, Op, Op32, Fence, Ecall, Ebreak, Lr, Sc, Amo}
-use Rattle.rv_word.specs.declared.action.Action.{Action}
-use Rattle.rv_word.specs.declared.action.Action.TheVariants.{Compute, Jump, BranchTo}
 use Rattle.tramp_spec.specs.Banks.{bank_len}
-use Rattle.tramp_spec.specs.Jumps.{distance, reaches, jump_word, upper, lower, put_number, is_signed_word}
+use Rattle.tramp_spec.specs.Jumps.{reaches, jump_word, upper, lower, is_signed_word}
 use Rattle.tramp_spec.specs.Marks.{own, tool, leave, jumps, is_jump}
 use Rattle.tramp_spec.specs.MovedWords.{moved_auipc, moved_jump, moved_jal, moved_jalr, moved_branch, moved_plain, moved_decoded, moved_of, is_target, own_place, own_place_decoded, rebuilt, rebuilt_decoded, between}
-use Rattle.tramp_spec.specs.Moves.{Agree, Alike, LeadsHome, SameStep, MovesBy, Moves, WordsMove, bench}
-use Rattle.tramp_spec.specs.Steps.{Bench, Stood, stand, step_on, step_decoded, perform_on, with_value}
+use Rattle.tramp_spec.specs.Moves.{Agree, Alike, LeadsHome, SameStep, MovesBy, WordsMove, bench}
+use Rattle.tramp_spec.specs.Steps.{Bench, stand, step_on, step_decoded, perform_on, with_value}
 use Rattle.tramp_spec.specs.declared.mark.MarkedWord.{MarkedWord}
 use Rattle.tramp_spec.proofs.Encodings.{lui_reads, addiw_reads, addi_reads}
-use Rattle.tramp_spec.proofs.Frame.{SameOutcome, is_straight, straight, asks_same, alike_with}
+use Rattle.tramp_spec.proofs.Frame.{SameOutcome, is_straight, straight, asks_same}
 use Rattle.tramp_spec.proofs.Hops.{Hops, target_is, hop_steps, jump_hops, reached}
-use Rattle.tramp_spec.proofs.Registers.{length_with, read_back, read_other, read_but, agree_but, agree_31, with_zero}
+use Rattle.tramp_spec.proofs.Registers.{length_with, read_back, read_but, agree_but, agree_31, with_zero}
 
 -- ---- numbers in two words
 
@@ -106,6 +104,7 @@ rewritten a b r u x v la lb h e q l = ⊎_elim zeros nonzero (cases_Bool (r == 0
         let k : r ≡ 0 = eqb-true r 0 z in
         subst (λ i. reg (with_reg (with_reg a i u) i x) q ≡ reg (with_reg b i v) q) (sym k)
         (ap (λ c. reg c q) (with_zero (with_reg a 0 u) x) ∙ (ap (λ c. reg c q) (with_zero a u) ∙ (h q l ∙ ap (λ c. reg c q) (sym (with_zero b v)))))
+
     same : (r == 0) ≡ false → q ≡ r → reg (with_reg (with_reg a r u) r x) q ≡ reg (with_reg b r v) q
     same z i =
         let size : length (with_reg a r u) ≡ 32 = length_with a r u ∙ la in
@@ -113,8 +112,10 @@ rewritten a b r u x v la lb h e q l = ⊎_elim zeros nonzero (cases_Bool (r == 0
         let low' : nat_lt r (length b) ≡ true = lt-ltb r _ (omega arith) in
         ap (λ k. reg (with_reg (with_reg a r u) r x) k) i
         ∙ (read_back (with_reg a r u) r x z low ∙ (e z ∙ (sym (read_back b r v z low') ∙ ap (λ k. reg (with_reg b r v) k) (sym i))))
+
     other : (q ≡ r → ⊥) → reg (with_reg (with_reg a r u) r x) q ≡ reg (with_reg b r v) q
     other n = read_but (with_reg a r u) r q x n ∙ (read_but a r q u n ∙ (h q l ∙ sym (read_but b r q v n)))
+
     nonzero : (r == 0) ≡ false → reg (with_reg (with_reg a r u) r x) q ≡ reg (with_reg b r v) q
     nonzero z = ⊎_elim (same z) other (cases_eq q r)
 
@@ -231,10 +232,10 @@ module _ (point to : ℕ) (pa : point % 4 ≡ 0) (ta : to % 4 ≡ 0) (lo : point
     plain_one i r e n same on j = plain_by r (ap jumps e ∙ j) (λ regs others h p s.
         let R = LeadsHome false 0 to (moved_plain word point to) in
         let k : SameOutcome R (perform h (asked i point others) (to + 4 * 0) regs p) (perform h (asked i point others) point others p) =
-            straight R (to + 4 * 0) point plain_next h (asked i point others) regs others p (on point _ _) s in
+        straight R (to + 4 * 0) point plain_next h (asked i point others) regs others p (on point _ _) s in
         let q : asked i (to + 4 * 0) regs ≡ asked i point others = same (to + 4 * 0) point _ _ ∙ asks_same i point regs others n s in
         let k' : SameOutcome R (exec_decoded (Some i) (to + 4 * 0) h regs p) (exec_decoded (Some i) point h others p) =
-            subst (λ a. SameOutcome R (perform h a (to + 4 * 0) regs p) (perform h (asked i point others) point others p)) (sym q) k in
+        subst (λ a. SameOutcome R (perform h a (to + 4 * 0) regs p) (perform h (asked i point others) point others p)) (sym q) k in
         subst (λ o. SameOutcome R (exec_decoded o (to + 4 * 0) h regs p) (exec_decoded o point h others p)) (sym e) k')
 
     -- a word that is no instruction
@@ -259,9 +260,12 @@ module _ (point to : ℕ) (pa : point % 4 ≡ 0) (ta : to % 4 ≡ 0) (lo : point
     auipc_silent : (j : ℕ) → j < 1 → (w : ℕ) × (slice_get auipc_words j ≡ Some (tool w))
         × ((regs bank : List ℕ) (ticks : ℕ) → length regs ≡ 32 → step_on bank_len w ticks (to + 4 * j) (bench (auipc_before j regs) bank) ≡ Ok (stand (to + 4 * (j + 1)) (bench (auipc_before (j + 1) regs) bank)))
     auipc_silent zero l =
-        let n : next (to + 4 * 0) ≡ to + 4 * (0 + 1) = omega arith in
-        (word_of (Lui rd (upper (wrap (point + imm)))), refl, λ regs bank ticks size.
-            lui_steps rd (wrap (point + imm)) ticks (to + 4 * 0) (bench regs bank) (auipc_low word rd imm e) ∙ ap (λ a. Ok (stand a (bench (with_reg regs rd (upper (wrap (point + imm)))) bank))) n)
+        let n : next (to + 4 * 0) ≡ to + 4 * (0 + 1) = omega arith in (
+          word_of (Lui rd (upper (wrap (point + imm)))),
+          refl,
+          λ regs bank ticks size.
+              lui_steps rd (wrap (point + imm)) ticks (to + 4 * 0) (bench regs bank) (auipc_low word rd imm e) ∙ ap (λ a. Ok (stand a (bench (with_reg regs rd (upper (wrap (point + imm)))) bank))) n,
+        )
     auipc_silent (suc j) l = absurd (omega arith)
 
     auipc_like : (j k : ℕ) (regs : List ℕ) → j ≤ 1 → 0 < k → k < 31 → between 0 1 j rd ≢ Some k → reg (auipc_before j regs) k ≡ reg regs k
@@ -288,12 +292,12 @@ module _ (point to : ℕ) (pa : point % 4 ≡ 0) (ta : to % 4 ≡ 0) (lo : point
         let l = lower (wrap (point + imm)) in
         let low = auipc_low word rd imm e in
         let is : (rd == 0) ≡ false → low_word (reg (with_reg regs rd u) rd + l) ≡ wrap (point + imm) = λ z.
-            ap (λ a. low_word (a + l)) (read_back regs rd u z (grind (arith, common_steps))) ∙ parts (wrap (point + imm)) fits in
+        ap (λ a. low_word (a + l)) (read_back regs rd u z (grind (arith, common_steps))) ∙ parts (wrap (point + imm)) fits in
         let a : Alike (with_reg (with_reg regs rd u) rd (low_word (reg (with_reg regs rd u) rd + l))) (with_reg others rd (wrap (point + imm))) = record {
-            agree = rewritten regs others rd u (low_word (reg (with_reg regs rd u) rd + l)) (wrap (point + imm)) s.first s.second s.agree is;
-            first = length_with (with_reg regs rd u) rd _ ∙ (length_with regs rd u ∙ s.first);
-            second = length_with others rd _ ∙ s.second;
-          } in
+          agree = rewritten regs others rd u (low_word (reg (with_reg regs rd u) rd + l)) (wrap (point + imm)) s.first s.second s.agree is;
+          first = length_with (with_reg regs rd u) rd _ ∙ (length_with regs rd u ∙ s.first);
+          second = length_with others rd _ ∙ s.second;
+        } in
         let k : SameStep false 1 to auipc_words (exec_decoded (Some (Addiw rd rd l)) (to + 4 * 1) h (with_reg regs rd u) p) (exec_decoded (Some (Auipc rd imm)) point h others p) = (refl, a, auipc_lands) in
         subst (λ o. SameStep false 1 to auipc_words (exec_decoded o (to + 4 * 1) h (with_reg regs rd u) p) (exec_decoded (decode_of word) point h others p)) (sym (addiw_reads rd rd l low low (lower_fits (wrap (point + imm)))))
         (subst (λ o. SameStep false 1 to auipc_words (exec_decoded (Some (Addiw rd rd l)) (to + 4 * 1) h (with_reg regs rd u) p) (exec_decoded o point h others p)) (sym e) k)
@@ -330,13 +334,18 @@ module _ (point to : ℕ) (pa : point % 4 ≡ 0) (ta : to % 4 ≡ 0) (lo : point
           size = λ j regs l. refl;
           silent = λ j l. absurd (omega arith);
           like = λ j k regs l m n d. refl;
-          tick = (w, refl, ap jumps k.is, λ regs others h p s.
-              let x = hop_execs w (to + 4 * 0) (wrap (point + offset)) h regs p k t.1 in
-              let y = jal_program others h p t.1 in
-              let o : with_reg others rd (next point) ≡ others = ap (λ q. with_reg others q (next point)) z ∙ with_zero others (next point) in
-              let same : SameStep true 0 to (moved_jump (wrap (point + offset)) to) (Goes (wrap (point + offset)) regs p) (Goes (wrap (point + offset)) others p) = (refl, s, inl (refl, refl)) in
-              subst (λ a. SameStep true 0 to (moved_jump (wrap (point + offset)) to) a (exec_of word point h others p)) (sym x)
-              (subst (λ b. SameStep true 0 to (moved_jump (wrap (point + offset)) to) (Goes (wrap (point + offset)) regs p) b) (sym (y ∙ ap (λ rs. Goes (wrap (point + offset)) rs p) o)) same));
+          tick = (
+            w,
+            refl,
+            ap jumps k.is,
+            λ regs others h p s.
+                let x = hop_execs w (to + 4 * 0) (wrap (point + offset)) h regs p k t.1 in
+                let y = jal_program others h p t.1 in
+                let o : with_reg others rd (next point) ≡ others = ap (λ q. with_reg others q (next point)) z ∙ with_zero others (next point) in
+                let same : SameStep true 0 to (moved_jump (wrap (point + offset)) to) (Goes (wrap (point + offset)) regs p) (Goes (wrap (point + offset)) others p) = (refl, s, inl (refl, refl)) in
+                subst (λ a. SameStep true 0 to (moved_jump (wrap (point + offset)) to) a (exec_of word point h others p)) (sym x)
+                (subst (λ b. SameStep true 0 to (moved_jump (wrap (point + offset)) to) (Goes (wrap (point + offset)) regs p) b) (sym (y ∙ ap (λ rs. Goes (wrap (point + offset)) rs p) o)) same),
+          );
           leaves = λ j l m. absurd (omega arith);
         }
 
@@ -360,14 +369,20 @@ module _ (point to : ℕ) (pa : point % 4 ≡ 0) (ta : to % 4 ≡ 0) (lo : point
     jal_silent : (rd == 0) ≡ false → (j : ℕ) → j < 2 → (w : ℕ) × (slice_get jal_words j ≡ Some (tool w))
         × ((regs bank : List ℕ) (ticks : ℕ) → length regs ≡ 32 → step_on bank_len w ticks (to + 4 * j) (bench (jal_before j regs) bank) ≡ Ok (stand (to + 4 * (j + 1)) (bench (jal_before (j + 1) regs) bank)))
     jal_silent z zero l =
-        let n : next (to + 4 * 0) ≡ to + 4 * (0 + 1) = omega arith in
-        (word_of (Lui rd (upper (point + 4))), refl, λ regs bank ticks size.
-            lui_steps rd (point + 4) ticks (to + 4 * 0) (bench regs bank) (jal_low word rd offset e) ∙ ap (λ a. Ok (stand a (bench (with_reg regs rd (upper (point + 4))) bank))) n)
+        let n : next (to + 4 * 0) ≡ to + 4 * (0 + 1) = omega arith in (
+          word_of (Lui rd (upper (point + 4))),
+          refl,
+          λ regs bank ticks size.
+              lui_steps rd (point + 4) ticks (to + 4 * 0) (bench regs bank) (jal_low word rd offset e) ∙ ap (λ a. Ok (stand a (bench (with_reg regs rd (upper (point + 4))) bank))) n,
+        )
     jal_silent z (suc zero) l =
-        let n : next (to + 4 * 1) ≡ to + 4 * (1 + 1) = omega arith in
-        (word_of (Addiw rd rd (lower (point + 4))), refl, λ regs bank ticks size.
-            addiw_steps rd (point + 4) ticks (to + 4 * 1) (bench regs bank) (jal_low word rd offset e) z size point_fits
-            ∙ ap (λ a. Ok (stand a (bench (with_reg (with_reg regs rd (upper (point + 4))) rd (point + 4)) bank))) n)
+        let n : next (to + 4 * 1) ≡ to + 4 * (1 + 1) = omega arith in (
+          word_of (Addiw rd rd (lower (point + 4))),
+          refl,
+          λ regs bank ticks size.
+              addiw_steps rd (point + 4) ticks (to + 4 * 1) (bench regs bank) (jal_low word rd offset e) z size point_fits
+              ∙ ap (λ a. Ok (stand a (bench (with_reg (with_reg regs rd (upper (point + 4))) rd (point + 4)) bank))) n,
+        )
     jal_silent z (suc (suc j)) l = absurd (omega arith)
 
     jal_like : (j k : ℕ) (regs : List ℕ) → j ≤ 2 → 0 < k → k < 31 → between 0 2 j rd ≢ Some k → reg (jal_before j regs) k ≡ reg regs k
@@ -388,18 +403,23 @@ module _ (point to : ℕ) (pa : point % 4 ≡ 0) (ta : to % 4 ≡ 0) (lo : point
           size = jal_size;
           silent = jal_silent z;
           like = jal_like;
-          tick = (w, refl, ap jumps (t.0).is, λ regs others h p s.
-              let u = upper (point + 4) in
-              let x = hop_execs w (to + 4 * 2) (wrap (point + offset)) h (jal_before 2 regs) p t.0 t.1 in
-              let y = jal_program others h p t.1 in
-              let a : Alike (with_reg (with_reg regs rd u) rd (point + 4)) (with_reg others rd (next point)) = record {
+          tick = (
+            w,
+            refl,
+            ap jumps (t.0).is,
+            λ regs others h p s.
+                let u = upper (point + 4) in
+                let x = hop_execs w (to + 4 * 2) (wrap (point + offset)) h (jal_before 2 regs) p t.0 t.1 in
+                let y = jal_program others h p t.1 in
+                let a : Alike (with_reg (with_reg regs rd u) rd (point + 4)) (with_reg others rd (next point)) = record {
                   agree = rewritten regs others rd u (point + 4) (next point) s.first s.second s.agree (λ q. sym next_point);
                   first = length_with (with_reg regs rd u) rd _ ∙ (length_with regs rd u ∙ s.first);
                   second = length_with others rd _ ∙ s.second;
                 } in
-              let same : SameStep true 2 to jal_words (Goes (wrap (point + offset)) (jal_before 2 regs) p) (Goes (wrap (point + offset)) (with_reg others rd (next point)) p) = (refl, a, inl (refl, refl)) in
-              subst (λ a. SameStep true 2 to jal_words a (exec_of word point h others p)) (sym x)
-              (subst (λ b. SameStep true 2 to jal_words (Goes (wrap (point + offset)) (jal_before 2 regs) p) b) (sym y) same));
+                let same : SameStep true 2 to jal_words (Goes (wrap (point + offset)) (jal_before 2 regs) p) (Goes (wrap (point + offset)) (with_reg others rd (next point)) p) = (refl, a, inl (refl, refl)) in
+                subst (λ a. SameStep true 2 to jal_words a (exec_of word point h others p)) (sym x)
+                (subst (λ b. SameStep true 2 to jal_words (Goes (wrap (point + offset)) (jal_before 2 regs) p) b) (sym y) same),
+          );
           leaves = λ j l m. absurd (omega arith);
         }
 
@@ -436,16 +456,21 @@ module _ (point to : ℕ) (pa : point % 4 ≡ 0) (ta : to % 4 ≡ 0) (lo : point
           size = λ j regs l. refl;
           silent = λ j l. absurd (omega arith);
           like = λ j k regs l m o d. refl;
-          tick = (word, refl, ap jumps e, λ regs others h p s.
-              let o : (rs : List ℕ) (at : ℕ) → with_reg rs rd (next at) ≡ rs = λ rs at. ap (λ q. with_reg rs q (next at)) z ∙ with_zero rs (next at) in
-              let t : wrap (reg regs rs1 + offset) / 2 * 2 ≡ wrap (reg others rs1 + offset) / 2 * 2 = ap (λ a. wrap (a + offset) / 2 * 2) (agree_but regs others rs1 s.first s.second s.agree source_other) in
-              let x : exec_of word (to + 4 * 0) h regs p ≡ jump_to (wrap (reg others rs1 + offset) / 2 * 2) regs p =
-                  jalr_program (to + 4 * 0) h regs p ∙ (ap (λ rs. jump_to (wrap (reg regs rs1 + offset) / 2 * 2) rs p) (o regs (to + 4 * 0)) ∙ ap (λ a. jump_to a regs p) t) in
-              let y : exec_of word point h others p ≡ jump_to (wrap (reg others rs1 + offset) / 2 * 2) others p =
-                  jalr_program point h others p ∙ ap (λ rs. jump_to (wrap (reg others rs1 + offset) / 2 * 2) rs p) (o others point) in
-              subst (λ a. SameStep true 0 to (own word ∷ []) a (exec_of word point h others p)) (sym x)
-              (subst (λ b. SameStep true 0 to (own word ∷ []) (jump_to (wrap (reg others rs1 + offset) / 2 * 2) regs p) b) (sym y)
-              (lands 0 (own word ∷ []) (wrap (reg others rs1 + offset) / 2 * 2) regs others p s)));
+          tick = (
+            word,
+            refl,
+            ap jumps e,
+            λ regs others h p s.
+                let o : (rs : List ℕ) (at : ℕ) → with_reg rs rd (next at) ≡ rs = λ rs at. ap (λ q. with_reg rs q (next at)) z ∙ with_zero rs (next at) in
+                let t : wrap (reg regs rs1 + offset) / 2 * 2 ≡ wrap (reg others rs1 + offset) / 2 * 2 = ap (λ a. wrap (a + offset) / 2 * 2) (agree_but regs others rs1 s.first s.second s.agree source_other) in
+                let x : exec_of word (to + 4 * 0) h regs p ≡ jump_to (wrap (reg others rs1 + offset) / 2 * 2) regs p =
+                jalr_program (to + 4 * 0) h regs p ∙ (ap (λ rs. jump_to (wrap (reg regs rs1 + offset) / 2 * 2) rs p) (o regs (to + 4 * 0)) ∙ ap (λ a. jump_to a regs p) t) in
+                let y : exec_of word point h others p ≡ jump_to (wrap (reg others rs1 + offset) / 2 * 2) others p =
+                jalr_program point h others p ∙ ap (λ rs. jump_to (wrap (reg others rs1 + offset) / 2 * 2) rs p) (o others point) in
+                subst (λ a. SameStep true 0 to (own word ∷ []) a (exec_of word point h others p)) (sym x)
+                (subst (λ b. SameStep true 0 to (own word ∷ []) (jump_to (wrap (reg others rs1 + offset) / 2 * 2) regs p) b) (sym y)
+                (lands 0 (own word ∷ []) (wrap (reg others rs1 + offset) / 2 * 2) regs others p s)),
+          );
           leaves = λ j l m. absurd (omega arith);
         }
 
@@ -479,19 +504,28 @@ module _ (point to : ℕ) (pa : point % 4 ≡ 0) (ta : to % 4 ≡ 0) (lo : point
     jalr_silent narrow z zero l =
         let k : next (to + 4 * 0) ≡ to + 4 * (0 + 1) = omega arith in
         let low = jalr_parts word rd rs1 offset e in
-        let fits : IsExtended 12 offset = subst (IsExtended 12) (sym (jalr_is word rd rs1 offset e)) (jalr_offset word narrow) in
-        (word_of (OpImm Addi 31 rs1 offset), refl, λ regs bank ticks size.
-            addi_steps 31 rs1 offset ticks (to + 4 * 0) (bench regs bank) (omega arith) low.1 fits ∙ ap (λ a. Ok (stand a (bench (jalr_first regs) bank))) k)
+        let fits : IsExtended 12 offset = subst (IsExtended 12) (sym (jalr_is word rd rs1 offset e)) (jalr_offset word narrow) in (
+          word_of (OpImm Addi 31 rs1 offset),
+          refl,
+          λ regs bank ticks size.
+              addi_steps 31 rs1 offset ticks (to + 4 * 0) (bench regs bank) (omega arith) low.1 fits ∙ ap (λ a. Ok (stand a (bench (jalr_first regs) bank))) k,
+        )
     jalr_silent narrow z (suc zero) l =
-        let k : next (to + 4 * 1) ≡ to + 4 * (1 + 1) = omega arith in
-        (word_of (Lui rd (upper (point + 4))), refl, λ regs bank ticks size.
-            lui_steps rd (point + 4) ticks (to + 4 * 1) (bench (jalr_first regs) bank) (jalr_parts word rd rs1 offset e).0
-            ∙ ap (λ a. Ok (stand a (bench (with_reg (jalr_first regs) rd (upper (point + 4))) bank))) k)
+        let k : next (to + 4 * 1) ≡ to + 4 * (1 + 1) = omega arith in (
+          word_of (Lui rd (upper (point + 4))),
+          refl,
+          λ regs bank ticks size.
+              lui_steps rd (point + 4) ticks (to + 4 * 1) (bench (jalr_first regs) bank) (jalr_parts word rd rs1 offset e).0
+              ∙ ap (λ a. Ok (stand a (bench (with_reg (jalr_first regs) rd (upper (point + 4))) bank))) k,
+        )
     jalr_silent narrow z (suc (suc zero)) l =
-        let k : next (to + 4 * 2) ≡ to + 4 * (2 + 1) = omega arith in
-        (word_of (Addiw rd rd (lower (point + 4))), refl, λ regs bank ticks size.
-            addiw_steps rd (point + 4) ticks (to + 4 * 2) (bench (jalr_first regs) bank) (jalr_parts word rd rs1 offset e).0 z (first_size regs ∙ size) link_fits
-            ∙ ap (λ a. Ok (stand a (bench (with_reg (with_reg (jalr_first regs) rd (upper (point + 4))) rd (point + 4)) bank))) k)
+        let k : next (to + 4 * 2) ≡ to + 4 * (2 + 1) = omega arith in (
+          word_of (Addiw rd rd (lower (point + 4))),
+          refl,
+          λ regs bank ticks size.
+              addiw_steps rd (point + 4) ticks (to + 4 * 2) (bench (jalr_first regs) bank) (jalr_parts word rd rs1 offset e).0 z (first_size regs ∙ size) link_fits
+              ∙ ap (λ a. Ok (stand a (bench (with_reg (with_reg (jalr_first regs) rd (upper (point + 4))) rd (point + 4)) bank))) k,
+        )
     jalr_silent narrow z (suc (suc (suc j))) l = absurd (omega arith)
 
     jalr_like : (j k : ℕ) (regs : List ℕ) → j ≤ 3 → 0 < k → k < 31 → between 1 3 j rd ≢ Some k → reg (jalr_before j regs) k ≡ reg regs k
@@ -514,16 +548,16 @@ module _ (point to : ℕ) (pa : point % 4 ≡ 0) (ta : to % 4 ≡ 0) (lo : point
         let u = upper (point + 4) in
         let v = wrap (reg regs rs1 + offset) in
         let stays : reg (jalr_before 3 regs) 31 ≡ v =
-            read_but (with_reg (jalr_first regs) rd u) rd 31 (point + 4) (λ i. link_other (sym i))
-            ∙ (read_but (jalr_first regs) rd 31 u (λ i. link_other (sym i)) ∙ read_back regs 31 v refl (grind (arith, common_steps, s.first))) in
+        read_but (with_reg (jalr_first regs) rd u) rd 31 (point + 4) (λ i. link_other (sym i))
+        ∙ (read_but (jalr_first regs) rd 31 u (λ i. link_other (sym i)) ∙ read_back regs 31 v refl (grind (arith, common_steps, s.first))) in
         let once : wrap (v + 0) ≡ v = omega arith in
         let t : wrap (reg (jalr_before 3 regs) 31 + 0) / 2 * 2 ≡ wrap (reg others rs1 + offset) / 2 * 2 =
-            ap (λ a. wrap (a + 0) / 2 * 2) stays ∙ (ap (λ a. a / 2 * 2) once ∙ ap (λ a. wrap (a + offset) / 2 * 2) (agree_but regs others rs1 s.first s.second s.agree source_other)) in
+        ap (λ a. wrap (a + 0) / 2 * 2) stays ∙ (ap (λ a. a / 2 * 2) once ∙ ap (λ a. wrap (a + offset) / 2 * 2) (agree_but regs others rs1 s.first s.second s.agree source_other)) in
         let a : Alike (jalr_before 3 regs) (with_reg others rd (next point)) = record {
-            agree = rewritten (jalr_first regs) others rd u (point + 4) (next point) (first_size regs ∙ s.first) s.second (agree_31 regs others v s.agree) (λ q. sym next_point);
-            first = jalr_size 3 regs (omega arith) ∙ s.first;
-            second = length_with others rd _ ∙ s.second;
-          } in
+          agree = rewritten (jalr_first regs) others rd u (point + 4) (next point) (first_size regs ∙ s.first) s.second (agree_31 regs others v s.agree) (λ q. sym next_point);
+          first = jalr_size 3 regs (omega arith) ∙ s.first;
+          second = length_with others rd _ ∙ s.second;
+        } in
         let d = wrap (reg others rs1 + offset) / 2 * 2 in
         subst (λ x. SameStep true 3 to jalr_words x (exec_of word point h others p)) (sym (jump_31 (to + 4 * 3) h (jalr_before 3 regs) p ∙ ap (λ k. jump_to k (jalr_before 3 regs) p) t))
         (subst (λ x. SameStep true 3 to jalr_words (jump_to d (jalr_before 3 regs) p) x) (sym (jalr_program point h others p)) (lands 3 jalr_words d (jalr_before 3 regs) (with_reg others rd (next point)) p a))
@@ -568,7 +602,7 @@ module _ (point to : ℕ) (pa : point % 4 ≡ 0) (ta : to % 4 ≡ 0) (lo : point
         let there : wrap (to + 4 * 0 + 8) ≡ to + 4 * 2 = omega arith in
         let al : wrap (to + 4 * 0 + 8) % 4 ≡ 0 = omega arith in
         let same : SameStep false 0 to branch_words (Goes (wrap (to + 4 * 0 + 8)) regs p) (Goes (wrap (point + offset)) others p) =
-            (refl, s, inr (refl, 2, jump_word (to + 8) (wrap (point + offset)), omega arith, omega arith, there, refl, target_is (to + 4 * 2) (wrap (point + offset)) (jump_word (to + 8) (wrap (point + offset))) to_target.0)) in
+        (refl, s, inr (refl, 2, jump_word (to + 8) (wrap (point + offset)), omega arith, omega arith, there, refl, target_is (to + 4 * 2) (wrap (point + offset)) (jump_word (to + 8) (wrap (point + offset))) to_target.0)) in
         subst (λ x. SameStep false 0 to branch_words x (jump_to (wrap (point + offset)) others p)) (sym (jump_lands (wrap (to + 4 * 0 + 8)) regs p al))
         (subst (λ x. SameStep false 0 to branch_words (Goes (wrap (to + 4 * 0 + 8)) regs p) x) (sym (jump_lands (wrap (point + offset)) others p to_target.1)) same)
     branch_by false regs others p s =
@@ -586,9 +620,9 @@ module _ (point to : ℕ) (pa : point % 4 ≡ 0) (ta : to % 4 ≡ 0) (lo : point
         let one : rs1 ≢ 31 = grind (arith, common_steps) in
         let two : rs2 ≢ 31 = grind (arith, common_steps) in
         let t : taken op (reg regs rs1) (reg regs rs2) ≡ taken op (reg others rs1) (reg others rs2) =
-            ap (λ a. taken op a (reg regs rs2)) (agree_but regs others rs1 s.first s.second s.agree one) ∙ ap (λ b. taken op (reg others rs1) b) (agree_but regs others rs2 s.first s.second s.agree two) in
+        ap (λ a. taken op a (reg regs rs2)) (agree_but regs others rs1 s.first s.second s.agree one) ∙ ap (λ b. taken op (reg others rs1) b) (agree_but regs others rs2 s.first s.second s.agree two) in
         let x = ap (λ o. exec_decoded o (to + 4 * 0) h regs p) (branch_reads op rs1 rs2 low.0 low.1)
-            ∙ (branch_execs 8 (to + 4 * 0) h regs p ∙ ap (λ b. branches b (to + 4 * 0) (wrap (to + 4 * 0 + 8)) regs p) t) in
+        ∙ (branch_execs 8 (to + 4 * 0) h regs p ∙ ap (λ b. branches b (to + 4 * 0) (wrap (to + 4 * 0 + 8)) regs p) t) in
         let y = ap (λ o. exec_decoded o point h others p) e ∙ branch_execs offset point h others p in
         subst (λ a. SameStep false 0 to branch_words a (exec_of word point h others p)) (sym x)
         (subst (λ b. SameStep false 0 to branch_words (branches (taken op (reg others rs1) (reg others rs2)) (to + 4 * 0) (wrap (to + 4 * 0 + 8)) regs p) b) (sym y)

@@ -1,6 +1,6 @@
 -- Registers that are read behind a write. Premises compute at numerals, so that `simp registers` needs no more than the length.
 use Rattle.std.proofs.Common.{◌≡◌, ◌≢◌, ℕ, ◌<◌, List, length, get_or, set, refl, ap, sym, arith, ◌∙◌, ⊎_elim}
-use Rattle.std.specs.Prelude.{◌==◌, nat_lt, true, false, ◌⊎◌}
+use Rattle.std.specs.Prelude.{◌==◌, nat_lt, true, false}
 use Rattle.std.proofs.lemmas.Bool.{cond-false, ltb-true, ne_eqb, cases_lt}
 use Rattle.std.proofs.lemmas.Grind.{common_steps}
 use Rattle.std.proofs.lemmas.List.{get_or-set_same}

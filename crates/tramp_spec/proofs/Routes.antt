@@ -1,13 +1,13 @@
 -- Runs of a body from one word to another, and how they are put together.
-use Rattle.std.proofs.Common.{◌≡◌, ◌≢◌, ℕ, zero, suc, ◌+◌, ◌-◌, ◌*◌, ◌/◌, ◌%◌, ◌^◌, ◌<◌, ◌≤◌, List, [], ◌∷◌, ◌++◌, length, Option, Some, None, Result, Ok, Err, refl, sym, ap, ◌∙◌, subst, arith, inl, inr, length-append, ⊎_elim}
-use Rattle.std.specs.Prelude.{slice_get, slice_index, ◌⊎◌}
+use Rattle.std.proofs.Common.{◌≡◌, ℕ, zero, suc, ◌+◌, ◌-◌, ◌*◌, ◌/◌, ◌≤◌, List, [], ◌∷◌, ◌++◌, length, Some, Ok, refl, sym, ap, ◌∙◌, subst, arith, inl, inr, length-append}
+use Rattle.std.specs.Prelude.{slice_get}
 use Rattle.std.proofs.lemmas.Option.{slice_get_past}
-use Rattle.rv_word.specs.Registers.{reg, arguments_of}
+use Rattle.rv_word.specs.Registers.{arguments_of}
 use Rattle.tramp_spec.specs.Banks.{bank_len}
 use Rattle.tramp_spec.specs.Marks.{tool}
-use Rattle.tramp_spec.specs.Steps.{Bench, Stood, stand, step_on}
-use Rattle.tramp_spec.specs.Bodies.{Keeps, Leap, Safe, Stands, Harmless, LeavesSlot, finish, finished, at_word, if_stood}
-use Rattle.tramp_spec.specs.Routes.{Path, Route, Effect, Does, Guards, BodiesGoOn}
+use Rattle.tramp_spec.specs.Steps.{Bench, stand, step_on}
+use Rattle.tramp_spec.specs.Bodies.{Keeps, Leap, Safe, Stands, Harmless, finish, finished, at_word, if_stood}
+use Rattle.tramp_spec.specs.Routes.{Path, Route, Effect, Does}
 use Rattle.tramp_spec.specs.declared.mark.MarkedWord.{MarkedWord}
 
 pub keeps_all : (x : Bench) → Keeps x x

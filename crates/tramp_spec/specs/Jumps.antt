@@ -1,6 +1,6 @@
 -- Numbers and jumps in words.
-use Rattle.std.specs.Prelude.{ℕ, ◌+◌, ◌-◌, ◌*◌, ◌/◌, ◌%◌, ◌^◌, ◌==◌, ◌&&◌, nat_le, nat_lt, Bool, List, [], ◌∷◌}
-use Rattle.rv_word.specs.Fields.{extended}
+use Rattle.std.specs.Prelude.{ℕ, ◌+◌, ◌-◌, ◌*◌, ◌/◌, ◌%◌, ◌^◌, ◌==◌, ◌&&◌, nat_le, Bool, List, [], ◌∷◌}
+use Rattle.rv_word.specs.Values.{low_word}
 use Rattle.rv_word.specs.Words.{word_of}
 use Rattle.rv_word.specs.declared.instr.Instr.{Instr}
 use Rattle.rv_word.specs.declared.instr.Instr.TheVariants.{Lui, Addiw, Jal}
@@ -22,14 +22,14 @@ abbrev pub rounded : ℕ → ℕ
 rounded n = (n + 2048) / 4096 * 4096
 
 abbrev pub upper : ℕ → ℕ
-upper n = extended 32 (rounded n % 2 ^ 32)
+upper n = low_word (rounded n)
 
 abbrev pub lower : ℕ → ℕ
 lower n = (n + 2 ^ 64 - rounded n) % 2 ^ 64
 
 -- a number of 32 bits with its sign, as 64 bits
 abbrev pub is_signed_word : ℕ → Bool
-is_signed_word n = extended 32 (n % 2 ^ 32) == n
+is_signed_word n = low_word n == n
 
 -- lui and addiw, which put such a number into register r
 abbrev pub put_number : ℕ → ℕ → List Instr

@@ -5,6 +5,7 @@ pub mod Harts
 pub mod Jumps
 pub mod MovedWords
 pub mod Blocks
+pub mod Codes
 pub mod Bodies
 pub mod Routes
 pub mod Values

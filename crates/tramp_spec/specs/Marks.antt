@@ -2,7 +2,7 @@
 use Rattle.std.specs.Prelude.{ℕ, ◌&&◌, not, Bool, true, false, Option, Some, None}
 use Rattle.rv_word.specs.Table.{decode_of}
 use Rattle.rv_word.specs.declared.instr.Instr.{Instr}
-use Rattle.rv_word.specs.declared.instr.Instr.TheVariants.{Lui, Auipc, Jal, Jalr, Branch, Load, Store, OpImm, ShiftImm, Addiw, ShiftImm32, Op, Op32, Fence, Ecall, Ebreak, Lr, Sc, Amo}
+use Rattle.rv_word.specs.declared.instr.Instr.TheVariants.{Jal, Jalr}
 use Rattle.tramp_spec.specs.declared.mark.Mark.{Mark}
 use Rattle.tramp_spec.specs.declared.mark.Mark.TheVariants.{Own, Enter, Tool, Leave}
 use Rattle.tramp_spec.specs.declared.mark.MarkedWord.{MarkedWord}

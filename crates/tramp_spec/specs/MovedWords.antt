@@ -1,15 +1,16 @@
 -- The words that do at another place what a word of the program does at its own: those of the word at p, from the address
 -- `to` on. One of them is a tick.
-use Rattle.std.specs.Prelude.{ℕ, ◌+◌, ◌%◌, ◌^◌, ◌==◌, ◌&&◌, nat_le, nat_lt, if◌then◌else◌, Bool, true, false, Option, Some, None, List, [], ◌∷◌, ◌++◌, map}
+use Rattle.std.specs.Prelude.{ℕ, ◌+◌, ◌%◌, ◌^◌, ◌==◌, ◌&&◌, nat_le, nat_lt, if◌then◌else◌, Bool, Option, Some, None, List, [], ◌∷◌, ◌++◌, map, take}
 use Rattle.rv_word.specs.Table.{decode_of}
 use Rattle.rv_word.specs.Values.{wrap}
 use Rattle.rv_word.specs.Words.{word_of}
 use Rattle.rv_word.specs.declared.instr.Instr.{Instr}
-use Rattle.rv_word.specs.declared.instr.Instr.TheVariants.{Lui, Auipc, Jal, Jalr, Branch, Load, Store, OpImm, ShiftImm, Addiw, ShiftImm32, Op, Op32, Fence, Ecall, Ebreak, Lr, Sc, Amo}
+use Rattle.rv_word.specs.declared.instr.Instr.TheVariants.{Lui, Auipc, Jal, Jalr, Branch, OpImm, Addiw}
 use Rattle.rv_word.specs.declared.instr.ImmOp.TheVariants.{Addi}
 use Rattle.rv_word.specs.declared.instr.BranchOp.{BranchOp}
 use Rattle.tramp_spec.specs.Marks.{own, tool, leave}
 use Rattle.tramp_spec.specs.Jumps.{jump_word, reaches, upper, lower, is_signed_word, put_number}
+use Rattle.tramp_spec.specs.declared.block.Moved.{Moved}
 use Rattle.tramp_spec.specs.declared.mark.MarkedWord.{MarkedWord}
 
 abbrev pub tools : List Instr → List MarkedWord
@@ -64,6 +65,19 @@ moved_decoded None word p to = Some (moved_plain word p to)
 -- The moved words; none where the word can't be moved.
 unfoldable pub moved_of : ℕ → ℕ → ℕ → Option (List MarkedWord)
 moved_of word p to = moved_decoded (decode_of word) word p to
+
+-- how many they are, whatever the addresses
+abbrev pub moved_count : Option Instr → ℕ
+moved_count (Some (Auipc rd imm)) = 3
+moved_count (Some (Jal rd offset)) = if rd == 0 then 1 else 3
+moved_count (Some (Jalr rd rs1 offset)) = if rd == 0 then 1 else 4
+moved_count (Some (Branch op rs1 rs2 offset)) = 3
+moved_count (Some i) = 2
+moved_count None = 2
+
+-- the words as a value of the code
+abbrev pub words_of : Moved → List MarkedWord
+words_of moved = take moved.len moved.words
 
 -- ---- places among them
 

@@ -4,7 +4,6 @@ use Rattle.rv_word.specs.Registers.{reg}
 use Rattle.rv_word.specs.Names.{jump_of, has_scratch}
 use Rattle.rv_word.specs.Table.{decode_of}
 use Rattle.rv_word.specs.Exec.{Prog, Outcome, Stops, Goes, exec_of}
-use Rattle.rv_word.specs.declared.outcome.Cause.{Cause}
 use Rattle.tramp_spec.specs.Marks.{own, tool, leave, is_jump}
 use Rattle.tramp_spec.specs.Banks.{bank_len}
 use Rattle.tramp_spec.specs.Steps.{Bench, stand, step_on}

@@ -1,5 +1,5 @@
 -- For proofs alone: runs of a body from one word to another.
-use Rattle.std.specs.Prelude.{◌≡◌, ℕ, zero, suc, ◌⊎◌, ◌++◌, List, length, slice_index}
+use Rattle.std.specs.Prelude.{◌≡◌, ℕ, zero, suc, ◌⊎◌, ◌++◌, List, length}
 use Rattle.rv_word.specs.Registers.{arguments_of}
 use Rattle.tramp_spec.specs.Steps.{Bench}
 use Rattle.tramp_spec.specs.Bodies.{Leap, Stands, Harmless, LeavesSlot}

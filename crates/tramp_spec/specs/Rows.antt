@@ -1,5 +1,5 @@
 -- Rows that are computed from the definitions and known from elsewhere.
-use Rattle.std.specs.Prelude.{◌≡◌, ℕ, Some, None, List, [], ◌∷◌, false}
+use Rattle.std.specs.Prelude.{◌≡◌, ℕ, Some, None, [], ◌∷◌}
 use Rattle.pn_types.specs.declared.plan.Act.TheVariants.{Up}
 use Rattle.tramp_spec.specs.Marks.{own, tool, leave}
 use Rattle.tramp_spec.specs.MovedWords.{moved_of}

@@ -1,5 +1,5 @@
 -- The slots of an instrument in a hart's bank: where each variable stands, what arming puts there, and what is read.
-use Rattle.std.specs.Prelude.{◌≡◌, ℕ, ◌+◌, ◌-◌, ◌%◌, ◌^◌, ◌<◌, ◌≤◌, ◌==◌, ◌⊎◌, if◌then◌else◌, Bool, true, false, Option, Some, None, List, [], ◌∷◌, slice_get, slice_index, slice_set, map}
+use Rattle.std.specs.Prelude.{◌≡◌, ℕ, ◌+◌, ◌-◌, ◌%◌, ◌^◌, ◌<◌, ◌≤◌, ◌==◌, ◌⊎◌, if◌then◌else◌, Bool, true, false, Some, List, [], ◌∷◌, slice_get, slice_index, slice_set, map}
 use Rattle.pn_types.specs.declared.plan.Var.{Var}
 use Rattle.pn_types.specs.declared.placed.Placed.{Placed}
 use Rattle.tramp_spec.specs.Banks.{bank_len, first_slot}

@@ -1,6 +1,6 @@
 -- The tool's code of statements: what each does to the slots of its variables, as words of a mini block's body. It uses x5 and
 -- x31 alone. A counter has one slot; a timer has its sum in slot s and its number of starts in slot s + 1.
-use Rattle.std.specs.Prelude.{ℕ, ◌+◌, ◌-◌, ◌*◌, ◌/◌, ◌%◌, ◌^◌, List, [], ◌∷◌, ◌++◌, length, slice_index}
+use Rattle.std.specs.Prelude.{ℕ, ◌+◌, ◌-◌, ◌*◌, ◌^◌, List, [], ◌∷◌, ◌++◌, length, slice_index}
 use Rattle.pn_types.specs.declared.compare.Cmp.{Cmp}
 use Rattle.pn_types.specs.declared.compare.Cmp.TheVariants.{Eq, Ne, Lt, Le, Gt, Ge}
 use Rattle.pn_types.specs.declared.plan.Act.{Act}

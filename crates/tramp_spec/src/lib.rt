@@ -5,9 +5,11 @@
 #![tactic(auto)]
 
 mod block;
+mod jump;
 mod laws;
 mod mark;
 
 pub use block::{Block, Moved};
+pub use jump::{jump_word, reaches};
 pub use laws::{bodies_go_on, code_rows, moved_rows, words_move};
 pub use mark::{Mark, MarkedWord};

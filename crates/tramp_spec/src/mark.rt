@@ -1,3 +1,6 @@
+ghost use Rattle.std.specs.Prelude.{◌≡◌};
+ghost use Rattle.tramp_spec.specs.Marks as marks;
+
 /// What a word is for the hart that executes it: whether it is a tick, what its loads and stores reach, and whether the hart
 /// is inside a trampoline afterwards.
 #[derive(Clone, Copy, Debug, PartialEq, Eq, Drop)]
@@ -19,4 +22,46 @@ pub struct MarkedWord {
     pub word: u32,
     /// Its mark.
     pub mark: Mark,
+}
+
+impl MarkedWord {
+    /// A word of the program.
+    pub fn own(word: u32) -> MarkedWord
+        ensures { result ≡ marks.own word }
+    {
+        MarkedWord {
+            word,
+            mark: Mark::Own,
+        }
+    }
+
+    /// A jump that enters.
+    pub fn enter(word: u32) -> MarkedWord
+        ensures { result ≡ marks.enter word }
+    {
+        MarkedWord {
+            word,
+            mark: Mark::Enter,
+        }
+    }
+
+    /// A word of the tool.
+    pub fn tool(word: u32) -> MarkedWord
+        ensures { result ≡ marks.tool word }
+    {
+        MarkedWord {
+            word,
+            mark: Mark::Tool,
+        }
+    }
+
+    /// A jump back to the program.
+    pub fn leave(word: u32) -> MarkedWord
+        ensures { result ≡ marks.leave word }
+    {
+        MarkedWord {
+            word,
+            mark: Mark::Leave,
+        }
+    }
 }

@@ -1,0 +1,7 @@
+//! Words of a program moved into the tool text, where they do what they do at their own place.
+#![tactic(auto)]
+
+mod moving;
+mod numbers;
+
+pub use moving::{Unmovable, move_word, moved_len};

@@ -1,0 +1,223 @@
+//! The words that do at another place what a word does at its own.
+
+ghost use Rattle.std.specs.Prelude.{◌≡◌, ◌<◌, ◌^◌, ◌+◌, Some};
+ghost use Rattle.rv_word.specs.Table.{decode_of};
+ghost use Rattle.rv_word.specs.declared.instr.Instr.TheVariants as instr;
+ghost use Rattle.rv_word.specs.Words.{word_of};
+ghost use Rattle.tramp_spec.specs.Jumps as jumps;
+ghost use Rattle.tramp_spec.specs.Marks as marks;
+ghost use Rattle.tramp_spec.specs.MovedWords as table;
+ghost use Rattle.relocate.specs.Answers.{Answers};
+
+use crate::numbers::{is_signed_word, lower, upper};
+use rv_word::{BranchOp, ImmOp, Instr, decode, encode};
+use tramp_spec::{MarkedWord, Moved, jump_word, reaches};
+
+/// The word can't be moved: the target of its jump is out of reach or no multiple of 4, or the value of its auipc hasn't
+/// 32 bits with their sign.
+#[derive(Clone, Copy, PartialEq, Eq, Debug)]
+pub struct Unmovable;
+
+/// A word of the tool, by its instruction.
+fn tool(instr: Instr) -> MarkedWord
+    ensures { result ≡ marks.tool (word_of instr) }
+{
+    MarkedWord::tool(encode(&instr))
+}
+
+/// The jump back from the moved word at an address.
+fn leave(at: u64, target: u64) -> MarkedWord
+    ensures { result ≡ marks.leave (jumps.jump_word at target) }
+{
+    MarkedWord::leave(jump_word(at, target))
+}
+
+/// A jump at an address can have the target.
+fn is_target(at: u64, target: u64) -> bool
+    ensures { result ≡ table.is_target at target }
+{
+    target % 4 == 0 && target < 1 << 31 && reaches(at, target)
+}
+
+/// How many words the moved word has, from 1 to 4, whatever the addresses.
+pub fn moved_len(word: u32) -> u32
+    ensures { result ≡ table.moved_count (decode_of word) }
+{
+    match decode(word) {
+        Some(Instr::Jal { rd: 0, .. } | Instr::Jalr { rd: 0, .. }) => 1,
+        Some(Instr::Auipc { .. } | Instr::Jal { .. } | Instr::Branch { .. }) => 3,
+        Some(Instr::Jalr { .. }) => 4,
+        _ => 2,
+    }
+}
+
+/// An auipc: its value is put into the register by two words.
+fn move_auipc(rd: u32, imm: u64, from: u64, to: u64) -> Result<Moved, Unmovable>
+    requires from { from < 2 ^ 31 }
+    requires to { to < 2 ^ 31 }
+    ensures { Answers result (table.moved_decoded (Some (instr.Auipc rd imm)) 0 from to) }
+{
+    let value = from.wrapping_add(imm);
+    if !is_signed_word(value) {
+        return Err(Unmovable);
+    }
+    let own = MarkedWord::own(encode(&Instr::Addiw {
+        rd,
+        rs1: rd,
+        imm: lower(value),
+    }));
+    let back = leave(to + 8, from + 4);
+    Ok(Moved {
+        words: [
+            tool(Instr::Lui {
+                rd,
+                imm: upper(value),
+            }),
+            own,
+            back,
+            back,
+        ],
+        len: 3,
+    })
+}
+
+/// A jal: the address of the next word is put into the register by two words, where it has one.
+fn move_jal(rd: u32, offset: u64, from: u64, to: u64) -> Result<Moved, Unmovable>
+    requires from { from < 2 ^ 31 }
+    requires to { to < 2 ^ 31 }
+    ensures { Answers result (table.moved_decoded (Some (instr.Jal rd offset)) 0 from to) }
+{
+    let target = from.wrapping_add(offset);
+    let at = if rd == 0 { to } else { to + 8 };
+    if !is_target(at, target) {
+        return Err(Unmovable);
+    }
+    let jump = MarkedWord::own(jump_word(at, target));
+    if rd == 0 {
+        return Ok(Moved {
+            words: [jump; 4],
+            len: 1,
+        });
+    }
+    let low = tool(Instr::Addiw {
+        rd,
+        rs1: rd,
+        imm: lower(from + 4),
+    });
+    Ok(Moved {
+        words: [
+            tool(Instr::Lui {
+                rd,
+                imm: upper(from + 4),
+            }),
+            low,
+            jump,
+            jump,
+        ],
+        len: 3,
+    })
+}
+
+/// A jalr. The target is computed first, since the link register may be its base.
+fn move_jalr(word: u32, rd: u32, rs1: u32, offset: u64, from: u64) -> Moved
+    requires from { from < 2 ^ 31 }
+    ensures { Some (table.words_of result) ≡ table.moved_decoded (Some (instr.Jalr rd rs1 offset)) word from 0 }
+{
+    if rd == 0 {
+        return Moved {
+            words: [MarkedWord::own(word); 4],
+            len: 1,
+        };
+    }
+    let target = tool(Instr::OpImm {
+        op: ImmOp::Addi,
+        rd: 31,
+        rs1,
+        imm: offset,
+    });
+    let high = tool(Instr::Lui {
+        rd,
+        imm: upper(from + 4),
+    });
+    let low = tool(Instr::Addiw {
+        rd,
+        rs1: rd,
+        imm: lower(from + 4),
+    });
+    let jump = MarkedWord::own(encode(&Instr::Jalr {
+        rd: 0,
+        rs1: 31,
+        offset: 0,
+    }));
+    Moved {
+        words: [target, high, low, jump],
+        len: 4,
+    }
+}
+
+/// A branch: taken, it goes over the jump to the next word, to the jump to its target.
+fn move_branch(
+    op: BranchOp,
+    rs1: u32,
+    rs2: u32,
+    offset: u64,
+    from: u64,
+    to: u64,
+) -> Result<Moved, Unmovable>
+    requires from { from < 2 ^ 31 }
+    requires to { to < 2 ^ 31 }
+    ensures { Answers result (table.moved_decoded (Some (instr.Branch op rs1 rs2 offset)) 0 from to) }
+{
+    let target = from.wrapping_add(offset);
+    if !is_target(to + 8, target) {
+        return Err(Unmovable);
+    }
+    let branch = MarkedWord::own(encode(&Instr::Branch {
+        op,
+        rs1,
+        rs2,
+        offset: 8,
+    }));
+    let there = leave(to + 8, target);
+    Ok(Moved {
+        words: [branch, leave(to + 4, from + 4), there, there],
+        len: 3,
+    })
+}
+
+/// Any other word: itself, and the jump to the next.
+fn move_plain(word: u32, from: u64, to: u64) -> Moved
+    requires from { from < 2 ^ 31 }
+    requires to { to < 2 ^ 31 }
+    ensures { table.words_of result ≡ table.moved_plain word from to }
+{
+    let back = leave(to + 4, from + 4);
+    Moved {
+        words: [MarkedWord::own(word), back, back, back],
+        len: 2,
+    }
+}
+
+/// The words that do at `to` what the word does at `from`, both below 2,147,483,648. Whatever they are, they never name x31 where
+/// the word doesn't, but for the target of a jalr that keeps an address.
+#[tactic(auto, unfolding(tramp_spec::specs::MovedWords::moved_of))]
+pub fn move_word(word: u32, from: u64, to: u64) -> Result<Moved, Unmovable>
+    requires from { from < 2 ^ 31 }
+    requires to { to < 2 ^ 31 }
+    ensures { Answers result (table.moved_of word from to) }
+{
+    match decode(word) {
+        Some(Instr::Auipc { rd, imm }) => move_auipc(rd, imm, from, to),
+        Some(Instr::Jal { rd, offset }) => move_jal(rd, offset, from, to),
+        Some(Instr::Jalr { rd, rs1, offset }) => Ok(move_jalr(word, rd, rs1, offset, from)),
+        Some(
+            Instr::Branch {
+                op,
+                rs1,
+                rs2,
+                offset,
+            },
+        ) => { move_branch(op, rs1, rs2, offset, from, to) }
+        _ => Ok(move_plain(word, from, to)),
+    }
+}
