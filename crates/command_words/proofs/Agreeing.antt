@@ -1,26 +1,23 @@
 -- The words one at a time give the values that the grammar gives.
 use Rattle.std.proofs.Common.{◌≡◌, ◌≢◌, ℕ, zero, suc, ◌+◌, ◌<◌, ◌&&◌, ◌||◌, Bool, true, false, List, [], ◌∷◌, ◌++◌, length, drop, get_or, refl, ap, sym, ◌∙◌, subst, Option, None, Some, cond, arith}
-use Rattle.std.specs.Prelude.{find, option_map, slice_get, slice_set, replicate}
+use Rattle.std.specs.Prelude.{option_map, slice_get, slice_set, replicate}
 use Rattle.std.specs.Option.{option_and_then, is_some}
 use Rattle.std.specs.List.{list_any, list_all}
 use Rattle.std.specs.Str.{bytes_eq}
 use Rattle.std.proofs.lemmas.List.{get_or-set_same, get_or-set_other, length-set}
 use Rattle.std.proofs.lemmas.List.Quantifiers.{position-Some}
-use Rattle.std.proofs.lemmas.Slice.Eq.{bytes_eq-Decides}
-use Rattle.command_words.specs.Grammar.{Text, Form, Taken, Kind, end_of_options, option, other_flag, plain, kind_of, is_named, has, ended, behind, by_place, by_option, option_named, read, taken_of}
-use Rattle.command_words.specs.Grammar as grammar
-use Rattle.command_words.specs.Requests.{given_in, form_of}
+use Rattle.command_words.specs.Grammar.{Text, Form, Taken, Kind, end_of_options, option, other_flag, plain, given_in, kind_of, taken_of}
+use Rattle.command_words.specs.Requests.{form_of}
 use Rattle.command_words.specs.Walks.{all_names, slot_of, Values, no_values, value_at, value_of, put_at, put, Walk, takes_option, placed_at, placed, with_value, optioned, by_kind, by_value, walked, finished, values_of}
 use Rattle.command_words.specs.declared.commands.CommandName.{CommandName}
+use Rattle.command_words.proofs.Machine as machine
+use Rattle.command_words.proofs.Machine.{has, ended, behind, by_place, by_option, option_named, read, machine_takes}
+use Rattle.command_words.proofs.ValuesTaken.{same_bytes, eq_bytes, first_of, given_both, has_is, SameGiven}
+use Rattle.command_words.proofs.MachineAndGrammar.{find_option}
+use Rattle.command_words.proofs.Apart.{grammar_takes}
 use Rattle.command_words.specs.declared.commands.CommandName.TheVariants.{Run, Live, Replay, Asm, Points, Plan, Stress, Relog}
 
 -- ---- names
-
-same_bytes : (xs ys : Text) → bytes_eq xs ys ≡ true → xs ≡ ys
-same_bytes xs ys e = (bytes_eq-Decides xs ys).0 e
-
-eq_bytes : (xs : Text) → bytes_eq xs xs ≡ true
-eq_bytes xs = (bytes_eq-Decides xs xs).1 refl
 
 record Slot (name : Text) (slot : ℕ) : Type 0 where
   low : slot < 16
@@ -38,31 +35,12 @@ slot_is name slot e =
 abbrev Agree : Values → Taken → Type 0
 Agree values taken = (name : Text) → value_of values name ≡ given_in taken name
 
-has_is : (name : Text) (taken : Taken) → has name taken ≡ is_some (given_in taken name)
-has_is name [] = refl
-has_is name (t ∷ ts) = by (is_named name t) (has_is name ts)
-  where
-    by : (b : Bool) → list_any (is_named name) ts ≡ is_some (given_in ts name) → (b || list_any (is_named name) ts) ≡ is_some (option_map (λ (t : Text × Text). t.1) (cond b (Some t) (find (is_named name) ts)))
-    by true e = refl
-    by false e = e
-
--- the first of two values
-abbrev first_of : Option Text → Option Text → Option Text
-first_of None other = other
-first_of (Some v) other = Some v
-
 given_more : (n : Text) (taken : Taken) (name value : Text) → given_in (taken ++ (name, value) ∷ []) n ≡ first_of (given_in taken n) (cond (bytes_eq name n) (Some value) None)
-given_more n [] name value = by (bytes_eq name n)
+given_more n taken name value = given_both n taken ((name, value) ∷ []) ∙ ap (first_of (given_in taken n)) (by (bytes_eq name n))
   where
     by : (b : Bool) → option_map (λ (t : Text × Text). t.1) (cond b (Some (name, value)) None) ≡ cond b (Some value) None
     by true = refl
     by false = refl
-given_more n (t ∷ ts) name value = by (is_named n t) (given_more n ts name value)
-  where
-    by : (b : Bool) → given_in (ts ++ (name, value) ∷ []) n ≡ first_of (given_in ts n) (cond (bytes_eq name n) (Some value) None) →
-        option_map (λ (t : Text × Text). t.1) (cond b (Some t) (find (is_named n) (ts ++ (name, value) ∷ []))) ≡ first_of (option_map (λ (t : Text × Text). t.1) (cond b (Some t) (find (is_named n) ts))) (cond (bytes_eq name n) (Some value) None)
-    by true e = refl
-    by false e = e
 
 first_none : (o other : Option Text) → is_some o ≡ false → first_of o other ≡ other
 first_none None other h = refl
@@ -141,27 +119,6 @@ next_is (p ∷ ps) (suc k) = next_is ps k ∙ by (slice_get ps k)
     by : (o : Option Text) → next_places ps k o ≡ next_places (p ∷ ps) (suc k) o
     by None = refl
     by (Some name) = refl
-
-bytes_sym : (a b : Text) → bytes_eq a b ≡ bytes_eq b a
-bytes_sym a b = by (bytes_eq a b) (bytes_eq b a) refl refl
-  where
-    by : (x y : Bool) → bytes_eq a b ≡ x → bytes_eq b a ≡ y → bytes_eq a b ≡ bytes_eq b a
-    by true true e f = e ∙ sym f
-    by false false e f = e ∙ sym f
-    by true false e f = let same : bytes_eq b a ≡ true = ap (bytes_eq b) (same_bytes a b e) ∙ eq_bytes b in absurd (cc)
-    by false true e f = let same : bytes_eq a b ≡ true = ap (bytes_eq a) (same_bytes b a f) ∙ eq_bytes a in absurd (cc)
-
-find_option : (options : List Text) (name : Text) → option_named options name ≡ cond (list_any (λ o. bytes_eq name o) options) (Some name) None
-find_option [] name = refl
-find_option (o ∷ os) name = by (find_option os name) (bytes_eq name o) refl
-  where
-    by : option_named os name ≡ cond (list_any (λ o. bytes_eq name o) os) (Some name) None → (b : Bool) → bytes_eq name o ≡ b → option_named (o ∷ os) name ≡ cond (bytes_eq name o || list_any (λ o. bytes_eq name o) os) (Some name) None
-    by later true e =
-        let other : bytes_eq o name ≡ true = bytes_sym o name ∙ e in
-        ap (λ b. cond b (Some o) (find (λ o. bytes_eq o name) os)) other ∙ ap Some (sym (same_bytes name o e)) ∙ ap (λ b. cond (b || list_any (λ o. bytes_eq name o) os) (Some name) None) (sym e)
-    by later false e =
-        let other : bytes_eq o name ≡ false = bytes_sym o name ∙ e in
-        ap (λ b. cond b (Some o) (find (λ o. bytes_eq o name) os)) other ∙ later ∙ ap (λ b. cond (b || list_any (λ o. bytes_eq name o) os) (Some name) None) (sym e)
 
 known_option : (options : List Text) (name : Text) → EachKnown options → list_any (λ o. bytes_eq name o) options ≡ true → Known name
 known_option [] name known e = absurd (cc)
@@ -278,7 +235,7 @@ module _ (command : CommandName) (words : List Text) (more : GoesOn command word
       tt
       (λ vs ts l a. more.here vs k ts l a)
 
-  kind_word : (word : Text) (kind : Kind) → Same (run_on command words (by_kind command (walk_at values k None false) kind word)) (grammar.by_kind (form_of command) kind word (drop k (form_of command).places) taken (behind (form_of command) (drop k (form_of command).places) taken words) (λ ps t awaiting. read (form_of command) ps t awaiting words))
+  kind_word : (word : Text) (kind : Kind) → Same (run_on command words (by_kind command (walk_at values k None false) kind word)) (machine.by_kind (form_of command) kind word (drop k (form_of command).places) taken (behind (form_of command) (drop k (form_of command).places) taken words) (λ ps t awaiting. read (form_of command) ps t awaiting words))
   kind_word word end_of_options = more.past values k taken len agree
   kind_word word (option name value) =
       subst (λ (o : Option Text). Same (run_on command words (optioned command (walk_at values k None false) name value)) (by_option o value taken (λ t awaiting. read (form_of command) (drop k (form_of command).places) t awaiting words))) (sym (find_option (form_of command).options name))
@@ -288,7 +245,7 @@ module _ (command : CommandName) (words : List Text) (more : GoesOn command word
       subst (λ (ps : List Text). Same (run_on command words (placed command (walk_at values k None false) word)) (by_place ps word taken (λ ps t awaiting. read (form_of command) ps t awaiting words))) (sym (next_is (form_of command).places k))
       (place_word word (slice_get (form_of command).places k) refl)
 
-  value_word : (name word : Text) → Known name → (kind : Kind) → Same (run_on command words (by_value (walk_at values k (Some name) false) name kind word)) (grammar.by_value kind name word taken (read (form_of command) (drop k (form_of command).places) (taken ++ (name, word) ∷ []) None words))
+  value_word : (name word : Text) → Known name → (kind : Kind) → Same (run_on command words (by_value (walk_at values k (Some name) false) name kind word)) (machine.by_value kind name word taken (read (form_of command) (drop k (form_of command).places) (taken ++ (name, word) ∷ []) None words))
   value_word name word known end_of_options = tt
   value_word name word known (option other value) = tt
   value_word name word known other_flag = tt
@@ -325,6 +282,19 @@ none_at : (o : Option ℕ) → value_at no_values o ≡ None
 none_at None = refl
 none_at (Some slot) = none_in 16 slot
 
+same_then_given : (v : Option Values) (r t : Option Taken) → Same v r → SameGiven r t → Same v t
+same_then_given None None t h k = by t k
+  where
+    by : (t : Option Taken) → SameGiven None t → Same None t
+    by None k = tt
+    by (Some t) k = absurd k
+same_then_given None (Some r) t h k = absurd h
+same_then_given (Some v) None t h k = absurd h
+same_then_given (Some v) (Some r) None h k = absurd k
+same_then_given (Some v) (Some r) (Some t) h k = λ name. h name ∙ k name
+
 -- The values are those that the grammar takes.
 pub same_values : (command : CommandName) (words : List Text) → Same (values_of command words) (taken_of (form_of command) words)
-same_values command words = (goes_on command words).here no_values 0 [] refl (λ name. none_at (slot_of name))
+same_values command words =
+    same_then_given (values_of command words) (machine_takes (form_of command) words) (taken_of (form_of command) words)
+    ((goes_on command words).here no_values 0 [] refl (λ name. none_at (slot_of name))) (grammar_takes command words)

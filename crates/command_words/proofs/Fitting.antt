@@ -8,8 +8,9 @@ use Rattle.clap.specs.Takes.{is_given}
 use Rattle.clap.specs.Kinds.{Kinds}
 use Rattle.clap.specs.Words.{fault_of, matches_of}
 use Rattle.command_words.specs.Apps.{app_for}
-use Rattle.command_words.specs.Grammar.{Text, Taken, has, is_named, taken_of}
-use Rattle.command_words.specs.Requests.{form_of, given_in}
+use Rattle.command_words.specs.Grammar.{Text, Taken, given_in, is_named}
+use Rattle.command_words.proofs.Machine.{has, machine_takes}
+use Rattle.command_words.specs.Requests.{form_of}
 use Rattle.command_words.specs.declared.commands.CommandName.{CommandName}
 use Rattle.command_words.specs.declared.commands.CommandName.TheVariants.{Run, Live, Replay, Asm, Points, Plan, Stress, Relog}
 use Rattle.command_words.proofs.Rows.{row, option_rule, place_rules, rules_of, Fits, is_given-row}
@@ -138,7 +139,7 @@ fits_relog = record {
 
 -- ---- each command
 
-pub agrees_for : (name : CommandName) (words : List Text) → AreUtf8 (drop 1 words) → Agrees (taken_of (form_of name) (drop 1 words)) (fault_of (app_for name) words) (matches_of (app_for name) words)
+pub agrees_for : (name : CommandName) (words : List Text) → AreUtf8 (drop 1 words) → Agrees (machine_takes (form_of name) (drop 1 words)) (fault_of (app_for name) words) (matches_of (app_for name) words)
 agrees_for Run words u = takes_exactly (codes "run") (form_of Run) (rules_of (form_of Run)) fits_run (drop 1 words) u
 agrees_for Live words u = takes_exactly (codes "live") (form_of Live) (rules_of (form_of Live)) fits_live (drop 1 words) u
 agrees_for Replay words u = takes_exactly (codes "replay") (form_of Replay) (rules_of (form_of Replay)) fits_replay (drop 1 words) u

@@ -2,8 +2,8 @@
 use Rattle.std.proofs.Common.{◌≡◌, List, ◌∷◌, refl, ap, sym, ◌∙◌, Option, None, Some}
 use Rattle.std.specs.Prelude.{codes}
 use Rattle.std.specs.Option.{option_and_then}
-use Rattle.command_words.specs.Grammar.{Text, Taken, taken_of}
-use Rattle.command_words.specs.Requests.{Request, given_in, form_of, command_named, request_from}
+use Rattle.command_words.specs.Grammar.{Text, Taken, given_in, taken_of}
+use Rattle.command_words.specs.Requests.{Request, form_of, command_named, request_from}
 use Rattle.command_words.specs.Logs.{log_from, log_of}
 use Rattle.command_words.specs.Walks.{Values, value_of, values_of}
 use Rattle.command_words.specs.declared.commands.CommandName.{CommandName}

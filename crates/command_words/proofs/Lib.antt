@@ -5,6 +5,11 @@ pub mod Fitting
 pub mod Simple
 pub mod Reading
 pub mod Ranges
+mod Machine
+mod ValuesTaken
+mod LeftToTake
+mod MachineAndGrammar
+mod Apart
 mod Words
 mod Agreeing
 mod GivenLogs

@@ -10,6 +10,9 @@ use Rattle.clap.proofs.WalkLemmas.{first_value-rows}
 use Rattle.command_words.specs.Asked.{Holds}
 use Rattle.command_words.specs.Apps.{app_for}
 use Rattle.command_words.specs.Grammar.{taken_of}
+use Rattle.command_words.proofs.Machine.{machine_takes}
+use Rattle.command_words.proofs.ValuesTaken.{same_none, same_some}
+use Rattle.command_words.proofs.Apart.{grammar_takes}
 use Rattle.command_words.specs.Requests.{form_of}
 use Rattle.command_words.specs.declared.commands.CommandName.{CommandName}
 use Rattle.command_words.specs.declared.commands.CommandName.TheVariants.{Run, Live, Replay, Asm, Points, Plan, Stress, Relog}
@@ -46,7 +49,7 @@ rest_utf8 (word ∷ words) = texts_utf8 words
 
 module _ {Z : Type 0} (name : CommandName) (words : List (String Z)) (app : App) (same : app ≡ app_for name) where
   -- what clap says of the words behind a command's own
-  agrees_words : Agrees (taken_of (form_of name) (drop 1 (map string_bytes words))) (fault_of (app_for name) (map string_bytes words)) (matches_of (app_for name) (map string_bytes words))
+  agrees_words : Agrees (machine_takes (form_of name) (drop 1 (map string_bytes words))) (fault_of (app_for name) (map string_bytes words)) (matches_of (app_for name) (map string_bytes words))
   agrees_words = agrees_for name (map string_bytes words) (rest_utf8 words)
 
   free : is_simple_and_free app ≡ true
@@ -57,15 +60,16 @@ module _ {Z : Type 0} (name : CommandName) (words : List (String Z)) (app : App)
   holds_from m kinds matches =
       let t = taken_from _ _ _ agrees_words (ap (λ (a : App). fault_of a (map string_bytes words)) (sym same) ∙ kinds free) in
       let rows = (matches (ap is_simple same ∙ is_simple_for name)).0 ∙ ap (λ (a : App). matches_of a (map string_bytes words)) same ∙ t.2 in
+      let said = same_some _ (taken_of (form_of name) (drop 1 (map string_bytes words))) t.0 t.1 (grammar_takes name (drop 1 (map string_bytes words))) in
       record {
-        taken = t.0;
-        reads = t.1;
-        given = λ n. first_value-rows (found_of m) n ∙ ap (λ (rs : List Row). first_of n rs) rows ∙ first_of-row n t.0;
+        taken = said.0;
+        reads = said.1;
+        given = λ n. first_value-rows (found_of m) n ∙ ap (λ (rs : List Row). first_of n rs) rows ∙ first_of-row n t.0 ∙ said.2 n;
       }
 
   pub none_taken : (e : Error) → (is_simple_and_free app ≡ true → HasKind (fault_of app (map string_bytes words)) e) → (kind_of e ≡ kind.OutOfMemory → ⊥) →
       taken_of (form_of name) (drop 1 (map string_bytes words)) ≡ None
-  none_taken e kinds other = none_from _ _ _ agrees_words (λ k. go (kinds free) k)
+  none_taken e kinds other = same_none _ _ (none_from _ _ _ agrees_words (λ k. go (kinds free) k)) (grammar_takes name (drop 1 (map string_bytes words)))
     where
       go : HasKind (fault_of app (map string_bytes words)) e → fault_of (app_for name) (map string_bytes words) ≡ [] → ⊥
       go (inl memory) k = other memory

@@ -15,7 +15,8 @@ use Rattle.clap.specs.declared.error.kind.ErrorKind.{ErrorKind}
 use Rattle.clap.specs.declared.error.kind.ErrorKind.TheVariants as kind
 use Rattle.clap.specs.declared.parser.matches.ValueSource.TheVariants.{CommandLine}
 use Rattle.command_words.specs.Grammar as grammar
-use Rattle.command_words.specs.Grammar.{Text, Form, Taken, has, kind_of, ended, behind, by_place, by_kind, by_option, by_value, option_named, read, taken_of}
+use Rattle.command_words.specs.Grammar.{Text, Form, Taken, kind_of}
+use Rattle.command_words.proofs.Machine.{has, ended, behind, by_kind, by_option, by_value, option_named, read, machine_takes}
 use Rattle.command_words.proofs.WordKinds.{Word, dashes, simple, long, short, word_is}
 use Rattle.command_words.proofs.Rows.{row, place_rule, option_rule, text_reading, PlacesFit, Fits, IsSingle, single_place, single_option, has_row-row, with_row, no_defaults_fault, no_defaults}
 
@@ -430,5 +431,5 @@ module _ (name : Text) (form : Form) (rules : List Rule) (fits : Fits form rules
       go None = refl
       go (Some p) = refl
 
-  pub takes_exactly : (words : List Text) → AreUtf8 words → Agrees (taken_of form words) (built_fault (record { top = shape; subs = [] }) nothing_held words) (rows_after rules [] words)
-  takes_exactly words u = subst (λ (k : Kinds). Agrees (taken_of form words) k (rows_after rules [] words)) (sym (fault_is words)) ((both words u).0 form.places [] None 1 fits.places tt)
+  pub takes_exactly : (words : List Text) → AreUtf8 words → Agrees (machine_takes form words) (built_fault (record { top = shape; subs = [] }) nothing_held words) (rows_after rules [] words)
+  takes_exactly words u = subst (λ (k : Kinds). Agrees (machine_takes form words) k (rows_after rules [] words)) (sym (fault_is words)) ((both words u).0 form.places [] None 1 fits.places tt)

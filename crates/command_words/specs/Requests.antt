@@ -1,5 +1,5 @@
 -- What the words ask for.
-use Rattle.std.specs.Prelude.{◌≤◌, ℕ, nat_le, if◌then◌else◌, List, [], ◌∷◌, Option, Some, None, codes, find, option_map, unwrap_or}
+use Rattle.std.specs.Prelude.{◌≤◌, ℕ, nat_le, if◌then◌else◌, List, [], ◌∷◌, Option, Some, None, codes, option_map, unwrap_or}
 use Rattle.std.specs.Option.{option_and_then, option_map_or}
 use Rattle.std.specs.Str.{bytes_eq}
 use Rattle.pn_types.specs.Settings.{AreInRange}
@@ -7,7 +7,7 @@ use Rattle.pn_types.specs.declared.limits.TheConstants.{MAX_HARTS, MAX_WORKERS, 
 use Rattle.pn_types.specs.declared.settings.Settings.{Settings}
 use Rattle.pn_types.specs.declared.settings.Start.TheVariants.{Cold}
 use Rattle.pn_text.specs.Numbers.{number_of}
-use Rattle.command_words.specs.Grammar.{Text, Form, Taken, is_named, taken_of}
+use Rattle.command_words.specs.Grammar.{Text, Form, Given, given_in, taken_of}
 use Rattle.command_words.specs.declared.commands.CommandName.{CommandName}
 use Rattle.command_words.specs.declared.commands.CommandName.TheVariants.{Run, Live, Replay, Asm, Points, Plan, Stress, Relog}
 
@@ -37,13 +37,6 @@ form_of Stress = record { places = codes "procs" ∷ codes "seed" ∷ []; option
 form_of Relog = record { places = codes "record" ∷ []; options = [] }
 
 -- ---- values
-
--- the value of each name, where it was given
-abbrev pub Given : Type 0
-Given = Text → Option Text
-
-abbrev pub given_in : Taken → Given
-given_in taken name = option_map (λ t. t.1) (find (is_named name) taken)
 
 -- a positional word; the words of a command hold one for each of its places
 abbrev pub place_in : Given → Text → Text

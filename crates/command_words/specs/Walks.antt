@@ -3,8 +3,8 @@ use Rattle.std.specs.Prelude.{ℕ, ◌+◌, ◌&&◌, if◌then◌else◌, Bool,
 use Rattle.std.specs.Option.{option_and_then, is_some, is_none}
 use Rattle.std.specs.List.{list_any, list_all, position}
 use Rattle.std.specs.Str.{bytes_eq}
-use Rattle.command_words.specs.Grammar.{Text, Kind, end_of_options, option, other_flag, plain, kind_of}
-use Rattle.command_words.specs.Requests.{Given, form_of}
+use Rattle.command_words.specs.Grammar.{Text, Kind, Given, end_of_options, option, other_flag, plain, kind_of}
+use Rattle.command_words.specs.Requests.{form_of}
 use Rattle.command_words.specs.declared.commands.CommandName.{CommandName}
 
 -- ---- values

@@ -10,7 +10,7 @@ use clap::ArgMatches;
 
 /// A value for each name that was given one.
 pub trait Given<'a> {
-    ghost use Rattle.command_words.specs.Requests.{Given as given_text};
+    ghost use Rattle.command_words.specs.Grammar.{Given as given_text};
 
     ghost given: { Self → given_text };
 
