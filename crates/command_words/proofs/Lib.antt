@@ -1,5 +1,7 @@
+pub mod SeenNames
 pub mod WordKinds
 pub mod Rows
+pub mod Settling
 pub mod Walks
 pub mod Fitting
 pub mod Simple
@@ -9,8 +11,10 @@ mod Machine
 mod ValuesTaken
 mod LeftToTake
 mod MachineAndGrammar
-mod Apart
-mod Words
+mod Slots
 mod Agreeing
+mod CommandsChecked
+mod Words
+mod GrammarRows
 mod GivenLogs
 mod SettingsGiven

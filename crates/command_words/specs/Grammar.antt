@@ -80,8 +80,9 @@ option_in (valued name value) = Some (name, value)
 
 -- ---- what a command takes
 
--- a command's positional words, by name and in order, and the names of its options
+-- a command's own word, its positional words by name and in order, and the names of its options
 pub record Form : Type 0 where
+  pub word : Text
   pub places : List Text
   pub options : List Text
 
