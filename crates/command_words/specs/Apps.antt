@@ -1,4 +1,4 @@
--- The commands in clap's terms.
+-- For proofs alone: the commands in clap's terms.
 use Rattle.std.specs.Prelude.{true, ◌++◌, Some, map, fold}
 use Rattle.clap.specs.Words.{App, Rule, new_app, new_rule, with_rule}
 use Rattle.clap.specs.Simple.{on_top}

@@ -1,4 +1,6 @@
 -- The words of a command: positional words, options with a value each, and `--` before words that are all positional.
+-- They are split at a first `--`, options are paired with their values, and then words and names are held against the form
+-- of the command.
 use Rattle.std.specs.Prelude.{ℕ, ◌==◌, ◌++◌, ◌&&◌, not, if◌then◌else◌, Bool, true, List, [], ◌∷◌, Option, Some, None, codes, drop, find, length, map, option_map, take}
 use Rattle.std.specs.List.{after_first, before_first, filter_map, list_all, list_any, zip}
 use Rattle.std.specs.Option.{option_and_then}
@@ -29,6 +31,7 @@ option_kind text = option (before_first is_equals text) (if list_any is_equals t
 abbrev pub begins : Text → Text → Bool
 begins front word = bytes_eq (take (length front) word) front
 
+-- whether the word is the `--` behind which all words are positional
 abbrev pub is_separator : Text → Bool
 is_separator word = bytes_eq word (codes "--")
 
@@ -39,7 +42,7 @@ kind_of word =
     else if begins (codes "-") word && not (bytes_eq word (codes "-")) then other_flag
     else plain
 
--- ---- which words are options with their values
+-- ---- options with their values
 
 pub data Item : Type 0 where
   -- a positional word
@@ -47,7 +50,8 @@ pub data Item : Type 0 where
   -- an option's name and its value
   valued : Text → Text → Item
 
--- An option's value where it stands in a word of its own: the next word, which mustn't be an option or a flag.
+-- An option that has no value in its own word takes the next word, which must be there and mustn't begin with `-`, unless
+-- it is `-` alone.
 abbrev pub with_next : Text → List Item → Option (List Item)
 with_next name [] = None
 with_next name (positional word ∷ items) = Some (valued name word ∷ items)
@@ -61,7 +65,7 @@ with_word (option name None) word items = with_next name items
 with_word other_flag word items = None
 with_word end_of_options word items = None
 
--- The items of words among which no `--` stands.
+-- The items of words among which no `--` stands; none where a word is refused.
 abbrev pub items_of : List Text → Option (List Item)
 items_of [] = Some []
 items_of (word ∷ words) = option_and_then (with_word (kind_of word) word) (items_of words)
@@ -94,10 +98,11 @@ abbrev pub each_once : List Text → Bool
 each_once [] = true
 each_once (name ∷ names) = not (is_among names name) && each_once names
 
--- As many positional words as places, options of the command alone, and each of them once.
+-- There are exactly as many positional words as the command has, and each option is one of its own and given once.
 abbrev pub fits : Form → List Text → List Text → Bool
 fits form words names = (length words == length form.places) && list_all (is_among form.options) names && each_once names
 
+-- the positional words by their names, and the options
 abbrev pub taken_by : Form → List Text → Taken → Option Taken
 taken_by form words options = if fits form words (map (λ o. o.0) options) then Some (zip form.places words ++ options) else None
 

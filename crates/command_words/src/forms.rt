@@ -1,6 +1,7 @@
 //! What words a command takes.
 
 ghost use Rattle.std.specs.Prelude.{◌≡◌, ◌≤◌, ◌+◌, length};
+ghost use Rattle.command_words.specs.declared.forms.TheConstants.{MAX_NAMES};
 
 /// The most names that the positional words and the options of a command have together.
 pub const MAX_NAMES: usize = 16;
@@ -14,7 +15,7 @@ pub struct Form {
     pub places: &'static [&'static str],
     /// The names of its options.
     pub options: &'static [&'static str],
-    ghost few: { length places.now + length options.now ≤ 16 },
+    ghost few: { length places.now + length options.now ≤ MAX_NAMES },
 }
 
 impl Form {
@@ -23,7 +24,7 @@ impl Form {
         places: &'static [&'static str],
         options: &'static [&'static str],
     ) -> Form
-        requires { length places.now + length options.now ≤ 16 }
+        requires { length places.now + length options.now ≤ MAX_NAMES }
         ensures word { result.word ≡ word.entry }
         ensures places { result.places ≡ places.entry }
         ensures options { result.options ≡ options.entry }

@@ -7,7 +7,7 @@ ghost use Rattle.command_words.specs.Grammar.{is_among};
 ghost use Rattle.command_words.specs.Walks.{slot_of};
 ghost use Rattle.command_words.specs.Walked.{form_seen};
 
-use crate::forms::Form;
+use crate::forms::{Form, MAX_NAMES};
 
 /// Whether a name is one of these.
 fn is_among(names: &[&str], name: &str) -> bool
@@ -42,7 +42,7 @@ impl Form {
     /// The number of a name among those of the places and the options.
     pub fn slot_of(&self, name: &str) -> Option<usize>
         ensures number { result ≡ slot_of (form_seen self.now) name.now }
-        ensures range { IfSome result (λ slot. slot < 16) }
+        ensures range { IfSome result (λ slot. slot < MAX_NAMES) }
     {
         match position_of(self.places, name) {
             Some(place) => Some(place),
