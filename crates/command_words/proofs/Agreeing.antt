@@ -1,131 +1,18 @@
 -- The words one at a time give the values that the grammar gives.
-use Rattle.std.proofs.Common.{◌≡◌, ◌≢◌, ℕ, zero, suc, ◌+◌, ◌<◌, ◌&&◌, ◌||◌, Bool, true, false, List, [], ◌∷◌, ◌++◌, length, drop, get_or, refl, ap, sym, ◌∙◌, subst, Option, None, Some, cond, arith}
-use Rattle.std.specs.Prelude.{find, option_map, slice_get, slice_set, replicate}
+use Rattle.std.proofs.Common.{◌≡◌, ℕ, zero, suc, ◌+◌, ◌&&◌, Bool, true, false, List, [], ◌∷◌, ◌++◌, length, drop, get_or, refl, ap, sym, ◌∙◌, subst, Option, None, Some, cond, arith}
+use Rattle.std.specs.Prelude.{option_map, slice_get, slice_set}
 use Rattle.std.specs.Option.{option_and_then, is_some}
 use Rattle.std.specs.List.{list_any, list_all}
-use Rattle.std.specs.Str.{bytes_eq}
-use Rattle.std.proofs.lemmas.List.{get_or-set_same, get_or-set_other, length-set}
-use Rattle.std.proofs.lemmas.List.Quantifiers.{position-Some}
-use Rattle.std.proofs.lemmas.Slice.Eq.{bytes_eq-Decides}
-use Rattle.command_words.specs.Grammar.{Text, Form, Taken, Kind, end_of_options, option, other_flag, plain, kind_of, is_named, has, ended, behind, by_place, by_option, option_named, read, taken_of}
-use Rattle.command_words.specs.Grammar as grammar
-use Rattle.command_words.specs.Requests.{given_in, form_of}
-use Rattle.command_words.specs.Walks.{all_names, slot_of, Values, no_values, value_at, value_of, put_at, put, Walk, takes_option, placed_at, placed, with_value, optioned, by_kind, by_value, walked, finished, values_of}
-use Rattle.command_words.specs.declared.commands.CommandName.{CommandName}
-use Rattle.command_words.specs.declared.commands.CommandName.TheVariants.{Run, Live, Replay, Asm, Points, Plan, Stress, Relog}
+use Rattle.std.proofs.lemmas.List.{length-set}
+use Rattle.command_words.specs.Grammar.{Text, Form, Taken, Kind, end_of_options, option, other_flag, plain, each_once, is_among, given_in, kind_of, taken_of}
+use Rattle.command_words.specs.Walks.{slot_of, Values, no_values, value_at, value_of, put_at, put, Walk, placed_at, placed, with_value, optioned, by_kind, by_value, walked, finished, values_of}
+use Rattle.command_words.proofs.Machine as machine
+use Rattle.command_words.proofs.Machine.{has, ended, behind, by_place, by_option, read, machine_takes}
+use Rattle.command_words.proofs.ValuesTaken.{has_is, SameGiven}
+use Rattle.command_words.proofs.MachineAndGrammar.{find_option, machine_same}
+use Rattle.command_words.proofs.Slots.{Known, known_option, known_place, Agree, IsFew, put_agrees, none_at}
 
--- ---- names
-
-same_bytes : (xs ys : Text) → bytes_eq xs ys ≡ true → xs ≡ ys
-same_bytes xs ys e = (bytes_eq-Decides xs ys).0 e
-
-eq_bytes : (xs : Text) → bytes_eq xs xs ≡ true
-eq_bytes xs = (bytes_eq-Decides xs xs).1 refl
-
-record Slot (name : Text) (slot : ℕ) : Type 0 where
-  low : slot < 16
-  is : name ≡ get_or all_names slot []
-
-slot_is : (name : Text) (slot : ℕ) → slot_of name ≡ Some slot → Slot name slot
-unfolding slot_of
-slot_is name slot e =
-    let found = position-Some (λ n. bytes_eq name n) all_names slot [] e in
-    record { low = found.0; is = same_bytes name (get_or all_names slot []) found.1 }
-
--- ---- values
-
--- the values are those that were taken
-abbrev Agree : Values → Taken → Type 0
-Agree values taken = (name : Text) → value_of values name ≡ given_in taken name
-
-has_is : (name : Text) (taken : Taken) → has name taken ≡ is_some (given_in taken name)
-has_is name [] = refl
-has_is name (t ∷ ts) = by (is_named name t) (has_is name ts)
-  where
-    by : (b : Bool) → list_any (is_named name) ts ≡ is_some (given_in ts name) → (b || list_any (is_named name) ts) ≡ is_some (option_map (λ (t : Text × Text). t.1) (cond b (Some t) (find (is_named name) ts)))
-    by true e = refl
-    by false e = e
-
--- the first of two values
-abbrev first_of : Option Text → Option Text → Option Text
-first_of None other = other
-first_of (Some v) other = Some v
-
-given_more : (n : Text) (taken : Taken) (name value : Text) → given_in (taken ++ (name, value) ∷ []) n ≡ first_of (given_in taken n) (cond (bytes_eq name n) (Some value) None)
-given_more n [] name value = by (bytes_eq name n)
-  where
-    by : (b : Bool) → option_map (λ (t : Text × Text). t.1) (cond b (Some (name, value)) None) ≡ cond b (Some value) None
-    by true = refl
-    by false = refl
-given_more n (t ∷ ts) name value = by (is_named n t) (given_more n ts name value)
-  where
-    by : (b : Bool) → given_in (ts ++ (name, value) ∷ []) n ≡ first_of (given_in ts n) (cond (bytes_eq name n) (Some value) None) →
-        option_map (λ (t : Text × Text). t.1) (cond b (Some t) (find (is_named n) (ts ++ (name, value) ∷ []))) ≡ first_of (option_map (λ (t : Text × Text). t.1) (cond b (Some t) (find (is_named n) ts))) (cond (bytes_eq name n) (Some value) None)
-    by true e = refl
-    by false e = e
-
-first_none : (o other : Option Text) → is_some o ≡ false → first_of o other ≡ other
-first_none None other h = refl
-first_none (Some v) other h = absurd (cc)
-
-keep_first : (o : Option Text) → first_of o None ≡ o
-keep_first None = refl
-keep_first (Some v) = refl
-
--- another name's value stays
-other_value : (values : Values) (slot : ℕ) (v : Option Text) (o : Option ℕ) → ((j : ℕ) → o ≡ Some j → j ≢ slot) → value_at (slice_set values slot v) o ≡ value_at values o
-other_value values slot v None h = refl
-other_value values slot v (Some j) h = get_or-set_other values slot j v None (h j refl)
-
-put_agrees : (values : Values) (taken : Taken) (name value : Text) (slot : ℕ) → length values ≡ 16 → slot_of name ≡ Some slot → Agree values taken → is_some (given_in taken name) ≡ false → Agree (slice_set values slot (Some value)) (taken ++ (name, value) ∷ [])
-put_agrees values taken name value slot len e agree free n = by (bytes_eq name n) refl ∙ sym (given_more n taken name value)
-  where
-    at : Slot name slot
-    at = slot_is name slot e
-
-    by : (b : Bool) → bytes_eq name n ≡ b → value_of (slice_set values slot (Some value)) n ≡ first_of (given_in taken n) (cond (bytes_eq name n) (Some value) None)
-    by true same =
-        let is : name ≡ n = same_bytes name n same in
-        let here : slot_of n ≡ Some slot = subst (λ (x : Text). slot_of x ≡ Some slot) is e in
-        let none : is_some (given_in taken n) ≡ false = subst (λ (x : Text). is_some (given_in taken x) ≡ false) is free in
-        let low = at.low in
-        let found : value_of (slice_set values slot (Some value)) n ≡ Some value = ap (value_at (slice_set values slot (Some value))) here ∙ get_or-set_same values slot (Some value) None (omega arith) in
-        found ∙ sym (ap (λ b. first_of (given_in taken n) (cond b (Some value) None)) same ∙ first_none (given_in taken n) (Some value) none)
-    by false differ =
-        let apart : (j : ℕ) → slot_of n ≡ Some j → j ≢ slot = λ j there one.
-        let other = slot_is n j there in
-        let same : name ≡ n = at.is ∙ ap (λ k. get_or all_names k []) (sym one) ∙ sym other.is in
-        let equal : bytes_eq name n ≡ true = ap (bytes_eq name) (sym same) ∙ eq_bytes name in
-        absurd (cc) in
-        other_value values slot (Some value) (slot_of n) apart ∙ agree n ∙ sym (ap (λ b. first_of (given_in taken n) (cond b (Some value) None)) differ ∙ keep_first (given_in taken n))
-
--- ---- the form of a command
-
-abbrev Known : Text → Type 0
-Known name = (slot : ℕ) × (slot_of name ≡ Some slot)
-
-abbrev EachKnown : List Text → Type 0
-EachKnown [] = Unit {0}
-EachKnown (name ∷ names) = Known name × EachKnown names
-
-known_for : (command : CommandName) → EachKnown (form_of command).places × EachKnown (form_of command).options
-unfolding slot_of
-known_for Run = (((0, refl), ((1, refl), tt)), ((7, refl), ((8, refl), ((10, refl), ((11, refl), ((12, refl), ((13, refl), ((14, refl), ((15, refl), tt)))))))))
-known_for Live = (((0, refl), ((1, refl), tt)), ((7, refl), ((9, refl), ((10, refl), ((11, refl), ((12, refl), ((13, refl), ((14, refl), ((15, refl), tt)))))))))
-known_for Replay = (((0, refl), ((1, refl), ((2, refl), tt))), tt)
-known_for Asm = (((3, refl), tt), tt)
-known_for Points = (((0, refl), tt), tt)
-known_for Plan = (((0, refl), ((1, refl), ((4, refl), ((5, refl), tt)))), ((7, refl), tt))
-known_for Stress = (((6, refl), ((8, refl), tt)), tt)
-known_for Relog = (((2, refl), tt), tt)
-
-known_at : (places : List Text) (k : ℕ) (name : Text) → EachKnown places → slice_get places k ≡ Some name → Known name
-known_at [] k name known e = absurd (cc)
-known_at (p ∷ ps) zero name known e = subst Known (some_is p name e) known.0
-  where
-    some_is : (a b : Text) → ◌≡◌ {A = Option Text} (Some a) (Some b) → a ≡ b
-    some_is a b e = cc
-known_at (p ∷ ps) (suc k) name known e = known_at ps k name known.1 e
+-- ---- places
 
 -- the places from the next one on
 abbrev next_places : List Text → ℕ → Option Text → List Text
@@ -142,189 +29,161 @@ next_is (p ∷ ps) (suc k) = next_is ps k ∙ by (slice_get ps k)
     by None = refl
     by (Some name) = refl
 
-bytes_sym : (a b : Text) → bytes_eq a b ≡ bytes_eq b a
-bytes_sym a b = by (bytes_eq a b) (bytes_eq b a) refl refl
-  where
-    by : (x y : Bool) → bytes_eq a b ≡ x → bytes_eq b a ≡ y → bytes_eq a b ≡ bytes_eq b a
-    by true true e f = e ∙ sym f
-    by false false e f = e ∙ sym f
-    by true false e f = let same : bytes_eq b a ≡ true = ap (bytes_eq b) (same_bytes a b e) ∙ eq_bytes b in absurd (cc)
-    by false true e f = let same : bytes_eq a b ≡ true = ap (bytes_eq a) (same_bytes b a f) ∙ eq_bytes a in absurd (cc)
-
-find_option : (options : List Text) (name : Text) → option_named options name ≡ cond (list_any (λ o. bytes_eq name o) options) (Some name) None
-find_option [] name = refl
-find_option (o ∷ os) name = by (find_option os name) (bytes_eq name o) refl
-  where
-    by : option_named os name ≡ cond (list_any (λ o. bytes_eq name o) os) (Some name) None → (b : Bool) → bytes_eq name o ≡ b → option_named (o ∷ os) name ≡ cond (bytes_eq name o || list_any (λ o. bytes_eq name o) os) (Some name) None
-    by later true e =
-        let other : bytes_eq o name ≡ true = bytes_sym o name ∙ e in
-        ap (λ b. cond b (Some o) (find (λ o. bytes_eq o name) os)) other ∙ ap Some (sym (same_bytes name o e)) ∙ ap (λ b. cond (b || list_any (λ o. bytes_eq name o) os) (Some name) None) (sym e)
-    by later false e =
-        let other : bytes_eq o name ≡ false = bytes_sym o name ∙ e in
-        ap (λ b. cond b (Some o) (find (λ o. bytes_eq o name) os)) other ∙ later ∙ ap (λ b. cond (b || list_any (λ o. bytes_eq name o) os) (Some name) None) (sym e)
-
-known_option : (options : List Text) (name : Text) → EachKnown options → list_any (λ o. bytes_eq name o) options ≡ true → Known name
-known_option [] name known e = absurd (cc)
-known_option (o ∷ os) name known e = by (known_option os name known.1) (bytes_eq name o) refl e
-  where
-    by : (list_any (λ o. bytes_eq name o) os ≡ true → Known name) → (b : Bool) → bytes_eq name o ≡ b → (b || list_any (λ o. bytes_eq name o) os) ≡ true → Known name
-    by later true f g = subst Known (sym (same_bytes name o f)) known.0
-    by later false f g = later g
-
 -- ---- both ways of reading
 
 -- values for what was taken, or neither
-abbrev pub Same : Option Values → Option Taken → Type 0
-Same None None = Unit {0}
-Same None (Some t) = ⊥
-Same (Some v) None = ⊥
-Same (Some v) (Some t) = Agree v t
+abbrev pub Same : Form → Option Values → Option Taken → Type 0
+Same form None None = Unit {0}
+Same form None (Some t) = ⊥
+Same form (Some v) None = ⊥
+Same form (Some v) (Some t) = Agree form v t
 
-full_is : (places : List Text) (values : Values) (taken : Taken) → Agree values taken → list_all (λ name. is_some (value_of values name)) places ≡ list_all (λ place. has place taken) places
-full_is [] values taken agree = refl
-full_is (p ∷ ps) values taken agree =
-    ap (λ b. b && list_all (λ name. is_some (value_of values name)) ps) (ap is_some (agree p) ∙ sym (has_is p taken))
-    ∙ ap (λ b. has p taken && b) (full_is ps values taken agree)
+full_is : (form : Form) (places : List Text) (values : Values) (taken : Taken) → Agree form values taken → list_all (λ name. is_some (value_of form values name)) places ≡ list_all (λ place. has place taken) places
+full_is form [] values taken agree = refl
+full_is form (p ∷ ps) values taken agree =
+    ap (λ b. b && list_all (λ name. is_some (value_of form values name)) ps) (ap is_some (agree p) ∙ sym (has_is p taken))
+    ∙ ap (λ b. has p taken && b) (full_is form ps values taken agree)
 
-end_agrees : (form : Form) (values : Values) (taken : Taken) → Agree values taken → Same (cond (list_all (λ name. is_some (value_of values name)) form.places) (Some values) None) (ended form taken)
+end_agrees : (form : Form) (values : Values) (taken : Taken) → Agree form values taken → Same form (cond (list_all (λ name. is_some (value_of form values name)) form.places) (Some values) None) (ended form taken)
 end_agrees form values taken agree =
-    subst (λ b. Same (cond b (Some values) None) (ended form taken)) (sym (full_is form.places values taken agree)) (by (list_all (λ place. has place taken) form.places))
+    subst (λ b. Same form (cond b (Some values) None) (ended form taken)) (sym (full_is form form.places values taken agree)) (by (list_all (λ place. has place taken) form.places))
   where
-    by : (b : Bool) → Same (cond b (Some values) None) (cond b (Some taken) None)
+    by : (b : Bool) → Same form (cond b (Some values) None) (cond b (Some taken) None)
     by true = agree
     by false = tt
 
 -- a value is put where the name was not given before
-put_same : (values : Values) (taken : Taken) (name value : Text) → Known name → length values ≡ 16 → Agree values taken → (F : Option Values → Option Values) (g : Taken → Option Taken) → Same (F None) None → ((vs : Values) (ts : Taken) → length vs ≡ 16 → Agree vs ts → Same (F (Some vs)) (g ts)) →
-    Same (F (put values name value)) (cond (has name taken) None (g (taken ++ (name, value) ∷ [])))
-put_same values taken name value known len agree F g none some =
-    subst (λ (o : Option Values). Same (F o) (cond (has name taken) None (g (taken ++ (name, value) ∷ [])))) (sym put_is)
-    (subst (λ b. Same (F (cond (is_some (get_or values slot None)) None (Some (slice_set values slot (Some value))))) (cond b None (g (taken ++ (name, value) ∷ [])))) (sym has_too) (by (is_some (get_or values slot None)) refl))
+put_same : (form : Form) (few : IsFew form) (values : Values) (taken : Taken) (name value : Text) → Known form name → length values ≡ 16 → Agree form values taken → (F : Option Values → Option Values) (g : Taken → Option Taken) → Same form (F None) None → ((vs : Values) (ts : Taken) → length vs ≡ 16 → Agree form vs ts → Same form (F (Some vs)) (g ts)) →
+    Same form (F (put form values name value)) (cond (has name taken) None (g (taken ++ (name, value) ∷ [])))
+put_same form few values taken name value known len agree F g none some =
+    subst (λ (o : Option Values). Same form (F o) (cond (has name taken) None (g (taken ++ (name, value) ∷ [])))) (sym put_is)
+    (subst (λ b. Same form (F (cond (is_some (get_or values slot None)) None (Some (slice_set values slot (Some value))))) (cond b None (g (taken ++ (name, value) ∷ [])))) (sym has_too) (by (is_some (get_or values slot None)) refl))
   where
     slot : ℕ
     slot = known.0
 
-    there : slot_of name ≡ Some slot
+    there : slot_of form name ≡ Some slot
     there = known.1
 
-    put_is : put values name value ≡ cond (is_some (get_or values slot None)) None (Some (slice_set values slot (Some value)))
+    put_is : put form values name value ≡ cond (is_some (get_or values slot None)) None (Some (slice_set values slot (Some value)))
     put_is = ap (λ (o : Option ℕ). put_at values o value) there
 
-    value_is : value_of values name ≡ get_or values slot None
+    value_is : value_of form values name ≡ get_or values slot None
     value_is = ap (value_at values) there
 
     has_too : has name taken ≡ is_some (get_or values slot None)
     has_too = has_is name taken ∙ ap is_some (sym (agree name)) ∙ ap is_some value_is
 
-    by : (b : Bool) → is_some (get_or values slot None) ≡ b → Same (F (cond (is_some (get_or values slot None)) None (Some (slice_set values slot (Some value))))) (cond (is_some (get_or values slot None)) None (g (taken ++ (name, value) ∷ [])))
-    by true e = subst (λ b. Same (F (cond b None (Some (slice_set values slot (Some value))))) (cond b None (g (taken ++ (name, value) ∷ [])))) (sym e) none
+    by : (b : Bool) → is_some (get_or values slot None) ≡ b → Same form (F (cond (is_some (get_or values slot None)) None (Some (slice_set values slot (Some value))))) (cond (is_some (get_or values slot None)) None (g (taken ++ (name, value) ∷ [])))
+    by true e = subst (λ b. Same form (F (cond b None (Some (slice_set values slot (Some value))))) (cond b None (g (taken ++ (name, value) ∷ [])))) (sym e) none
     by false e =
         let free : is_some (given_in taken name) ≡ false = ap is_some (sym (agree name)) ∙ ap is_some value_is ∙ e in
-        subst (λ b. Same (F (cond b None (Some (slice_set values slot (Some value))))) (cond b None (g (taken ++ (name, value) ∷ [])))) (sym e)
-        (some (slice_set values slot (Some value)) (taken ++ (name, value) ∷ []) (length-set values slot (Some value) ∙ len) (put_agrees values taken name value slot len there agree free))
+        subst (λ b. Same form (F (cond b None (Some (slice_set values slot (Some value))))) (cond b None (g (taken ++ (name, value) ∷ [])))) (sym e)
+        (some (slice_set values slot (Some value)) (taken ++ (name, value) ∷ []) (length-set values slot (Some value) ∙ len) (put_agrees form few values taken name value slot len there agree free))
 
 abbrev walk_at : Values → ℕ → Option Text → Bool → Walk
 walk_at values k awaiting behind = record { values = values; placed = k; awaiting = awaiting; behind = behind }
 
-abbrev run : CommandName → Walk → List Text → Option Values
-run command w words = option_and_then (finished command) (walked command w words)
+abbrev run : Form → Walk → List Text → Option Values
+run form w words = option_and_then (finished form) (walked form w words)
 
-abbrev run_on : CommandName → List Text → Option Walk → Option Values
-run_on command words o = option_and_then (finished command) (option_and_then (λ v. walked command v words) o)
+abbrev run_on : Form → List Text → Option Walk → Option Values
+run_on form words o = option_and_then (finished form) (option_and_then (λ v. walked form v words) o)
 
 -- from values that agree with what was taken both go on the same, wherever the walk stands
-record GoesOn (command : CommandName) (words : List Text) : Type 0 where
-  here : (values : Values) (k : ℕ) (taken : Taken) → length values ≡ 16 → Agree values taken → Same (run command (walk_at values k None false) words) (read (form_of command) (drop k (form_of command).places) taken None words)
-  waits : (values : Values) (k : ℕ) (taken : Taken) (name : Text) → Known name → length values ≡ 16 → Agree values taken → Same (run command (walk_at values k (Some name) false) words) (read (form_of command) (drop k (form_of command).places) taken (Some name) words)
-  past : (values : Values) (k : ℕ) (taken : Taken) → length values ≡ 16 → Agree values taken → Same (run command (walk_at values k None true) words) (behind (form_of command) (drop k (form_of command).places) taken words)
+record GoesOn (form : Form) (words : List Text) : Type 0 where
+  here : (values : Values) (k : ℕ) (taken : Taken) → length values ≡ 16 → Agree form values taken → Same form (run form (walk_at values k None false) words) (read form (drop k form.places) taken None words)
+  waits : (values : Values) (k : ℕ) (taken : Taken) (name : Text) → Known form name → length values ≡ 16 → Agree form values taken → Same form (run form (walk_at values k (Some name) false) words) (read form (drop k form.places) taken (Some name) words)
+  past : (values : Values) (k : ℕ) (taken : Taken) → length values ≡ 16 → Agree form values taken → Same form (run form (walk_at values k None true) words) (behind form (drop k form.places) taken words)
 
-module _ (command : CommandName) (words : List Text) (more : GoesOn command words) (values : Values) (k : ℕ) (taken : Taken) (len : length values ≡ 16) (agree : Agree values taken) where
-  form : Form
-  form = form_of command
-
+module _ (form : Form) (few : IsFew form) (words : List Text) (more : GoesOn form words) (values : Values) (k : ℕ) (taken : Taken) (len : length values ≡ 16) (agree : Agree form values taken) where
   -- a word for the next place
-  place_word : (word : Text) (o : Option Text) → slice_get (form_of command).places k ≡ o → Same (run_on command words (placed_at (walk_at values k None false) o word)) (by_place (next_places (form_of command).places k o) word taken (λ ps t awaiting. read (form_of command) ps t awaiting words))
+  place_word : (word : Text) (o : Option Text) → slice_get form.places k ≡ o → Same form (run_on form words (placed_at form (walk_at values k None false) o word)) (by_place (next_places form.places k o) word taken (λ ps t awaiting. read form ps t awaiting words))
   place_word word None e = tt
   place_word word (Some name) e =
-      put_same values taken name word (known_at (form_of command).places k name (known_for command).0 e) len agree
-      (λ (o : Option Values). run_on command words (option_map (λ vs. record (walk_at values k None false) { values = vs; placed = k + 1 }) o))
-      (λ ts. read (form_of command) (drop (suc k) (form_of command).places) ts None words)
+      put_same form few values taken name word (known_place form k name e) len agree
+      (λ (o : Option Values). run_on form words (option_map (λ vs. record (walk_at values k None false) { values = vs; placed = k + 1 }) o))
+      (λ ts. read form (drop (suc k) form.places) ts None words)
       tt
-      (λ vs ts l a. subst (λ n. Same (run command (walk_at vs n None false) words) (read (form_of command) (drop (suc k) (form_of command).places) ts None words)) (suc_is k) (more.here vs (suc k) ts l a))
+      (λ vs ts l a. subst (λ n. Same form (run form (walk_at vs n None false) words) (read form (drop (suc k) form.places) ts None words)) (suc_is k) (more.here vs (suc k) ts l a))
     where
       suc_is : (k : ℕ) → suc k ≡ k + 1
       suc_is k = omega arith
 
-  past_word : (word : Text) (o : Option Text) → slice_get (form_of command).places k ≡ o → Same (run_on command words (placed_at (walk_at values k None true) o word)) (behind (form_of command) (next_places (form_of command).places k o) taken (word ∷ words))
+  past_word : (word : Text) (o : Option Text) → slice_get form.places k ≡ o → Same form (run_on form words (placed_at form (walk_at values k None true) o word)) (behind form (next_places form.places k o) taken (word ∷ words))
   past_word word None e = tt
   past_word word (Some name) e =
-      put_same values taken name word (known_at (form_of command).places k name (known_for command).0 e) len agree
-      (λ (o : Option Values). run_on command words (option_map (λ vs. record (walk_at values k None true) { values = vs; placed = k + 1 }) o))
-      (λ ts. behind (form_of command) (drop (suc k) (form_of command).places) ts words)
+      put_same form few values taken name word (known_place form k name e) len agree
+      (λ (o : Option Values). run_on form words (option_map (λ vs. record (walk_at values k None true) { values = vs; placed = k + 1 }) o))
+      (λ ts. behind form (drop (suc k) form.places) ts words)
       tt
-      (λ vs ts l a. subst (λ n. Same (run command (walk_at vs n None true) words) (behind (form_of command) (drop (suc k) (form_of command).places) ts words)) (suc_is k) (more.past vs (suc k) ts l a))
+      (λ vs ts l a. subst (λ n. Same form (run form (walk_at vs n None true) words) (behind form (drop (suc k) form.places) ts words)) (suc_is k) (more.past vs (suc k) ts l a))
     where
       suc_is : (k : ℕ) → suc k ≡ k + 1
       suc_is k = omega arith
 
   -- an option, whose value may stand with it
-  option_word : (name : Text) (value : Option Text) (b : Bool) → takes_option command name ≡ b → Same (run_on command words (cond b (with_value (walk_at values k None false) name value) None)) (by_option (cond b (Some name) None) value taken (λ t awaiting. read (form_of command) (drop k (form_of command).places) t awaiting words))
+  option_word : (name : Text) (value : Option Text) (b : Bool) → is_among form.options name ≡ b → Same form (run_on form words (cond b (with_value form (walk_at values k None false) name value) None)) (by_option (cond b (Some name) None) value taken (λ t awaiting. read form (drop k form.places) t awaiting words))
   option_word name value false e = tt
-  option_word name None true e = more.waits values k taken name (known_option (form_of command).options name (known_for command).1 e) len agree
+  option_word name None true e = more.waits values k taken name (known_option form name e) len agree
   option_word name (Some value) true e =
-      put_same values taken name value (known_option (form_of command).options name (known_for command).1 e) len agree
-      (λ (o : Option Values). run_on command words (option_map (λ vs. record (walk_at values k None false) { values = vs }) o))
-      (λ ts. read (form_of command) (drop k (form_of command).places) ts None words)
+      put_same form few values taken name value (known_option form name e) len agree
+      (λ (o : Option Values). run_on form words (option_map (λ vs. record (walk_at values k None false) { values = vs }) o))
+      (λ ts. read form (drop k form.places) ts None words)
       tt
       (λ vs ts l a. more.here vs k ts l a)
 
-  kind_word : (word : Text) (kind : Kind) → Same (run_on command words (by_kind command (walk_at values k None false) kind word)) (grammar.by_kind (form_of command) kind word (drop k (form_of command).places) taken (behind (form_of command) (drop k (form_of command).places) taken words) (λ ps t awaiting. read (form_of command) ps t awaiting words))
+  kind_word : (word : Text) (kind : Kind) → Same form (run_on form words (by_kind form (walk_at values k None false) kind word)) (machine.by_kind form kind word (drop k form.places) taken (behind form (drop k form.places) taken words) (λ ps t awaiting. read form ps t awaiting words))
   kind_word word end_of_options = more.past values k taken len agree
   kind_word word (option name value) =
-      subst (λ (o : Option Text). Same (run_on command words (optioned command (walk_at values k None false) name value)) (by_option o value taken (λ t awaiting. read (form_of command) (drop k (form_of command).places) t awaiting words))) (sym (find_option (form_of command).options name))
-      (option_word name value (takes_option command name) refl)
+      subst (λ (o : Option Text). Same form (run_on form words (optioned form (walk_at values k None false) name value)) (by_option o value taken (λ t awaiting. read form (drop k form.places) t awaiting words))) (sym (find_option form.options name))
+      (option_word name value (is_among form.options name) refl)
   kind_word word other_flag = tt
   kind_word word plain =
-      subst (λ (ps : List Text). Same (run_on command words (placed command (walk_at values k None false) word)) (by_place ps word taken (λ ps t awaiting. read (form_of command) ps t awaiting words))) (sym (next_is (form_of command).places k))
-      (place_word word (slice_get (form_of command).places k) refl)
+      subst (λ (ps : List Text). Same form (run_on form words (placed form (walk_at values k None false) word)) (by_place ps word taken (λ ps t awaiting. read form ps t awaiting words))) (sym (next_is form.places k))
+      (place_word word (slice_get form.places k) refl)
 
-  value_word : (name word : Text) → Known name → (kind : Kind) → Same (run_on command words (by_value (walk_at values k (Some name) false) name kind word)) (grammar.by_value kind name word taken (read (form_of command) (drop k (form_of command).places) (taken ++ (name, word) ∷ []) None words))
+  value_word : (name word : Text) → Known form name → (kind : Kind) → Same form (run_on form words (by_value form (walk_at values k (Some name) false) name kind word)) (machine.by_value kind name word taken (read form (drop k form.places) (taken ++ (name, word) ∷ []) None words))
   value_word name word known end_of_options = tt
   value_word name word known (option other value) = tt
   value_word name word known other_flag = tt
   value_word name word known plain =
-      put_same values taken name word known len agree
-      (λ (o : Option Values). run_on command words (option_map (λ vs. record (walk_at values k (Some name) false) { values = vs; awaiting = None }) o))
-      (λ ts. read (form_of command) (drop k (form_of command).places) ts None words)
+      put_same form few values taken name word known len agree
+      (λ (o : Option Values). run_on form words (option_map (λ vs. record (walk_at values k (Some name) false) { values = vs; awaiting = None }) o))
+      (λ ts. read form (drop k form.places) ts None words)
       tt
       (λ vs ts l a. more.here vs k ts l a)
 
-  behind_word : (word : Text) → Same (run_on command words (placed command (walk_at values k None true) word)) (behind (form_of command) (drop k (form_of command).places) taken (word ∷ words))
+  behind_word : (word : Text) → Same form (run_on form words (placed form (walk_at values k None true) word)) (behind form (drop k form.places) taken (word ∷ words))
   behind_word word =
-      subst (λ (ps : List Text). Same (run_on command words (placed command (walk_at values k None true) word)) (behind (form_of command) ps taken (word ∷ words))) (sym (next_is (form_of command).places k))
-      (past_word word (slice_get (form_of command).places k) refl)
+      subst (λ (ps : List Text). Same form (run_on form words (placed form (walk_at values k None true) word)) (behind form ps taken (word ∷ words))) (sym (next_is form.places k))
+      (past_word word (slice_get form.places k) refl)
 
-goes_on : (command : CommandName) (words : List Text) → GoesOn command words
-goes_on command [] = record {
-  here = λ values k taken len agree. end_agrees (form_of command) values taken agree;
+goes_on : (form : Form) (few : IsFew form) (words : List Text) → GoesOn form words
+goes_on form few [] = record {
+  here = λ values k taken len agree. end_agrees form values taken agree;
   waits = λ values k taken name known len agree. tt;
-  past = λ values k taken len agree. end_agrees (form_of command) values taken agree;
+  past = λ values k taken len agree. end_agrees form values taken agree;
 }
-goes_on command (word ∷ words) = record {
-  here = λ values k taken len agree. kind_word command words (goes_on command words) values k taken len agree word (kind_of word);
-  waits = λ values k taken name known len agree. value_word command words (goes_on command words) values k taken len agree name word known (kind_of word);
-  past = λ values k taken len agree. behind_word command words (goes_on command words) values k taken len agree word;
+goes_on form few (word ∷ words) = record {
+  here = λ values k taken len agree. kind_word form few words (goes_on form few words) values k taken len agree word (kind_of word);
+  waits = λ values k taken name known len agree. value_word form few words (goes_on form few words) values k taken len agree name word known (kind_of word);
+  past = λ values k taken len agree. behind_word form few words (goes_on form few words) values k taken len agree word;
 }
 
-none_in : (m n : ℕ) → get_or {A = Option Text} (replicate m None) n None ≡ None
-none_in zero n = refl
-none_in (suc m) zero = refl
-none_in (suc m) (suc n) = none_in m n
-
-none_at : (o : Option ℕ) → value_at no_values o ≡ None
-none_at None = refl
-none_at (Some slot) = none_in 16 slot
+same_then_given : (form : Form) (v : Option Values) (r t : Option Taken) → Same form v r → SameGiven r t → Same form v t
+same_then_given form None None t h k = by t k
+  where
+    by : (t : Option Taken) → SameGiven None t → Same form None t
+    by None k = tt
+    by (Some t) k = absurd k
+same_then_given form None (Some r) t h k = absurd h
+same_then_given form (Some v) None t h k = absurd h
+same_then_given form (Some v) (Some r) None h k = absurd k
+same_then_given form (Some v) (Some r) (Some t) h k = λ name. h name ∙ k name
 
 -- The values are those that the grammar takes.
-pub same_values : (command : CommandName) (words : List Text) → Same (values_of command words) (taken_of (form_of command) words)
-same_values command words = (goes_on command words).here no_values 0 [] refl (λ name. none_at (slot_of name))
+pub same_values : (form : Form) → IsFew form → each_once form.places ≡ true → list_any (is_among form.options) form.places ≡ false → (words : List Text) → Same form (values_of form words) (taken_of form words)
+same_values form few once unlike words =
+    same_then_given form (values_of form words) (machine_takes form words) (taken_of form words)
+    ((goes_on form few words).here no_values 0 [] refl (λ name. none_at (slot_of form name))) (machine_same form once unlike words)

@@ -1,42 +1,59 @@
--- clap takes exactly the words of each command.
-use Rattle.std.proofs.Common.{◌≡◌, ℕ, ◌+◌, Bool, true, false, cond, not, ◌&&◌, ◌||◌, List, [], ◌∷◌, ◌++◌, refl, subst, Option, None, Some, is_some, codes, map}
-use Rattle.std.specs.Prelude.{drop, find, option_map, option_and_then, slice_get}
+-- The rules of a form fit it, so that clap takes exactly its words.
+use Rattle.std.proofs.Common.{◌≡◌, ℕ, ◌+◌, Bool, true, false, cond, not, ◌&&◌, ◌||◌, List, [], ◌∷◌, ◌++◌, refl, ap, sym, ◌∙◌, Option, None, Some, map}
+use Rattle.std.specs.Prelude.{find, option_map, slice_get}
+use Rattle.std.specs.Option.{option_and_then}
 use Rattle.std.specs.List.{list_all, list_any}
 use Rattle.std.specs.Str.{bytes_eq}
-use Rattle.clap.specs.Walk.{Row, Rule, arg_by_id, has_long, first_of}
+use Rattle.clap.specs.Walk.{Row, Rule, arg_by_id, arg_by_long, arg_by_short, first_of}
 use Rattle.clap.specs.Takes.{is_given}
 use Rattle.clap.specs.Kinds.{Kinds}
-use Rattle.clap.specs.Words.{fault_of, matches_of}
-use Rattle.command_words.specs.Apps.{app_for}
-use Rattle.command_words.specs.Grammar.{Text, Taken, has, is_named, taken_of}
-use Rattle.command_words.specs.Requests.{form_of, given_in}
-use Rattle.command_words.specs.declared.commands.CommandName.{CommandName}
-use Rattle.command_words.specs.declared.commands.CommandName.TheVariants.{Run, Live, Replay, Asm, Points, Plan, Stress, Relog}
-use Rattle.command_words.proofs.Rows.{row, option_rule, place_rules, rules_of, Fits, is_given-row}
-use Rattle.command_words.proofs.Walks.{Agrees, AreUtf8, takes_exactly}
+use Rattle.command_words.specs.Grammar.{Text, Form, Taken, given_in, is_among, is_named}
+use Rattle.command_words.proofs.Machine.{has, option_named}
+use Rattle.command_words.proofs.ValuesTaken.{bytes_sym, same_bytes, not_same}
+use Rattle.command_words.proofs.Rows.{row, option_rule, place_rules, rules_of, Fits, NoDefaults, PlacesFit, is_given-row}
+use Rattle.command_words.proofs.Settling.{Agrees}
 
 -- ---- the rules of a form
 
-long_of_options : (options : List Text) (name : Text) → find (λ (a : Rule). not (is_some a.index) && has_long a name) (map option_rule options) ≡ option_map option_rule (find (λ o. bytes_eq o name) options)
+long_of_options : (options : List Text) (name : Text) → arg_by_long (map option_rule options) name ≡ option_map option_rule (option_named options name)
 long_of_options [] name = refl
 long_of_options (o ∷ os) name = go (long_of_options os name) (bytes_eq o name)
   where
-    go : find (λ (a : Rule). not (is_some a.index) && has_long a name) (map option_rule os) ≡ option_map option_rule (find (λ o. bytes_eq o name) os) → (b : Bool) →
-        cond (b || false) (Some (option_rule o)) (find (λ (a : Rule). not (is_some a.index) && has_long a name) (map option_rule os)) ≡ option_map option_rule (cond b (Some o) (find (λ o. bytes_eq o name) os))
+    go : arg_by_long (map option_rule os) name ≡ option_map option_rule (option_named os name) → (b : Bool) →
+        cond (b || false) (Some (option_rule o)) (arg_by_long (map option_rule os) name) ≡ option_map option_rule (cond b (Some o) (option_named os name))
     go h true = refl
     go h false = h
 
-abbrev EachKnown : List Rule → List Text → Type 0
-EachKnown rules [] = Unit {0}
-EachKnown rules (o ∷ os) = (arg_by_id rules o ≡ Some (option_rule o)) × EachKnown rules os
+long_of : (i : ℕ) (places options : List Text) (name : Text) → arg_by_long (place_rules i places ++ map option_rule options) name ≡ option_map option_rule (option_named options name)
+long_of i [] options name = long_of_options options name
+long_of i (place ∷ places) options name = long_of (i + 1) places options name
 
-found_known : (rules : List Rule) (options : List Text) (name o : Text) → EachKnown rules options → find (λ o. bytes_eq o name) options ≡ Some o → arg_by_id rules o ≡ Some (option_rule o)
-found_known rules [] name o known e = absurd (cc)
-found_known rules (p ∷ ps) name o known e = go (found_known rules ps name o known.1) (bytes_eq p name) e
+no_short : (i : ℕ) (places options : List Text) (c : ℕ) → arg_by_short (place_rules i places ++ map option_rule options) c ≡ None
+no_short i [] [] c = refl
+no_short i [] (o ∷ os) c = no_short i [] os c
+no_short i (place ∷ places) options c = no_short (i + 1) places options c
+
+id_of_options : (options : List Text) (o : Text) → arg_by_id (map option_rule options) o ≡ option_map option_rule (option_named options o)
+id_of_options [] o = refl
+id_of_options (p ∷ ps) o = go (id_of_options ps o) (bytes_eq p o)
   where
-    go : (find (λ o. bytes_eq o name) ps ≡ Some o → arg_by_id rules o ≡ Some (option_rule o)) → (b : Bool) → cond b (Some p) (find (λ o. bytes_eq o name) ps) ≡ Some o → arg_by_id rules o ≡ Some (option_rule o)
-    go h true f = let same : p ≡ o = cc in subst (λ o. arg_by_id rules o ≡ Some (option_rule o)) same known.0
-    go h false f = h f
+    go : arg_by_id (map option_rule ps) o ≡ option_map option_rule (option_named ps o) → (b : Bool) → cond b (Some (option_rule p)) (arg_by_id (map option_rule ps) o) ≡ option_map option_rule (cond b (Some p) (option_named ps o))
+    go h true = refl
+    go h false = h
+
+id_of : (i : ℕ) (places options : List Text) (o : Text) → is_among places o ≡ false → arg_by_id (place_rules i places ++ map option_rule options) o ≡ option_map option_rule (option_named options o)
+id_of i [] options o e = id_of_options options o
+id_of i (place ∷ places) options o e = go (bytes_eq o place) (bytes_sym place o) e (id_of (i + 1) places options o)
+  where
+    go : (b : Bool) → bytes_eq place o ≡ b → (b || is_among places o) ≡ false → (is_among places o ≡ false → arg_by_id (place_rules (i + 1) places ++ map option_rule options) o ≡ option_map option_rule (option_named options o)) →
+        arg_by_id (place_rules i (place ∷ places) ++ map option_rule options) o ≡ option_map option_rule (option_named options o)
+    go true f g h = absurd (cc)
+    go false f g h = rw f (h g)
+
+no_defaults_of : (i : ℕ) (places options : List Text) → NoDefaults (place_rules i places ++ map option_rule options)
+no_defaults_of i [] [] = tt
+no_defaults_of i [] (o ∷ os) = (refl, no_defaults_of i [] os)
+no_defaults_of i (place ∷ places) options = (refl, no_defaults_of (i + 1) places options)
 
 abbrev is_wanting : Taken → Rule → Bool
 is_wanting taken a = a.required && not (is_given a.id (map row taken))
@@ -56,97 +73,42 @@ wanted i (place ∷ places) options taken = go (wanted (i + 1) places options ta
     go h true false e = absurd (cc)
     go h false true e = absurd (cc)
 
-fits_run : Fits (form_of Run) (rules_of (form_of Run))
-fits_run = record {
-  places = (refl, refl, refl, (refl, refl, refl, refl));
-  long = λ text. long_of_options (form_of Run).options text;
-  id = λ text o e. found_known (rules_of (form_of Run)) (form_of Run).options text o (refl, (refl, (refl, (refl, (refl, (refl, (refl, (refl, tt)))))))) e;
-  short = λ c. refl;
-  defaults = (refl, (refl, (refl, (refl, (refl, (refl, (refl, (refl, (refl, (refl, tt))))))))));
-  required = λ taken. wanted 1 (form_of Run).places (form_of Run).options taken;
+-- an option that was found has the name that was sought
+found_is : (options : List Text) (text o : Text) → option_named options text ≡ Some o → (text ≡ o) × (is_among options text ≡ true)
+found_is [] text o e = absurd (cc)
+found_is (p ∷ ps) text o e = go (bytes_eq text p) (bytes_sym p text) refl e (found_is ps text o)
+  where
+    go : (b : Bool) → bytes_eq p text ≡ b → bytes_eq text p ≡ b → option_named (p ∷ ps) text ≡ Some o → (option_named ps text ≡ Some o → (text ≡ o) × (is_among ps text ≡ true)) → (text ≡ o) × (is_among (p ∷ ps) text ≡ true)
+    go true f t g h =
+        let here : Some p ≡ Some o = ap (λ b. cond b (Some p) (option_named ps text)) (sym f) ∙ g in
+        let same : p ≡ o = cc in
+        (same_bytes text p t ∙ same, ap (λ b. b || is_among ps text) t)
+    go false f t g h =
+        let later = h (ap (λ b. cond b (Some p) (option_named ps text)) (sym f) ∙ g) in
+        (later.0, ap (λ b. b || is_among ps text) t ∙ later.1)
+
+no_place : (options places : List Text) (name : Text) → list_any (is_among options) places ≡ false → is_among options name ≡ true → is_among places name ≡ false
+no_place options [] name unlike e = refl
+no_place options (place ∷ places) name unlike e = go (is_among options place) refl unlike (no_place options places name)
+  where
+    go : (b : Bool) → is_among options place ≡ b → (b || list_any (is_among options) places) ≡ false → (list_any (is_among options) places ≡ false → is_among options name ≡ true → is_among places name ≡ false) → is_among (place ∷ places) name ≡ false
+    go true f g h = absurd (cc)
+    go false f g h = ap (λ b. b || is_among places name) (not_same options name place e f) ∙ h g e
+
+pub fits_with : (form : Form) → PlacesFit (rules_of form) 1 form.places → list_any (is_among form.options) form.places ≡ false → Fits form (rules_of form)
+fits_with form places unlike = record {
+  places = places;
+  long = λ text. long_of 1 form.places form.options text;
+  id = λ text o e.
+      let found = found_is form.options text o e in
+      id_of 1 form.places form.options o (no_place form.options form.places o unlike (ap (is_among form.options) (sym found.0) ∙ found.1))
+      ∙ ap (option_map option_rule) (ap (option_named form.options) (sym found.0) ∙ e);
+  short = λ c. no_short 1 form.places form.options c;
+  defaults = no_defaults_of 1 form.places form.options;
+  required = λ taken. wanted 1 form.places form.options taken;
 }
 
-fits_live : Fits (form_of Live) (rules_of (form_of Live))
-fits_live = record {
-  places = (refl, refl, refl, (refl, refl, refl, refl));
-  long = λ text. long_of_options (form_of Live).options text;
-  id = λ text o e. found_known (rules_of (form_of Live)) (form_of Live).options text o (refl, (refl, (refl, (refl, (refl, (refl, (refl, (refl, tt)))))))) e;
-  short = λ c. refl;
-  defaults = (refl, (refl, (refl, (refl, (refl, (refl, (refl, (refl, (refl, (refl, tt))))))))));
-  required = λ taken. wanted 1 (form_of Live).places (form_of Live).options taken;
-}
-
-fits_replay : Fits (form_of Replay) (rules_of (form_of Replay))
-fits_replay = record {
-  places = (refl, refl, refl, (refl, refl, refl, (refl, refl, refl, refl)));
-  long = λ text. refl;
-  id = λ text o e. found_known (rules_of (form_of Replay)) [] text o tt e;
-  short = λ c. refl;
-  defaults = (refl, (refl, (refl, tt)));
-  required = λ taken. wanted 1 (form_of Replay).places [] taken;
-}
-
-fits_asm : Fits (form_of Asm) (rules_of (form_of Asm))
-fits_asm = record {
-  places = (refl, refl, refl, refl);
-  long = λ text. refl;
-  id = λ text o e. found_known (rules_of (form_of Asm)) [] text o tt e;
-  short = λ c. refl;
-  defaults = (refl, tt);
-  required = λ taken. wanted 1 (form_of Asm).places [] taken;
-}
-
-fits_points : Fits (form_of Points) (rules_of (form_of Points))
-fits_points = record {
-  places = (refl, refl, refl, refl);
-  long = λ text. refl;
-  id = λ text o e. found_known (rules_of (form_of Points)) [] text o tt e;
-  short = λ c. refl;
-  defaults = (refl, tt);
-  required = λ taken. wanted 1 (form_of Points).places [] taken;
-}
-
-fits_plan : Fits (form_of Plan) (rules_of (form_of Plan))
-fits_plan = record {
-  places = (refl, refl, refl, (refl, refl, refl, (refl, refl, refl, (refl, refl, refl, refl))));
-  long = λ text. long_of_options (form_of Plan).options text;
-  id = λ text o e. found_known (rules_of (form_of Plan)) (form_of Plan).options text o (refl, tt) e;
-  short = λ c. refl;
-  defaults = (refl, (refl, (refl, (refl, (refl, tt)))));
-  required = λ taken. wanted 1 (form_of Plan).places (form_of Plan).options taken;
-}
-
-fits_stress : Fits (form_of Stress) (rules_of (form_of Stress))
-fits_stress = record {
-  places = (refl, refl, refl, (refl, refl, refl, refl));
-  long = λ text. refl;
-  id = λ text o e. found_known (rules_of (form_of Stress)) [] text o tt e;
-  short = λ c. refl;
-  defaults = (refl, (refl, tt));
-  required = λ taken. wanted 1 (form_of Stress).places [] taken;
-}
-
-fits_relog : Fits (form_of Relog) (rules_of (form_of Relog))
-fits_relog = record {
-  places = (refl, refl, refl, refl);
-  long = λ text. refl;
-  id = λ text o e. found_known (rules_of (form_of Relog)) [] text o tt e;
-  short = λ c. refl;
-  defaults = (refl, tt);
-  required = λ taken. wanted 1 (form_of Relog).places [] taken;
-}
-
--- ---- each command
-
-pub agrees_for : (name : CommandName) (words : List Text) → AreUtf8 (drop 1 words) → Agrees (taken_of (form_of name) (drop 1 words)) (fault_of (app_for name) words) (matches_of (app_for name) words)
-agrees_for Run words u = takes_exactly (codes "run") (form_of Run) (rules_of (form_of Run)) fits_run (drop 1 words) u
-agrees_for Live words u = takes_exactly (codes "live") (form_of Live) (rules_of (form_of Live)) fits_live (drop 1 words) u
-agrees_for Replay words u = takes_exactly (codes "replay") (form_of Replay) (rules_of (form_of Replay)) fits_replay (drop 1 words) u
-agrees_for Asm words u = takes_exactly (codes "asm") (form_of Asm) (rules_of (form_of Asm)) fits_asm (drop 1 words) u
-agrees_for Points words u = takes_exactly (codes "points") (form_of Points) (rules_of (form_of Points)) fits_points (drop 1 words) u
-agrees_for Plan words u = takes_exactly (codes "plan") (form_of Plan) (rules_of (form_of Plan)) fits_plan (drop 1 words) u
-agrees_for Stress words u = takes_exactly (codes "stress") (form_of Stress) (rules_of (form_of Stress)) fits_stress (drop 1 words) u
-agrees_for Relog words u = takes_exactly (codes "relog") (form_of Relog) (rules_of (form_of Relog)) fits_relog (drop 1 words) u
+-- ---- what clap holds
 
 -- the value of a name
 pub first_of-row : (name : Text) (taken : Taken) → first_of name (map row taken) ≡ given_in taken name

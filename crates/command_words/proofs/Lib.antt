@@ -1,11 +1,20 @@
+pub mod SeenNames
 pub mod WordKinds
 pub mod Rows
+pub mod Settling
 pub mod Walks
 pub mod Fitting
 pub mod Simple
 pub mod Reading
 pub mod Ranges
-mod Words
+mod Machine
+mod ValuesTaken
+mod LeftToTake
+mod MachineAndGrammar
+mod Slots
 mod Agreeing
+mod CommandsChecked
+mod Words
+mod GrammarRows
 mod GivenLogs
 mod SettingsGiven

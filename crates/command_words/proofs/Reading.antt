@@ -4,8 +4,9 @@ use Rattle.std.specs.Prelude.{String, slice_get}
 use Rattle.std.specs.Option.{option_and_then}
 use Rattle.clap.specs.declared.parser.matches.ArgMatches.{ArgMatches}
 use Rattle.command_words.specs.Asked.{Holds, given_by}
-use Rattle.command_words.specs.Grammar.{Text, Taken, taken_of}
-use Rattle.command_words.specs.Requests.{form_of, given_in, command_named, request_from, request_of}
+use Rattle.command_words.specs.Grammar.{Text, Taken, given_in, taken_of}
+use Rattle.command_words.specs.Commands.{form_of, command_named}
+use Rattle.command_words.specs.Requests.{request_from, request_of}
 use Rattle.command_words.specs.declared.commands.CommandName.{CommandName}
 
 request_reads-from : (word : Text) (words : List Text) (name : CommandName) (m : ArgMatches) → command_named word ≡ Some name → Holds (form_of name) words m → request_of (word ∷ words) ≡ request_from name (given_by m)

@@ -15,7 +15,8 @@ use Rattle.clap.specs.Faults.{use_fault, repeat_fault, default_fault, defaults_f
 use Rattle.clap.specs.declared.builder.value_parser.Reading.{Reading}
 use Rattle.clap.specs.declared.parser.matches.ValueSource.TheVariants.{CommandLine}
 use Rattle.command_words.specs.Apps.{place_arg, option_arg}
-use Rattle.command_words.specs.Grammar.{Text, Form, Taken, has}
+use Rattle.command_words.specs.Grammar.{Text, Form, Taken}
+use Rattle.command_words.proofs.Machine.{has}
 
 -- ---- the rules of a command's positional words and options
 

@@ -1,5 +1,5 @@
 -- Settings from their numbers.
-use Rattle.std.proofs.Common.{◌≡◌, ℕ, Option, Some, None, refl, sym, ap, ◌∙◌}
+use Rattle.std.proofs.Common.{◌≡◌, ℕ, Option, Some, None, ap, ◌∙◌}
 use Rattle.pn_types.specs.declared.settings.Start.TheVariants.{Cold}
 use Rattle.command_words.specs.Requests.{settings_told}
 

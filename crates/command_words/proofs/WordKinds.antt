@@ -34,8 +34,8 @@ word_is [] u = simple refl refl refl refl
 word_is (a ∷ []) u = one (a == 45) refl
   where
     one : (t : Bool) → (a == 45) ≡ t → Word (a ∷ [])
-    one true e = simple refl (rw e refl) (rw e refl) (rw e refl)
-    one false e = simple refl (rw e refl) (rw e refl) (rw e refl)
+    one true e = simple (rw e refl) (rw e refl) (rw e refl) (rw e refl)
+    one false e = simple (rw e refl) (rw e refl) (rw e refl) (rw e refl)
 word_is (a ∷ b ∷ []) u = two (a == 45) refl (b == 45) refl
   where
     two : (t : Bool) → (a == 45) ≡ t → (v : Bool) → (b == 45) ≡ v → Word (a ∷ b ∷ [])

@@ -26,10 +26,14 @@ by_first a b rest true e h = absurd (h (b ∷ rest) (ap (λ x. x ∷ b ∷ rest)
 by_first a b [] false e h = rw e refl
 by_first a b (c ∷ rest) false e h = rw e refl
 
+by_only : (a : ℕ) (t : Bool) → (a == 45) ≡ t → plain ≡ kind_of (a ∷ [])
+by_only a true e = rw e refl
+by_only a false e = rw e refl
+
 -- a word that doesn't begin with `-` is plain
 no_hyphen : (word : Text) → ((rest : Text) → word ≢ 45 ∷ rest) → plain ≡ kind_of word
 no_hyphen [] h = refl
-no_hyphen (a ∷ []) h = refl
+no_hyphen (a ∷ []) h = by_only a (a == 45) refl
 no_hyphen (a ∷ b ∷ rest) h = by_first a b rest (a == 45) refl h
 
 by_second : (b : ℕ) (rest : Text) (t : Bool) → (b == 45) ≡ t → ((other : Text) → b ∷ rest ≢ 45 ∷ other) → other_flag ≡ kind_of (45 ∷ b ∷ rest)

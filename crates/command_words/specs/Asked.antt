@@ -2,9 +2,8 @@
 use Rattle.std.specs.Prelude.{◌≡◌, List, Some, option_map}
 use Rattle.clap.specs.Words.{first_value, found_of}
 use Rattle.clap.specs.declared.parser.matches.ArgMatches.{ArgMatches}
-use Rattle.command_words.specs.Grammar.{Text, Form, Taken, taken_of}
+use Rattle.command_words.specs.Grammar.{Text, Form, Given, Taken, given_in, taken_of}
 use Rattle.command_words.specs.Requests as request
-use Rattle.command_words.specs.Requests.{Given, given_in}
 use Rattle.command_words.specs.declared.requests.Request.{Request}
 use Rattle.command_words.specs.declared.requests.Request.TheVariants.{Run, Plan, Asm, Points, Later}
 use Rattle.command_words.specs.declared.requests.RunRequest.{RunRequest}

@@ -1,6 +1,9 @@
 -- The words of a command: positional words, options with a value each, and `--` before words that are all positional.
-use Rattle.std.specs.Prelude.{ℕ, ◌==◌, ◌++◌, if◌then◌else◌, Bool, List, [], ◌∷◌, Option, Some, None, find}
-use Rattle.std.specs.List.{list_any, list_all, before_first, after_first}
+-- They are split at a first `--`, options are paired with their values, and then words and names are held against the form
+-- of the command.
+use Rattle.std.specs.Prelude.{ℕ, ◌==◌, ◌++◌, ◌&&◌, not, if◌then◌else◌, Bool, true, List, [], ◌∷◌, Option, Some, None, codes, drop, find, length, map, option_map, take}
+use Rattle.std.specs.List.{after_first, before_first, filter_map, list_all, list_any, zip}
+use Rattle.std.specs.Option.{option_and_then}
 use Rattle.std.specs.Str.{bytes_eq}
 
 abbrev pub Text : Type 0
@@ -25,75 +28,98 @@ is_equals c = c == 61
 abbrev pub option_kind : Text → Kind
 option_kind text = option (before_first is_equals text) (if list_any is_equals text then Some (after_first is_equals text) else None)
 
+abbrev pub begins : Text → Text → Bool
+begins front word = bytes_eq (take (length front) word) front
+
+-- whether the word is the `--` behind which all words are positional
+abbrev pub is_separator : Text → Bool
+is_separator word = bytes_eq word (codes "--")
+
 abbrev pub kind_of : Text → Kind
-kind_of [] = plain
-kind_of (a ∷ []) = plain
-kind_of (a ∷ b ∷ []) = if a == 45 then (if b == 45 then end_of_options else other_flag) else plain
-kind_of (a ∷ b ∷ c ∷ rest) = if a == 45 then (if b == 45 then option_kind (c ∷ rest) else other_flag) else plain
+kind_of word =
+    if is_separator word then end_of_options
+    else if begins (codes "--") word then option_kind (drop 2 word)
+    else if begins (codes "-") word && not (bytes_eq word (codes "-")) then other_flag
+    else plain
+
+-- ---- options with their values
+
+pub data Item : Type 0 where
+  -- a positional word
+  positional : Text → Item
+  -- an option's name and its value
+  valued : Text → Text → Item
+
+-- An option that has no value in its own word takes the next word, which must be there and mustn't begin with `-`, unless
+-- it is `-` alone.
+abbrev pub with_next : Text → List Item → Option (List Item)
+with_next name [] = None
+with_next name (positional word ∷ items) = Some (valued name word ∷ items)
+with_next name (valued other value ∷ items) = None
+
+-- a word before the items of the words behind it
+abbrev pub with_word : Kind → Text → List Item → Option (List Item)
+with_word plain word items = Some (positional word ∷ items)
+with_word (option name (Some value)) word items = Some (valued name value ∷ items)
+with_word (option name None) word items = with_next name items
+with_word other_flag word items = None
+with_word end_of_options word items = None
+
+-- The items of words among which no `--` stands; none where a word is refused.
+abbrev pub items_of : List Text → Option (List Item)
+items_of [] = Some []
+items_of (word ∷ words) = option_and_then (with_word (kind_of word) word) (items_of words)
+
+-- names with values
+abbrev pub Taken : Type 0
+Taken = List (Text × Text)
+
+abbrev pub word_in : Item → Option Text
+word_in (positional word) = Some word
+word_in (valued name value) = None
+
+abbrev pub option_in : Item → Option (Text × Text)
+option_in (positional word) = None
+option_in (valued name value) = Some (name, value)
 
 -- ---- what a command takes
 
--- a command's positional words, by name and in order, and the names of its options
+-- a command's own word, its positional words by name and in order, and the names of its options
 pub record Form : Type 0 where
+  pub word : Text
   pub places : List Text
   pub options : List Text
 
--- what was taken so far: names with values, in the order of the words
-abbrev pub Taken : Type 0
-Taken = List (Text × Text)
+abbrev pub is_among : List Text → Text → Bool
+is_among names name = list_any (bytes_eq name) names
+
+-- no name stands twice
+abbrev pub each_once : List Text → Bool
+each_once [] = true
+each_once (name ∷ names) = not (is_among names name) && each_once names
+
+-- There are exactly as many positional words as the command has, and each option is one of its own and given once.
+abbrev pub fits : Form → List Text → List Text → Bool
+fits form words names = (length words == length form.places) && list_all (is_among form.options) names && each_once names
+
+-- the positional words by their names, and the options
+abbrev pub taken_by : Form → List Text → Taken → Option Taken
+taken_by form words options = if fits form words (map (λ o. o.0) options) then Some (zip form.places words ++ options) else None
+
+-- What the words of a command give, those behind the command's own. Those behind a first `--` are positional.
+abbrev pub taken_of : Form → List Text → Option Taken
+taken_of form words =
+    option_and_then (λ items. taken_by form (filter_map word_in items ++ after_first is_separator words) (filter_map option_in items))
+    (items_of (before_first is_separator words))
+
+-- ---- values by name
+
+-- the value of each name, where it was given
+abbrev pub Given : Type 0
+Given = Text → Option Text
 
 abbrev pub is_named : Text → Text × Text → Bool
 is_named name t = bytes_eq t.0 name
 
-abbrev pub has : Text → Taken → Bool
-has name taken = list_any (is_named name) taken
-
--- at the end each place has its word
-abbrev pub ended : Form → Taken → Option Taken
-ended form taken = if list_all (λ place. has place taken) form.places then Some taken else None
-
--- behind `--` each word takes the next place
-abbrev pub behind : Form → List Text → Taken → List Text → Option Taken
-behind form places taken [] = ended form taken
-behind form [] taken (word ∷ words) = None
-behind form (place ∷ places) taken (word ∷ words) = if has place taken then None else behind form places (taken ++ (place, word) ∷ []) words
-
--- a plain word takes the next place
-abbrev pub by_place : List Text → Text → Taken → (List Text → Taken → Option Text → Option Taken) → Option Taken
-by_place [] word taken next = None
-by_place (place ∷ places) word taken next = if has place taken then None else next places (taken ++ (place, word) ∷ []) None
-
--- an option of the command takes its value, which may be the next word; an option is given at most once
-abbrev pub by_option : Option Text → Option Text → Taken → (Taken → Option Text → Option Taken) → Option Taken
-by_option None value taken next = None
-by_option (Some name) (Some value) taken next = if has name taken then None else next (taken ++ (name, value) ∷ []) None
-by_option (Some name) None taken next = next taken (Some name)
-
--- the command's option of this name
-abbrev pub option_named : List Text → Text → Option Text
-option_named options name = find (λ o. bytes_eq o name) options
-
-abbrev pub by_kind : Form → Kind → Text → List Text → Taken → Option Taken → (List Text → Taken → Option Text → Option Taken) → Option Taken
-by_kind form end_of_options word places taken rest next = rest
-by_kind form (option name value) word places taken rest next = by_option (option_named form.options name) value taken (next places)
-by_kind form other_flag word places taken rest next = None
-by_kind form plain word places taken rest next = by_place places word taken next
-
--- the next word as the value of an option
-abbrev pub by_value : Kind → Text → Text → Taken → Option Taken → Option Taken
-by_value plain name word taken next = if has name taken then None else next
-by_value end_of_options name word taken next = None
-by_value (option other value) name word taken next = None
-by_value other_flag name word taken next = None
-
--- What words give, from the places that are left, what was taken, and the option that awaits its value.
-abbrev pub read : Form → List Text → Taken → Option Text → List Text → Option Taken
-read form places taken None [] = ended form taken
-read form places taken (Some name) [] = None
-read form places taken (Some name) (word ∷ words) = by_value (kind_of word) name word taken (read form places (taken ++ (name, word) ∷ []) None words)
-read form places taken None (word ∷ words) =
-    by_kind form (kind_of word) word places taken (behind form places taken words) (λ ps t awaiting. read form ps t awaiting words)
-
--- What the words of a command give, those behind the command's own.
-abbrev pub taken_of : Form → List Text → Option Taken
-taken_of form words = read form form.places [] None words
+abbrev pub given_in : Taken → Given
+given_in taken name = option_map (λ t. t.1) (find (is_named name) taken)

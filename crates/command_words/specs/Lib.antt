@@ -1,4 +1,6 @@
 pub mod Grammar
+pub mod Commands
+pub mod Numbers
 pub mod Requests
 pub mod Apps
 pub mod Logs

@@ -1,8 +1,9 @@
 -- Where the log of a run is to go.
 use Rattle.std.specs.Prelude.{List, [], ◌∷◌, Option, None, codes}
 use Rattle.std.specs.Option.{option_and_then}
-use Rattle.command_words.specs.Grammar.{Text, taken_of}
-use Rattle.command_words.specs.Requests.{Given, given_in, form_of, command_named, request_from}
+use Rattle.command_words.specs.Grammar.{Text, Given, given_in, taken_of}
+use Rattle.command_words.specs.Commands.{form_of, command_named}
+use Rattle.command_words.specs.Requests.{request_from}
 use Rattle.command_words.specs.declared.commands.CommandName.{CommandName}
 
 -- the value of `log`, where a command's values are those of a request

@@ -1,65 +1,21 @@
 -- What the words ask for.
-use Rattle.std.specs.Prelude.{◌≤◌, ℕ, nat_le, if◌then◌else◌, List, [], ◌∷◌, Option, Some, None, codes, find, option_map, unwrap_or}
-use Rattle.std.specs.Option.{option_and_then, option_map_or}
-use Rattle.std.specs.Str.{bytes_eq}
+use Rattle.std.specs.Prelude.{◌≤◌, ℕ, List, [], ◌∷◌, Option, Some, None, codes, option_map, unwrap_or}
+use Rattle.std.specs.Option.{option_and_then}
 use Rattle.pn_types.specs.Settings.{AreInRange}
-use Rattle.pn_types.specs.declared.limits.TheConstants.{MAX_HARTS, MAX_WORKERS, MAX_BUDGET, MAX_QUANTUM, MIN_BINS, MAX_BINS, MAX_WIDTH, MAX_INSTRUMENTS}
+use Rattle.pn_types.specs.declared.limits.TheConstants.{MAX_HARTS, MAX_QUANTUM}
 use Rattle.pn_types.specs.declared.settings.Settings.{Settings}
 use Rattle.pn_types.specs.declared.settings.Start.TheVariants.{Cold}
-use Rattle.pn_text.specs.Numbers.{number_of}
-use Rattle.command_words.specs.Grammar.{Text, Form, Taken, is_named, taken_of}
+use Rattle.command_words.specs.Grammar.{Text, Given, given_in, taken_of}
+use Rattle.command_words.specs.Commands.{form_of, command_named}
+use Rattle.command_words.specs.Numbers.{number_between, number_given, harts_option, workers_option, seed_option, quantum_option, budget_option, bins_option, width_option, instruments_option}
 use Rattle.command_words.specs.declared.commands.CommandName.{CommandName}
 use Rattle.command_words.specs.declared.commands.CommandName.TheVariants.{Run, Live, Replay, Asm, Points, Plan, Stress, Relog}
 
--- ---- the commands
-
-abbrev pub command_named : Text → Option CommandName
-command_named word =
-    if bytes_eq word (codes "run") then Some Run
-    else if bytes_eq word (codes "live") then Some Live
-    else if bytes_eq word (codes "replay") then Some Replay
-    else if bytes_eq word (codes "asm") then Some Asm
-    else if bytes_eq word (codes "points") then Some Points
-    else if bytes_eq word (codes "plan") then Some Plan
-    else if bytes_eq word (codes "stress") then Some Stress
-    else if bytes_eq word (codes "relog") then Some Relog
-    else None
-
--- the words of each command
-abbrev pub form_of : CommandName → Form
-form_of Run = record { places = codes "program" ∷ codes "conf" ∷ []; options = codes "harts" ∷ codes "seed" ∷ codes "quantum" ∷ codes "budget" ∷ codes "bins" ∷ codes "width" ∷ codes "log" ∷ codes "instruments" ∷ [] }
-form_of Live = record { places = codes "program" ∷ codes "conf" ∷ []; options = codes "harts" ∷ codes "workers" ∷ codes "quantum" ∷ codes "budget" ∷ codes "bins" ∷ codes "width" ∷ codes "log" ∷ codes "instruments" ∷ [] }
-form_of Replay = record { places = codes "program" ∷ codes "conf" ∷ codes "record" ∷ []; options = [] }
-form_of Asm = record { places = codes "text" ∷ []; options = [] }
-form_of Points = record { places = codes "program" ∷ []; options = [] }
-form_of Plan = record { places = codes "program" ∷ codes "conf" ∷ codes "metric" ∷ codes "focus" ∷ []; options = codes "harts" ∷ [] }
-form_of Stress = record { places = codes "procs" ∷ codes "seed" ∷ []; options = [] }
-form_of Relog = record { places = codes "record" ∷ []; options = [] }
-
 -- ---- values
-
--- the value of each name, where it was given
-abbrev pub Given : Type 0
-Given = Text → Option Text
-
-abbrev pub given_in : Taken → Given
-given_in taken name = option_map (λ t. t.1) (find (is_named name) taken)
 
 -- a positional word; the words of a command hold one for each of its places
 abbrev pub place_in : Given → Text → Text
 place_in given name = unwrap_or (given name) []
-
--- a number of 1 to 10 digits from `least` to `most`
-abbrev pub number_between : ℕ → ℕ → Text → Option ℕ
-number_between least most text = option_and_then (λ n. if nat_le least n then Some n else None) (number_of text most)
-
--- the number that an option gives, and else its default
-abbrev pub number_given : Given → Text → ℕ → ℕ → ℕ → Option ℕ
-number_given given name least most default = option_map_or (number_between least most) (given name) (Some default)
-
--- the number of harts
-abbrev pub harts_of : Given → Option ℕ
-harts_of given = number_given given (codes "harts") 1 MAX_HARTS 1
 
 -- settings of these numbers, where each is told
 abbrev pub settings_told : Option ℕ → Option ℕ → Option ℕ → Option ℕ → Option ℕ → Option Settings
@@ -71,12 +27,8 @@ settings_told harts budget bins width instruments =
 -- The settings of a run.
 abbrev pub settings_of : Given → Option Settings
 settings_of given =
-    settings_told (harts_of given) (number_given given (codes "budget") 1 MAX_BUDGET 1000000) (number_given given (codes "bins") MIN_BINS MAX_BINS 64)
-    (number_given given (codes "width") 1 MAX_WIDTH 1000) (number_given given (codes "instruments") 1 MAX_INSTRUMENTS 64)
-
--- the most turns of a quantum
-abbrev pub quantum_of : Given → Option ℕ
-quantum_of given = number_given given (codes "quantum") 1 MAX_QUANTUM 50
+    settings_told (number_given given harts_option) (number_given given budget_option) (number_given given bins_option) (number_given given width_option)
+    (number_given given instruments_option)
 
 -- ---- requests
 
@@ -108,19 +60,19 @@ abbrev pub run_request : Given → Option Request
 run_request given =
     option_and_then (λ settings. option_and_then (λ seed. option_map (λ quantum.
     run (record { program = place_in given (codes "program"); conf = place_in given (codes "conf"); settings = settings; seed = seed; quantum = quantum; log = given (codes "log") }))
-    (quantum_of given))
-    (number_given given (codes "seed") 0 4294967295 0))
+    (number_given given quantum_option))
+    (number_given given seed_option))
     (settings_of given)
 
 abbrev pub live_request : Given → Option Request
 live_request given =
     option_and_then (λ settings. option_and_then (λ quantum. option_map (λ workers. later)
-    (number_given given (codes "workers") 1 MAX_WORKERS 2))
-    (quantum_of given))
+    (number_given given workers_option))
+    (number_given given quantum_option))
     (settings_of given)
 
 abbrev pub plan_request : Given → Option Request
-plan_request given = option_map (λ harts. make_plan (record { program = place_in given (codes "program"); conf = place_in given (codes "conf"); metric = place_in given (codes "metric"); focus = place_in given (codes "focus"); harts = harts })) (harts_of given)
+plan_request given = option_map (λ harts. make_plan (record { program = place_in given (codes "program"); conf = place_in given (codes "conf"); metric = place_in given (codes "metric"); focus = place_in given (codes "focus"); harts = harts })) (number_given given harts_option)
 
 abbrev pub stress_request : Given → Option Request
 stress_request given =

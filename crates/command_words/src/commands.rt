@@ -1,5 +1,9 @@
-ghost use Rattle.std.specs.Prelude.{◌≡◌};
-ghost use Rattle.command_words.specs.Requests.{command_named};
+ghost use Rattle.std.specs.Prelude.{◌≡◌, find};
+ghost use Rattle.std.specs.Str.{bytes_eq};
+ghost use Rattle.command_words.specs.Commands.{command_named, form_of};
+ghost use Rattle.command_words.specs.Walked.{form_seen};
+
+use crate::forms::Form;
 
 /// The commands.
 #[derive(Clone, Copy, Debug, PartialEq, Eq, Drop)]
@@ -14,21 +18,76 @@ pub enum CommandName {
     Relog,
 }
 
+/// All commands.
+const COMMANDS: [CommandName; 8] = [
+    CommandName::Run,
+    CommandName::Live,
+    CommandName::Replay,
+    CommandName::Asm,
+    CommandName::Points,
+    CommandName::Plan,
+    CommandName::Stress,
+    CommandName::Relog,
+];
+
+const RUN_OPTIONS: [&str; 8] = [
+    "harts",
+    "seed",
+    "quantum",
+    "budget",
+    "bins",
+    "width",
+    "log",
+    "instruments",
+];
+
+const LIVE_OPTIONS: [&str; 8] = [
+    "harts",
+    "workers",
+    "quantum",
+    "budget",
+    "bins",
+    "width",
+    "log",
+    "instruments",
+];
+
+/// The first of some commands whose word this is.
+fn first_named(commands: &[CommandName], word: &str) -> Option<CommandName>
+    ensures { result ≡ find (λ name. bytes_eq (form_of name).word word.now) commands.now }
+{
+    commands.iter().copied().find(|name| name.word() == word)
+}
+
 impl CommandName {
+    /// The words that it takes.
+    pub fn form(self) -> Form
+        ensures { form_seen result ≡ form_of self }
+    {
+        match self {
+            CommandName::Run => Form::new("run", &["program", "conf"], &RUN_OPTIONS),
+            CommandName::Live => Form::new("live", &["program", "conf"], &LIVE_OPTIONS),
+            CommandName::Replay => Form::new("replay", &["program", "conf", "record"], &[]),
+            CommandName::Asm => Form::new("asm", &["text"], &[]),
+            CommandName::Points => Form::new("points", &["program"], &[]),
+            CommandName::Plan => {
+                Form::new("plan", &["program", "conf", "metric", "focus"], &["harts"])
+            }
+            CommandName::Stress => Form::new("stress", &["procs", "seed"], &[]),
+            CommandName::Relog => Form::new("relog", &["record"], &[]),
+        }
+    }
+
+    fn word(self) -> &'static str
+        ensures { result.now ≡ (form_of self).word }
+    {
+        self.form().word
+    }
+
     /// The command of this word.
     pub fn of_word(word: &str) -> Option<CommandName>
         ensures { result ≡ command_named word.now }
     {
-        match word {
-            "run" => Some(CommandName::Run),
-            "live" => Some(CommandName::Live),
-            "replay" => Some(CommandName::Replay),
-            "asm" => Some(CommandName::Asm),
-            "points" => Some(CommandName::Points),
-            "plan" => Some(CommandName::Plan),
-            "stress" => Some(CommandName::Stress),
-            "relog" => Some(CommandName::Relog),
-            _ => None,
-        }
+        first_named(&COMMANDS, word)
     }
 }

@@ -3,9 +3,12 @@
 
 mod builders;
 mod commands;
+mod forms;
 mod given;
 mod logging;
 mod matching;
+mod names;
+mod numbers;
 mod requests;
 mod values;
 mod walking;

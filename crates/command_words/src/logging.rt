@@ -2,6 +2,7 @@ ghost use Rattle.std.specs.Prelude.{◌≡◌, map, option_map, string_bytes};
 ghost use Rattle.command_words.specs.Logs.{log_of};
 
 use crate::commands::CommandName;
+use crate::given::{FormValues, Given};
 use crate::requests::request_from;
 use crate::walking::values_of;
 
@@ -12,7 +13,9 @@ pub fn log_name(words: &[String]) -> Option<&str>
 {
     let (first, others) = words.split_first()?;
     let command = CommandName::of_word(first.as_str())?;
-    let values = values_of(command, others)?;
-    request_from(command, &values)?;
-    values.get("log")
+    let form = command.form();
+    let values = values_of(&form, others)?;
+    let given = FormValues { form, values };
+    request_from(command, &given)?;
+    given.value("log")
 }

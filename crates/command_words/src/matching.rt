@@ -1,7 +1,7 @@
 ghost use Rattle.std.specs.Prelude.{◌≡◌, IfOk, IsErrOf, None, drop, map, string_bytes};
 ghost use Rattle.command_words.specs.Asked.{Holds};
 ghost use Rattle.command_words.specs.Grammar.{taken_of};
-ghost use Rattle.command_words.specs.Requests.{form_of};
+ghost use Rattle.command_words.specs.Commands.{form_of};
 
 use crate::builders::command;
 use crate::commands::CommandName;
@@ -27,7 +27,8 @@ pub fn matches<'a>(
     ensures taken { IfOk result (λ matches. Holds (form_of name) (drop 1 (map string_bytes words.entry.now)) matches) }
     ensures usage { IsErrOf result WordFault.Usage → taken_of (form_of name) (drop 1 (map string_bytes words.entry.now)) ≡ None }
 {
-    let Ok(command) = command(alloc, name) else {
+    let form = name.form();
+    let Ok(command) = command(alloc, &form) else {
         return Err(WordFault::NoMemory);
     };
     match command.try_get_matches_from(words) {

@@ -1,16 +1,18 @@
-ghost use Rattle.std.specs.Prelude.{◌≡◌, ◌≤◌, List, MatchResult, IfOk, IfSome, Some, None, map, option_map, string_bytes, codes};
+ghost use Rattle.std.specs.Prelude.{◌≡◌, ◌≤◌, MatchResult, IfOk, IfSome, Some, None, map, option_map, string_bytes};
 ghost use Rattle.command_words.specs.Asked.{asked};
-ghost use Rattle.command_words.specs.Requests.{number_between, number_given, place_in, harts_of, quantum_of, settings_of, run_request, live_request, plan_request, stress_request, request_from, request_of, HasRanges};
+ghost use Rattle.command_words.specs.Numbers.{number_between, number_given};
+ghost use Rattle.command_words.specs.Requests.{place_in, settings_of, run_request, live_request, plan_request, stress_request, request_from, request_of, HasRanges};
+ghost use Rattle.command_words.specs.Walked.{option_seen};
 ghost use Rattle.pn_types.specs.Settings.{AreInRange};
 
 use crate::commands::CommandName;
 use crate::given::Given;
 use crate::matching::{WordFault, matches};
-use pn_text::number;
-use pn_types::{
-    MAX_BINS, MAX_BUDGET, MAX_HARTS, MAX_INSTRUMENTS, MAX_QUANTUM, MAX_WIDTH, MAX_WORKERS,
-    MIN_BINS, Settings, Start,
+use crate::numbers::{
+    BINS, BUDGET, HARTS, INSTRUMENTS, NumberOption, QUANTUM, SEED, WIDTH, WORKERS,
 };
+use pn_text::number;
+use pn_types::{Settings, Start};
 use std::alloc::Global;
 
 /// What `run` is asked for.
@@ -41,7 +43,7 @@ pub struct PlanRequest<'a> {
     pub metric: &'a str,
     /// The text of the focus.
     pub focus: &'a str,
-    /// The number of harts, from 1 to [`MAX_HARTS`].
+    /// The number of harts, from 1 to [`pn_types::MAX_HARTS`].
     pub harts: u32,
 }
 
@@ -78,52 +80,27 @@ fn number_between(text: &str, least: u64, most: u64) -> Option<u64>
 }
 
 /// The number that an option gives, and else its default.
-fn number_given<'a, G: Given<'a>>(
-    given: &G,
-    name: &str,
-    least: u64,
-    most: u64,
-    default: u64,
-) -> Option<u64>
-    requires { (least ≤ default) × (default ≤ most) }
-    ensures number { result ≡ number_given (G.given given.now) name.now least most default }
-    ensures range { IfSome result (λ n. (least ≤ n) × (n ≤ most)) }
+fn number_given<'a, 'n, G: Given<'a>>(given: &G, option: NumberOption<'n>) -> Option<u64>
+    ensures number { result ≡ number_given (G.given given.now) (option_seen option.entry) }
+    ensures range { IfSome result (λ n. (option.entry.least ≤ n) × (n ≤ option.entry.most)) }
 {
-    match given.value(name) {
-        Some(text) => number_between(text, least, most),
-        None => Some(default),
+    match given.value(option.name) {
+        Some(text) => number_between(text, option.least, option.most),
+        None => Some(option.default),
     }
-}
-
-/// The number of harts.
-fn harts<'a, G: Given<'a>>(given: &G) -> Option<u32>
-    ensures number { result ≡ harts_of (G.given given.now) }
-    ensures range { IfSome result (λ n. (1 ≤ n) × (n ≤ MAX_HARTS)) }
-{
-    let harts = number_given(given, "harts", 1, MAX_HARTS as u64, 1)?;
-    Some(harts as u32)
-}
-
-/// The most turns of a quantum.
-fn quantum<'a, G: Given<'a>>(given: &G) -> Option<u32>
-    ensures number { result ≡ quantum_of (G.given given.now) }
-    ensures range { IfSome result (λ n. (1 ≤ n) × (n ≤ MAX_QUANTUM)) }
-{
-    let quantum = number_given(given, "quantum", 1, MAX_QUANTUM as u64, 50)?;
-    Some(quantum as u32)
 }
 
 fn settings<'a, G: Given<'a>>(given: &G) -> Option<Settings>
     ensures settings { result ≡ settings_of (G.given given.now) }
     ensures ranges { IfSome result AreInRange }
 {
-    let harts = harts(given)?;
-    let budget = number_given(given, "budget", 1, MAX_BUDGET, 1_000_000)?;
-    let bins = number_given(given, "bins", MIN_BINS as u64, MAX_BINS as u64, 64)?;
-    let width = number_given(given, "width", 1, MAX_WIDTH, 1_000)?;
-    let instruments = number_given(given, "instruments", 1, MAX_INSTRUMENTS as u64, 64)?;
+    let harts = number_given(given, HARTS)?;
+    let budget = number_given(given, BUDGET)?;
+    let bins = number_given(given, BINS)?;
+    let width = number_given(given, WIDTH)?;
+    let instruments = number_given(given, INSTRUMENTS)?;
     Some(Settings {
-        harts,
+        harts: harts as u32,
         budget,
         bins: bins as u32,
         width,
@@ -137,14 +114,14 @@ fn run_request<'a, G: Given<'a>>(given: &G) -> Option<Request<'a>>
     ensures ranges { IfSome result (λ request. HasRanges (asked request)) }
 {
     let settings = settings(given)?;
-    let seed = number_given(given, "seed", 0, 4_294_967_295, 0)?;
-    let quantum = quantum(given)?;
+    let seed = number_given(given, SEED)?;
+    let quantum = number_given(given, QUANTUM)?;
     Some(Request::Run(RunRequest {
         program: place(given, "program"),
         conf: place(given, "conf"),
         settings,
         seed: seed as u32,
-        quantum,
+        quantum: quantum as u32,
         log: given.value("log"),
     }))
 }
@@ -154,8 +131,8 @@ fn live_request<'a, G: Given<'a>>(given: &G) -> Option<Request<'a>>
     ensures ranges { IfSome result (λ request. HasRanges (asked request)) }
 {
     settings(given)?;
-    quantum(given)?;
-    number_given(given, "workers", 1, MAX_WORKERS as u64, 2)?;
+    number_given(given, QUANTUM)?;
+    number_given(given, WORKERS)?;
     Some(Request::Later)
 }
 
@@ -163,13 +140,13 @@ fn plan_request<'a, G: Given<'a>>(given: &G) -> Option<Request<'a>>
     ensures request { option_map asked result ≡ plan_request (G.given given.now) }
     ensures ranges { IfSome result (λ request. HasRanges (asked request)) }
 {
-    let harts = harts(given)?;
+    let harts = number_given(given, HARTS)?;
     Some(Request::Plan(PlanRequest {
         program: place(given, "program"),
         conf: place(given, "conf"),
         metric: place(given, "metric"),
         focus: place(given, "focus"),
-        harts,
+        harts: harts as u32,
     }))
 }
 

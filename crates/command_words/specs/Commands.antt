@@ -1,0 +1,23 @@
+-- The commands and the words that each takes.
+use Rattle.std.specs.Prelude.{List, [], ◌∷◌, Option, codes, find}
+use Rattle.std.specs.Str.{bytes_eq}
+use Rattle.command_words.specs.Grammar.{Text, Form}
+use Rattle.command_words.specs.declared.commands.CommandName.{CommandName}
+use Rattle.command_words.specs.declared.commands.CommandName.TheVariants.{Run, Live, Replay, Asm, Points, Plan, Stress, Relog}
+
+abbrev pub commands : List CommandName
+commands = Run ∷ Live ∷ Replay ∷ Asm ∷ Points ∷ Plan ∷ Stress ∷ Relog ∷ []
+
+abbrev pub form_of : CommandName → Form
+form_of Run = record { word = codes "run"; places = codes "program" ∷ codes "conf" ∷ []; options = codes "harts" ∷ codes "seed" ∷ codes "quantum" ∷ codes "budget" ∷ codes "bins" ∷ codes "width" ∷ codes "log" ∷ codes "instruments" ∷ [] }
+form_of Live = record { word = codes "live"; places = codes "program" ∷ codes "conf" ∷ []; options = codes "harts" ∷ codes "workers" ∷ codes "quantum" ∷ codes "budget" ∷ codes "bins" ∷ codes "width" ∷ codes "log" ∷ codes "instruments" ∷ [] }
+form_of Replay = record { word = codes "replay"; places = codes "program" ∷ codes "conf" ∷ codes "record" ∷ []; options = [] }
+form_of Asm = record { word = codes "asm"; places = codes "text" ∷ []; options = [] }
+form_of Points = record { word = codes "points"; places = codes "program" ∷ []; options = [] }
+form_of Plan = record { word = codes "plan"; places = codes "program" ∷ codes "conf" ∷ codes "metric" ∷ codes "focus" ∷ []; options = codes "harts" ∷ [] }
+form_of Stress = record { word = codes "stress"; places = codes "procs" ∷ codes "seed" ∷ []; options = [] }
+form_of Relog = record { word = codes "relog"; places = codes "record" ∷ []; options = [] }
+
+-- the command whose own word this is
+abbrev pub command_named : Text → Option CommandName
+command_named word = find (λ name. bytes_eq (form_of name).word word) commands

@@ -1,0 +1,78 @@
+//! The numbers that options give.
+
+ghost use Rattle.std.specs.Prelude.{◌≤◌};
+
+use pn_types::{
+    MAX_BINS, MAX_BUDGET, MAX_HARTS, MAX_INSTRUMENTS, MAX_QUANTUM, MAX_WIDTH, MAX_WORKERS, MIN_BINS,
+};
+
+/// An option whose value is a number.
+#[derive(Clone, Copy, Drop)]
+pub struct NumberOption<'n> {
+    pub name: &'n str,
+    pub least: u64,
+    pub most: u64,
+    /// The number where the option isn't given.
+    pub default: u64,
+    ghost in_range: { (least ≤ default) × (default ≤ most) },
+}
+
+pub const HARTS: NumberOption<'static> = NumberOption {
+    name: "harts",
+    least: 1,
+    most: MAX_HARTS as u64,
+    default: 1,
+};
+
+pub const WORKERS: NumberOption<'static> = NumberOption {
+    name: "workers",
+    least: 1,
+    most: MAX_WORKERS as u64,
+    default: 2,
+};
+
+/// The seed of the order of quanta.
+pub const SEED: NumberOption<'static> = NumberOption {
+    name: "seed",
+    least: 0,
+    most: 4_294_967_295,
+    default: 0,
+};
+
+/// The most turns of a quantum.
+pub const QUANTUM: NumberOption<'static> = NumberOption {
+    name: "quantum",
+    least: 1,
+    most: MAX_QUANTUM as u64,
+    default: 50,
+};
+
+/// The ticks of each hart.
+pub const BUDGET: NumberOption<'static> = NumberOption {
+    name: "budget",
+    least: 1,
+    most: MAX_BUDGET,
+    default: 1_000_000,
+};
+
+pub const BINS: NumberOption<'static> = NumberOption {
+    name: "bins",
+    least: MIN_BINS as u64,
+    most: MAX_BINS as u64,
+    default: 64,
+};
+
+/// The ticks of a bin.
+pub const WIDTH: NumberOption<'static> = NumberOption {
+    name: "width",
+    least: 1,
+    most: MAX_WIDTH,
+    default: 1_000,
+};
+
+pub const INSTRUMENTS: NumberOption<'static> = NumberOption {
+    name: "instruments",
+    least: 1,
+    most: MAX_INSTRUMENTS as u64,
+    default: 64,
+};
