@@ -1,87 +1,134 @@
-//! Plans of the shipped metrics.
+//! The call for plans.
 
-use crate::programs::{procedure, tree_of};
-use mdl_check::{Checked, check};
+use crate::checks::checked;
+use crate::programs::{main_alone, tree_of};
+use crate::texts::{shown, split};
+use mdl_ast::Conf;
+use mdl_check::Checked;
 use mdl_parse::{parse, shipped};
-use mdl_plan::{PlanFault, plan};
-use pn_types::{Axis, CodePart, Focus, Plan, Point, Proc};
+use mdl_plan::plan;
+use pn_types::{CodePart, Focus, Plan, Point, Proc};
 use resource_tree::Tree;
 use std::alloc::Global;
-use std::test::Fail;
-
-const ROOT: Focus = Focus {
-    code: CodePart::All,
-    hart: None,
-    object: None,
-};
-
-/// The shipped metrics, checked.
-#[tactic(auto, using(mdl_check::proofs::Few::spots_counted))]
-fn metrics(alloc: Global, tree: &Tree) -> Option<Checked> {
-    let shipped = shipped(alloc).ok()?;
-    let conf = parse(alloc, b"include metrics;").ok()?;
-    if shipped.items.as_slice().len() > 1000 || conf.items.as_slice().len() > 1000 {
-        return None;
-    }
-    check(alloc, &conf, &shipped, tree).ok()
-}
+use std::io;
 
 /// The points of a procedure of two words that calls first and returns then.
-fn points() -> [Point; 2] {
-    let first = Point {
+const POINTS: [Point; 2] = [
+    Point {
         at: 0x10000,
         proc_no: 0,
         entry: true,
         after: false,
         ret: false,
         call: true,
-    };
-    let last = Point {
+    },
+    Point {
         at: 0x10004,
         proc_no: 0,
         entry: false,
         after: true,
         ret: true,
         call: false,
-    };
-    [first, last]
-}
+    },
+];
 
-/// The plan of a shipped metric at a focus.
-fn planned(alloc: Global, metric: u32, focus: &Focus) -> Option<Result<Plan, PlanFault>> {
-    let procs: [Proc; 1] = [procedure(alloc, b"program", b"main", 0x10000).ok()?];
-    let tree = tree_of(alloc, &procs, &[], 1, &[])?;
-    let checked = metrics(alloc, &tree)?;
-    if metric as usize >= checked.metrics.as_slice().len() {
-        return None;
+/// Prints the names of the variables, and how many statements each site has.
+fn print_sites(rt: &impl Print, plan: &Plan) -> io::Result<()> {
+    for var in plan.vars.as_slice() {
+        let name = shown(var.name.bytes());
+        println!(rt; "variable {name}")?;
     }
-    Some(plan(alloc, &checked, metric, focus, &tree, &procs, &points()))
-}
-
-#[test]
-fn plans_at_entries(rt: HostRuntime) -> Result<(), Fail> {
-    let answer = planned(rt.alloc(), 0, &ROOT).ok_or("no check")?;
-    let plan = answer.ok().ok_or("no plan")?;
-    let vars = plan.vars.as_slice();
-    let sites = plan.sites.as_slice();
-    assert_eq!(rt; vars.len(), 1);
-    assert_eq!(rt; vars[0].name.bytes(), b"procedure_calls".as_slice());
-    assert_eq!(rt; sites.len(), 1);
-    assert_eq!(rt; sites[0].at, 0x10000);
-    assert_eq!(rt; sites[0].stmts.as_slice().len(), 1);
+    for site in plan.sites.as_slice() {
+        let at = site.at;
+        let count = site.stmts.as_slice().len();
+        println!(rt; "at {at:#x} statements {count}")?;
+    }
     Ok(())
 }
 
-#[test]
-fn wants_a_constraint(rt: HostRuntime) -> Result<(), Fail> {
-    let focus = Focus {
-        object: Some(0),
-        ..ROOT
+/// A metric at a focus of a program.
+#[derive(Clone, Copy)]
+struct Asked<'a> {
+    metric: u32,
+    focus: Focus,
+    procs: &'a [Proc],
+    tree: &'a Tree,
+}
+
+fn print_planned(
+    rt: &impl Print,
+    alloc: Global,
+    checked: &Checked,
+    asked: &Asked<'_>,
+) -> io::Result<()> {
+    if asked.metric as usize >= checked.metrics.as_slice().len() || asked.procs.len() > 1 {
+        return println!(rt; "no metric");
+    }
+    match plan(
+        alloc,
+        checked,
+        asked.metric,
+        &asked.focus,
+        asked.tree,
+        asked.procs,
+        &POINTS,
+    ) {
+        Ok(plan) => print_sites(rt, &plan),
+        Err(fault) => println!(rt; "{fault:?}"),
+    }
+}
+
+fn print_for(
+    rt: &impl Print,
+    alloc: Global,
+    conf: &Conf,
+    shipped: &Conf,
+    asked: &Asked<'_>,
+) -> io::Result<()> {
+    match checked(alloc, conf, shipped, asked.tree) {
+        Ok(checked) => print_planned(rt, alloc, &checked, asked),
+        Err(fault) => println!(rt; "{fault:?}"),
+    }
+}
+
+fn print_shipped(rt: &impl Print, alloc: Global, conf: &Conf, asked: &Asked<'_>) -> io::Result<()> {
+    let shipped = shipped(alloc)?;
+    print_for(rt, alloc, conf, &shipped, asked)
+}
+
+fn print_asked(rt: &impl Print, alloc: Global, asked: &Asked<'_>) -> io::Result<()> {
+    match parse(alloc, b"include metrics;") {
+        Ok(conf) => print_shipped(rt, alloc, &conf, asked),
+        Err(fault) => println!(rt; "{fault:?}"),
+    }
+}
+
+fn print_over(
+    rt: &impl Print,
+    alloc: Global,
+    metric: u32,
+    focus: Focus,
+    procs: &[Proc],
+) -> io::Result<()> {
+    let Some(tree) = tree_of(alloc, procs, &[], 1, &[]) else {
+        return println!(rt; "no tree");
     };
-    let answer = planned(rt.alloc(), 0, &focus).ok_or("no check")?;
-    assert_eq!(rt;
-        answer.err(),
-        Some(PlanFault::NoConstraint(Axis::SyncObject))
-    );
-    Ok(())
+    let asked = Asked {
+        metric,
+        focus,
+        procs,
+        tree: &tree,
+    };
+    print_asked(rt, alloc, &asked)
+}
+
+pub fn print_plan(rt: &impl Print, alloc: Global, rest: &str) -> io::Result<()> {
+    let (metric, object) = split(rest);
+    let focus = Focus {
+        code: CodePart::All,
+        hart: None,
+        object: object.parse().ok(),
+    };
+    let procs = main_alone(alloc)?;
+    print_over(rt, alloc, metric.parse().unwrap_or(0), focus, &procs)
 }

@@ -5,17 +5,12 @@ use resource_tree::Tree;
 use std::alloc::Global;
 
 /// A text of these bytes.
-pub(crate) fn text(alloc: Global, bytes: &[u8]) -> Result<Text, NoMemory> {
+fn text(alloc: Global, bytes: &[u8]) -> Result<Text, NoMemory> {
     Ok(Text::from_vec(Vec::from_slice(alloc, bytes)?))
 }
 
 /// A procedure of one word.
-pub(crate) fn procedure(
-    alloc: Global,
-    module: &[u8],
-    name: &[u8],
-    start: u64,
-) -> Result<Proc, NoMemory> {
+fn procedure(alloc: Global, module: &[u8], name: &[u8], start: u64) -> Result<Proc, NoMemory> {
     Ok(Proc {
         name: text(alloc, name)?,
         module: text(alloc, module)?,
@@ -36,7 +31,7 @@ fn object(alloc: Global, name: &[u8], at: u64) -> Result<Symbol, NoMemory> {
 }
 
 /// The tree of a program that isn't large.
-pub(crate) fn tree_of(
+pub fn tree_of(
     alloc: Global,
     procs: &[Proc],
     objects: &[Symbol],
@@ -49,40 +44,107 @@ pub(crate) fn tree_of(
     Tree::build(alloc, procs, objects, harts, prefixes).ok()
 }
 
+/// A procedure's module, name and address.
+type Named = (&'static str, &'static str, u64);
+
 /// Procedures of three modules by turns.
-fn procedures(alloc: Global) -> Result<Vec<Proc>, NoMemory> {
+const PROCEDURES: [Named; 5] = [
+    ("b.c", "f", 0),
+    ("program", "main", 4),
+    ("b.c", "g", 8),
+    ("a.c", "f", 12),
+    ("program", "f", 16),
+];
+
+/// The procedure of a small program.
+const MAIN: [Named; 1] = [("program", "main", 0x10000)];
+
+/// Objects some of which have no prefix, a bad name or a name that is taken: the name and the address of each.
+const OBJECTS: [(&str, u64); 7] = [
+    ("lock_b", 0x20000),
+    ("count", 0x20008),
+    ("lock_a", 0x20010),
+    ("lock b", 0x20018),
+    ("lock_b", 0x20020),
+    ("queue", 0x20028),
+    ("que", 0x20030),
+];
+
+fn procedures(alloc: Global, table: &[Named]) -> Result<Vec<Proc>, NoMemory> {
     let mut procs = Vec::new(alloc);
-    procs.push(procedure(alloc, b"b.c", b"f", 0)?)?;
-    procs.push(procedure(alloc, b"program", b"main", 4)?)?;
-    procs.push(procedure(alloc, b"b.c", b"g", 8)?)?;
-    procs.push(procedure(alloc, b"a.c", b"f", 12)?)?;
-    procs.push(procedure(alloc, b"program", b"f", 16)?)?;
+    for (module, name, start) in table {
+        procs.push(procedure(alloc, module.as_bytes(), name.as_bytes(), *start)?)?;
+    }
     Ok(procs)
 }
 
-/// Objects some of which have no prefix, a bad name or a name that is taken.
+/// The procedure `main` alone.
+pub fn main_alone(alloc: Global) -> Result<Vec<Proc>, NoMemory> {
+    procedures(alloc, &MAIN)
+}
+
 fn objects(alloc: Global) -> Result<Vec<Symbol>, NoMemory> {
     let mut objects = Vec::new(alloc);
-    objects.push(object(alloc, b"lock_b", 0x20000)?)?;
-    objects.push(object(alloc, b"count", 0x20008)?)?;
-    objects.push(object(alloc, b"lock_a", 0x20010)?)?;
-    objects.push(object(alloc, b"lock b", 0x20018)?)?;
-    objects.push(object(alloc, b"lock_b", 0x20020)?)?;
-    objects.push(object(alloc, b"queue", 0x20028)?)?;
-    objects.push(object(alloc, b"que", 0x20030)?)?;
+    for (name, at) in OBJECTS {
+        objects.push(object(alloc, name.as_bytes(), at)?)?;
+    }
     Ok(objects)
 }
 
-/// A program of three modules with three objects in 32 harts.
-pub(crate) fn three_modules(alloc: Global) -> Option<Tree> {
-    let procs = procedures(alloc).ok()?;
+fn prefixes(alloc: Global) -> Result<Vec<Text>, NoMemory> {
+    let mut prefixes = Vec::new(alloc);
+    for prefix in ["lock_", "queue"] {
+        prefixes.push(text(alloc, prefix.as_bytes())?)?;
+    }
+    Ok(prefixes)
+}
+
+fn with_objects(alloc: Global, procs: &[Proc], objects: &[Symbol]) -> Option<Tree> {
+    let prefixes = prefixes(alloc).ok()?;
+    tree_of(alloc, procs, objects, MAX_HARTS, &prefixes)
+}
+
+fn with_procedures(alloc: Global, procs: &[Proc]) -> Option<Tree> {
     let objects = objects(alloc).ok()?;
-    let prefixes = [text(alloc, b"lock_").ok()?, text(alloc, b"queue").ok()?];
-    tree_of(alloc, &procs, &objects, MAX_HARTS, &prefixes)
+    with_objects(alloc, procs, &objects)
+}
+
+/// A program of three modules with three objects in 32 harts.
+pub fn three_modules(alloc: Global) -> Option<Tree> {
+    let procs = procedures(alloc, &PROCEDURES).ok()?;
+    with_procedures(alloc, &procs)
 }
 
 /// A program of one procedure `main` in two harts.
-pub(crate) fn one_procedure(alloc: Global) -> Option<Tree> {
-    let main = procedure(alloc, b"program", b"main", 0x10000).ok()?;
-    tree_of(alloc, &[main], &[], 2, &[])
+pub fn one_procedure(alloc: Global) -> Option<Tree> {
+    let procs = main_alone(alloc).ok()?;
+    tree_of(alloc, &procs, &[], 2, &[])
+}
+
+/// Procedure `f0`, `f1` and so on, of the modules `m0` to `m6` by turns.
+fn numbered(alloc: Global, number: u32) -> Result<Proc, NoMemory> {
+    let module_no = number % 7;
+    let name = format!(in alloc; "f{number}")?;
+    let module_name = format!(in alloc; "m{module_no}")?;
+    procedure(
+        alloc,
+        module_name.as_bytes(),
+        name.as_bytes(),
+        number as u64,
+    )
+}
+
+/// So many procedures of seven modules.
+fn seven_modules(alloc: Global, count: u32) -> Result<Vec<Proc>, NoMemory> {
+    let mut procs = Vec::new(alloc);
+    for number in 0..count {
+        procs.push(numbered(alloc, number)?)?;
+    }
+    Ok(procs)
+}
+
+/// A program of so many procedures in one hart.
+pub fn named_by_number(alloc: Global, count: u32) -> Option<Tree> {
+    let procs = seven_modules(alloc, count).ok()?;
+    tree_of(alloc, &procs, &[], 1, &[])
 }

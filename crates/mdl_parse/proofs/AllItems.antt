@@ -20,7 +20,8 @@ use Rattle.mdl_parse.specs.ItemGrammar.{item_marks}
 use Rattle.mdl_parse.specs.Shapes.{BlocksShaped, ItemShaped}
 use Rattle.mdl_parse.proofs.Rules.{StartsAs}
 use Rattle.mdl_parse.proofs.Readers.{Reads, closed, any}
-use Rattle.mdl_parse.proofs.Repeats.{either_at, either_reads, many_reads, all_ok, always}
+use Rattle.mdl_parse.proofs.Options.{either_at, either_reads}
+use Rattle.mdl_parse.proofs.Repeats.{many_reads, all_ok, always}
 use Rattle.mdl_parse.proofs.Combine.{made, renamed}
 use Rattle.mdl_parse.proofs.ItemRules.{metric_reads, constraint_reads, hypothesis_reads, include_reads, sync_reads, search_reads, phase_reads, wish_reads}
 

@@ -23,10 +23,12 @@ use Rattle.mdl_parse.specs.Grammar.{keyword, statement_marks, flag_words, event_
 use Rattle.mdl_parse.specs.Shapes.{StatementShaped, InsertionShaped, HasNames, SetShaped, BlockShaped, BlocksShaped}
 use Rattle.mdl_parse.proofs.Rules.{StartsAs, never}
 use Rattle.mdl_parse.proofs.Readers.{Reads, closed, any, plainly, one as one_word, pair_ok}
-use Rattle.mdl_parse.proofs.Repeats.{option_reads, option_on, option_ok, option_marks, either_reads, many_reads, all_ok, always}
+use Rattle.mdl_parse.proofs.Options.{option_reads, option_on, option_ok, option_marks, either_reads}
+use Rattle.mdl_parse.proofs.Repeats.{many_reads, all_ok, always}
 use Rattle.mdl_parse.proofs.Bounded.{lined_reads}
 use Rattle.mdl_parse.proofs.Combine.{both, both_open, bind_assoc, bind_id, made, renamed}
-use Rattle.mdl_parse.proofs.LeafRules.{keyword_reads, sign_reads, start_reads, name_reads, choice_reads, choice_word, event_reads, whole_reads, IsWhole, whole_word, keyword-is}
+use Rattle.mdl_parse.proofs.LeafRules.{keyword_reads, sign_reads, start_reads, name_reads, keyword-is}
+use Rattle.mdl_parse.proofs.ChoiceRules.{choice_reads, choice_word, event_reads, whole_reads, IsWhole, whole_word}
 use Rattle.mdl_parse.proofs.StatementRules.{statement_reads, goes-append, goes-flat_map}
 
 pub goes_behind : (a b : List Word) (rest : List Mark) → goes (a ++ b) ++ rest ≡ goes a ++ (goes b ++ rest)

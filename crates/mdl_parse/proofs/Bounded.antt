@@ -9,7 +9,8 @@ use Rattle.mdl_parse.specs.declared.refusal.Refusal.{Refusal}
 use Rattle.mdl_parse.specs.declared.refusal.Refusal.TheVariants.{Unexpected, TooDeep}
 use Rattle.mdl_parse.proofs.Rules.{AreMarks, Spells-append, Spells-parted, Misses, Misses-never, StartsAs, is_first-spelled, first-Misses, bind_ok, bind_err, bind_same, ok_is, err_is, Misses-first}
 use Rattle.mdl_parse.proofs.Readers.{Reads, Reads_, Fails, Completed, Reaches, Reaches-le, closed, any}
-use Rattle.mdl_parse.proofs.Repeats.{always, first_again}
+use Rattle.mdl_parse.proofs.Options.{first_again}
+use Rattle.mdl_parse.proofs.Repeats.{always}
 
 -- ---- at most so many parts
 

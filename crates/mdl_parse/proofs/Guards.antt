@@ -6,7 +6,7 @@ use Rattle.mdl_parse.specs.Steps.{Stop, Read, stop, is_first}
 use Rattle.mdl_parse.specs.declared.refusal.Refusal.TheVariants.{Unexpected}
 use Rattle.mdl_parse.proofs.Rules.{AreMarks, spots_of, spots_spell, spots_are_words, StartsAs, is_first-spelled, fits_word, err_is}
 use Rattle.mdl_parse.proofs.Readers.{Reads, Reads_, Fails, Completed}
-use Rattle.mdl_parse.proofs.Repeats.{first_again}
+use Rattle.mdl_parse.proofs.Options.{first_again}
 
 abbrev pub guard_at : {A : Type 0} → (Word → Bool) → (ℕ → List Spot → Read A) → ℕ → List Spot → Read A
 guard_at barred r n spots = if is_first barred spots then Err (stop Unexpected spots) else r n spots

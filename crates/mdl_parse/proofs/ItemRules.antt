@@ -15,9 +15,11 @@ use Rattle.mdl_parse.specs.ItemGrammar.{reference_words, initially_words, metric
 use Rattle.mdl_parse.specs.Shapes.{HasNames, BlocksShaped}
 use Rattle.mdl_parse.proofs.Rules.{StartsAs, never}
 use Rattle.mdl_parse.proofs.Readers.{Reads, closed, any, plainly, one as one_word}
-use Rattle.mdl_parse.proofs.Repeats.{option_reads, option_on, option_ok, option_marks, many_reads, all_ok, always}
+use Rattle.mdl_parse.proofs.Options.{option_reads, option_on, option_ok, option_marks}
+use Rattle.mdl_parse.proofs.Repeats.{many_reads, all_ok, always}
 use Rattle.mdl_parse.proofs.Combine.{both, both_open, bind_assoc, bind_id, made}
-use Rattle.mdl_parse.proofs.LeafRules.{keyword_reads, sign_reads, start_reads, name_reads, number_reads, quoted_reads, path_reads, choice_reads, choice_word}
+use Rattle.mdl_parse.proofs.LeafRules.{keyword_reads, sign_reads, start_reads, name_reads, number_reads, quoted_reads, path_reads}
+use Rattle.mdl_parse.proofs.ChoiceRules.{choice_reads, choice_word}
 use Rattle.mdl_parse.proofs.StatementRules.{goes-append, goes-flat_map}
 use Rattle.mdl_parse.proofs.BlockRules.{blocks_reads, names_reads, goes_behind, all_any}
 

@@ -1,5 +1,6 @@
 pub mod Rules
 pub mod Readers
+pub mod Options
 pub mod Repeats
 pub mod Bounded
 pub mod InView
@@ -7,6 +8,9 @@ pub mod Loops
 pub mod Combine
 pub mod Guards
 pub mod LeafRules
+pub mod ChoiceRules
+pub mod ConditionRules
+pub mod ActionRules
 pub mod StatementRules
 pub mod BlockRules
 pub mod ItemRules

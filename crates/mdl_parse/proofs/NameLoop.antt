@@ -13,7 +13,7 @@ use Rattle.mdl_parse.specs.Parts.{another_at, names_at, condition_at, conditions
 use Rattle.mdl_parse.specs.Gives.{Stops}
 use Rattle.mdl_parse.proofs.Loops.{with_front, front_more, front_all, front_stops, stops_whole}
 use Rattle.mdl_parse.proofs.Bounded.{bounded_none, bounded_deep, bounded_step, bounded_stops}
-use Rattle.mdl_parse.proofs.StatementRules.{condition_marks, condition_reads, condition_opens}
+use Rattle.mdl_parse.proofs.ConditionRules.{condition_marks, condition_reads, condition_opens}
 
 pub names_begin : (spots : List Spot) (name : List ℕ) (rest : List Spot) (front : List (List ℕ)) → name_at spots ≡ Ok (name, rest) → front ≡ name ∷ [] → names_at spots ≡ with_front front (many_at (is_sign Comma) another_at rest)
 unfolding names_at

@@ -5,8 +5,6 @@
 ghost use Rattle.std.specs.Prelude.{◌≡◌, codes, IfOk, IfErr};
 ghost use Rattle.mdl_parse.specs.declared.refusal.Stop.TheVariants.{NoMemory};
 ghost use Rattle.mdl_parse.specs.Gives.{Gives, var_seen};
-ghost use Rattle.mdl_parse.specs.Picks.{is_keyword, is_sign, is_arg, is_var, is_any, is_insertion, is_timing};
-ghost use Rattle.mdl_parse.specs.Steps.{is_first};
 ghost use Rattle.mdl_parse.specs.Readers.{start_at, keyword_at, sign_at, arg_at, name_at, number_at, quoted_at, path_at, choice_at, step_at, event_at, var_at, cmp_at, right_at, whole_at};
 
 use crate::change::Change;
@@ -40,76 +38,6 @@ fn var(alloc: Global, seen: SeenVar) -> Result<VarName, Stop>
 }
 
 impl<'a> Words<'a> {
-    /// Whether the keyword is in view.
-    pub(crate) fn is_keyword(&self, text: &[u8]) -> bool
-        ensures { result ≡ is_first (is_keyword text.now) self.now.spots }
-    {
-        match self.word() {
-            Some(word) => word.is_keyword(text),
-            None => false,
-        }
-    }
-
-    /// Whether the sign is in view.
-    pub(crate) fn is_sign(&self, sign: Sign) -> bool
-        ensures { result ≡ is_first (is_sign sign) self.now.spots }
-    {
-        match self.word() {
-            Some(word) => word.is_sign(sign),
-            None => false,
-        }
-    }
-
-    /// Whether `$arg` is in view.
-    pub(crate) fn is_arg(&self) -> bool
-        ensures { result ≡ is_first is_arg self.now.spots }
-    {
-        match self.word() {
-            Some(word) => word.is_arg(),
-            None => false,
-        }
-    }
-
-    /// Whether a variable is in view.
-    pub(crate) fn is_var(&self) -> bool
-        ensures { result ≡ is_first is_var self.now.spots }
-    {
-        match self.word() {
-            Some(word) => word.is_var(),
-            None => false,
-        }
-    }
-
-    /// Whether a word is in view.
-    pub(crate) fn has_more(&self) -> bool
-        ensures { result ≡ is_first is_any self.now.spots }
-    {
-        match self.word() {
-            Some(_) => true,
-            None => false,
-        }
-    }
-
-    /// Whether an insertion begins here.
-    pub(crate) fn is_insertion(&self) -> bool
-        ensures { result ≡ is_first is_insertion self.now.spots }
-    {
-        match self.word() {
-            Some(word) => word.is_keyword(b"prepend") || word.is_keyword(b"append"),
-            None => false,
-        }
-    }
-
-    /// Whether a timer is started or stopped here.
-    pub(crate) fn is_timing(&self) -> bool
-        ensures { result ≡ is_first is_timing self.now.spots }
-    {
-        match self.word() {
-            Some(word) => word.is_keyword(b"start") || word.is_keyword(b"stop"),
-            None => false,
-        }
-    }
-
     /// Passes the keyword.
     #[tactic(auto, unfolding(crate::specs::Steps::leaf_at))]
     pub(crate) fn keyword(&mut self, text: &[u8]) -> Result<(), Stop>

@@ -18,6 +18,7 @@ mod seen;
 mod shipped_parts;
 mod shipping;
 mod statements;
+mod views;
 mod words;
 
 pub use fault::{ParseFault, SyntaxKind};

@@ -6,7 +6,7 @@ ghost use Rattle.mdl_parse.specs.declared.refusal.Stop.TheVariants.{NoMemory};
 use std::alloc::{AllocError, AllocFailed};
 
 /// Why a word can't stand where it stands.
-#[derive(Clone, Copy, Debug, PartialEq, Eq, Drop)]
+#[derive(Clone, Copy, Drop)]
 pub(crate) enum Refusal {
     /// No configuration goes on with it.
     Unexpected,

@@ -6,7 +6,8 @@ use Rattle.resource_tree.specs.Scanning.{after, after_all, is_whole}
 use Rattle.resource_tree.specs.declared.form.Scan.{Scan}
 use Rattle.resource_tree.specs.declared.form.Place.TheVariants.{Start}
 use Rattle.resource_tree.proofs.Scans.{scan, after_none, after_append, Whole, parts_whole}
-use Rattle.resource_tree.proofs.Reached.{reached, ended, goes_on}
+use Rattle.resource_tree.proofs.Reached.{reached}
+use Rattle.resource_tree.proofs.ReachedEnds.{ended, goes_on}
 
 -- a scan along a focus text can end there
 whole_text : (text : List ℕ) → IsFocusText text → Whole (after_all (scan every_axis Start) text)

@@ -1,5 +1,6 @@
 pub mod Scans
 pub mod Reached
+pub mod ReachedEnds
 pub mod Faults
 pub mod Entries
 pub mod ObjectNodes
