@@ -1,1 +1,2 @@
 mod Writable
+mod MeantAgain

@@ -1,17 +1,20 @@
-ghost use Rattle.std.specs.Prelude.{◌≡◌, ◌≢◌, ◌≤◌, Ok, Err, MatchResult, length};
+ghost use Rattle.std.specs.Prelude.{◌≡◌, ◌≢◌, ◌≤◌, Ok, Err, IfOk, MatchResult, length};
 ghost use Rattle.rv_asm.specs.declared.fault.AsmFault.TheVariants.{NoMemory};
-ghost use Rattle.asm_file.specs.Made.{elf_of};
+ghost use Rattle.asm_file.specs.Made.{elf_of, IsMeantAgain};
 
+use elf_form::MAX_PROGRAM_LEN;
 use elf_write::write;
 use rv_asm::{AsmFault, assemble};
 use std::alloc::Global;
 
 /// The ELF file of the program that an assembly text stands for, or the text's first fault. The text has at most
-/// 33,554,432 bytes.
+/// [`MAX_PROGRAM_LEN`] bytes.
 #[tactic(auto, using(crate::proofs::Writable::can_write))]
 pub fn elf_of_text(alloc: Global, text: &[u8]) -> Result<Vec<u8>, AsmFault>
-    requires { length text.now ≤ 33554432 }
-    ensures { MatchResult result (λ bytes. elf_of text.now ≡ Ok bytes.items) (λ fault. fault ≢ NoMemory → elf_of text.now ≡ Err fault) }
+    requires { length text.now ≤ MAX_PROGRAM_LEN }
+    ensures file { MatchResult result (λ bytes. elf_of text.now ≡ Ok bytes.items) (λ fault. fault ≢ NoMemory → elf_of text.now ≡ Err fault) }
+    // Read as an ELF file it is the same program, where that begins in its text.
+    ensures again { IfOk result (λ bytes. IsMeantAgain text.now bytes.items) }
 {
     let image = assemble(alloc, text)?;
     Ok(write(alloc, &image)?)

@@ -1,7 +1,8 @@
-ghost use Rattle.std.specs.Prelude.{◌≡◌, ◌<◌, ◌/◌, ◌%◌, ◌^◌, IfOk, length};
+ghost use Rattle.std.specs.Prelude.{◌≡◌, ◌<◌, ◌↔◌, IfOk, IsTrue, MatchOption, Some, None, length};
 ghost use Rattle.pn_types.specs.Images.{IsImage};
 
 use crate::listed::is_instruction;
+use crate::setting::{accessed, registers, reserving, result_left};
 use crate::vector::{Outcome, Setting, Vector};
 use pn_types::{HartNo, Image, NoMemory, Segment, Seq};
 use rv_exec::{Output, Regs, Reservations, exec};
@@ -18,16 +19,6 @@ const DATA_LEN: u64 = 0x10_0000;
 const TEXT: u64 = 0x1_0000;
 
 const TEXT_LEN: u64 = 4;
-
-/// What rd holds before a word is executed, so that a word which leaves it alone is noticed.
-const UNWRITTEN: u64 = 0x6e6f_7420_7365_7421;
-
-/// The lowest bit of the number of each register in a word.
-const RD: u32 = 7;
-
-const RS1: u32 = 15;
-
-const RS2: u32 = 20;
 
 /// A machine of one hart. Its memory stays from one word to the next.
 #[derive(Drop)]
@@ -63,51 +54,11 @@ fn image(alloc: Global) -> Result<Image, NoMemory>
     })
 }
 
-/// The register whose number stands in the word from this bit on.
-fn register(word: u32, bit: u32) -> u32
-    requires { bit < 32 }
-    ensures number { result ≡ word / 2 ^ bit % 32 }
-    ensures in_range { result < 32 }
-{
-    (word >> bit) % 32
-}
-
-/// The registers before the word. Where its form has no such operand, other bits stand in that place, and the value
-/// is 0.
-fn registers(word: u32, before: &Setting) -> Regs {
-    let mut regs = Regs::new();
-    regs.set(register(word, RD), UNWRITTEN);
-    regs.set(register(word, RS2), before.second);
-    regs.set(register(word, RS1), before.first);
-    regs
-}
-
-/// The address that the instruction accesses, where its first operand is this.
-fn accessed(instr: &Instr, first: u64) -> Option<u64> {
-    let offset = match *instr {
-        Instr::Load { offset, .. } | Instr::Store { offset, .. } => offset,
-        Instr::Lr { .. } | Instr::Sc { .. } | Instr::Amo { .. } => 0,
-        _ => return None,
-    };
-    Some(first.wrapping_add(offset))
-}
-
-/// The load that reserves what the instruction accesses.
-fn reserving(instr: &Instr) -> Option<Instr> {
-    match *instr {
-        Instr::Lr { width, rs1, .. }
-        | Instr::Sc { width, rs1, .. }
-        | Instr::Amo { width, rs1, .. } => Some(Instr::Lr {
-            width,
-            rd: 0,
-            rs1,
-            order: 0,
-        }),
-        _ => None,
-    }
-}
-
 impl Machine {
+    ghost use Rattle.conformance.specs.Machines.{prog_in, Reaches};
+    ghost use Rattle.conformance.specs.Vectors.{Agrees, bytes_left, freed, gone, left_by, prepared, reserved};
+    ghost use Rattle.rv_word.specs.Exec.{exec_of};
+
     /// The machine at its start.
     pub fn new(alloc: Global) -> Result<Machine, NoMemory> {
         Ok(Machine {
@@ -118,8 +69,32 @@ impl Machine {
         })
     }
 
+    /// Clears the reservation.
+    fn free(&mut self)
+        ensures hart { self.new.hart ≡ self.old.hart }
+        ensures freed { prog_in self.new ≡ freed (prog_in self.old) self.old.hart }
+    {
+        self.reservations.set(self.hart, None);
+    }
+
+    /// Puts eight bytes at the address that a word accesses, if it accesses one. None where there are none to be put, or
+    /// no memory for them.
+    fn prepare(&mut self, place: Option<u64>, bytes: Option<u64>) -> Option<()>
+        ensures hart { self.new.hart ≡ self.old.hart }
+        ensures prepared { MatchOption result (prepared (prog_in self.old) place bytes ≡ None)
+            (λ _. prepared (prog_in self.old) place bytes ≡ Some (prog_in self.new)) }
+    {
+        match place {
+            Some(at) => self.mem.store(at, 8, bytes?).ok(),
+            None => Some(()),
+        }
+    }
+
     /// Executes the word, and says where the hart goes on, if it does.
-    fn step(&mut self, word: u32, pc: u64, regs: &mut Regs) -> Option<u64> {
+    fn step(&mut self, word: u32, pc: u64, regs: &mut Regs) -> Option<u64>
+        ensures hart { self.new.hart ≡ self.old.hart }
+        ensures reached { Reaches (gone (exec_of word pc self.old.hart regs.old (prog_in self.old))) result regs.new self.new }
+    {
         let next = exec(
             word,
             pc,
@@ -135,28 +110,41 @@ impl Machine {
         }
     }
 
+    /// Lets the hart reserve what the instruction accesses, if it is to.
+    fn reserve(&mut self, is_to: bool, instr: &Instr, pc: u64, regs: &mut Regs) -> Option<u64>
+        ensures hart { self.new.hart ≡ self.old.hart }
+        ensures reached { Reaches (reserved is_to instr.now pc self.old.hart regs.old (prog_in self.old)) result regs.new self.new }
+    {
+        if is_to {
+            self.step(encode(&reserving(instr)?), pc, regs)
+        } else {
+            Some(pc)
+        }
+    }
+
+    /// The eight bytes at the address that was accessed, if one was. None where there is no memory for them.
+    fn bytes_left(&self, place: Option<u64>) -> Option<Option<u64>>
+        ensures { result ≡ bytes_left self.now.mem place }
+    {
+        match place {
+            Some(at) => Some(Some(self.mem.load(at, 8).ok()?)),
+            None => Some(None),
+        }
+    }
+
     /// Executes the word in this setting. None where it isn't an instruction, or the hart stops.
-    fn run(&mut self, word: u32, before: &Setting) -> Option<Outcome> {
+    fn run(&mut self, word: u32, before: &Setting) -> Option<Outcome>
+        ensures { result ≡ left_by (prog_in self.old) self.old.hart word before.now }
+    {
         let instr = decode(word)?;
         let place = accessed(&instr, before.first);
-        if let Some(at) = place {
-            self.mem.store(at, 8, before.memory?).ok()?;
-        }
         let mut regs = registers(word, before);
-        self.reservations.set(self.hart, None);
-        if before.reserved {
-            self.step(encode(&reserving(&instr)?), before.pc, &mut regs)?;
-        }
+        self.free();
+        self.prepare(place, before.memory)?;
+        self.reserve(before.reserved, &instr, before.pc, &mut regs)?;
         let next_pc = self.step(word, before.pc, &mut regs)?;
-        let memory = match place {
-            Some(at) => Some(self.mem.load(at, 8).ok()?),
-            None => None,
-        };
-        let result = match instr {
-            Instr::Branch { offset, .. } => u64::from(next_pc == before.pc.wrapping_add(offset)),
-            Instr::Store { .. } => memory?,
-            _ => regs.get(register(word, RD)),
-        };
+        let memory = self.bytes_left(place)?;
+        let result = result_left(&instr, word, before.pc, next_pc, &regs, memory)?;
         Some(Outcome {
             result,
             next_pc,
@@ -165,7 +153,9 @@ impl Machine {
     }
 
     /// Whether the word is an instruction that encodes to the same word, and does here what it did there.
-    pub fn agrees(&mut self, vector: &Vector) -> bool {
+    pub fn agrees(&mut self, vector: &Vector) -> bool
+        ensures { IsTrue result ↔ Agrees (prog_in self.old) self.old.hart vector.now }
+    {
         is_instruction(vector.word) && self.run(vector.word, &vector.before) == Some(vector.after)
     }
 }

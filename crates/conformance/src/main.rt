@@ -16,6 +16,7 @@ mod counts;
 mod line;
 mod listed;
 mod machine;
+mod setting;
 mod source;
 #[cfg(test)]
 mod tests;

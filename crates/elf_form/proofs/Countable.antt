@@ -35,13 +35,14 @@ from_by false o n named without h g =
     let k = one_at_most o in
     omega arith
 
-from_len : (strings source : List ℕ) (es : List SymbolEntry) → length (symbols_from strings source es) ≤ length es
+-- entries have no more symbols than there are of them
+pub from_len : (strings source : List ℕ) (es : List SymbolEntry) → length (symbols_from strings source es) ≤ length es
 from_len strings source [] = omega arith
 from_len strings source (e ∷ es) =
     let h = from_by (is_file e) (option_map (symbol_of strings source e) (kind_of e)) (length es) (symbols_from strings (module_of (name_at strings e.name)) es) (symbols_from strings source es) (from_len strings (module_of (name_at strings e.name)) es) (from_len strings source es) in
     omega arith
 
-last_len : (ss : List Symbol) → length (with_program_last ss) ≡ length ss
+pub last_len : (ss : List Symbol) → length (with_program_last ss) ≡ length ss
 last_len ss =
     let e = length-append (filter (λ (s : Symbol). not (is_of_program s)) ss) (filter is_of_program ss) in
     let g = length-filter_both is_of_program (λ (s : Symbol). not (is_of_program s)) (λ s. refl) ss in

@@ -80,7 +80,7 @@ are_named strings source (e ∷ es) m fit =
     (are_named strings (module_of (name_at strings e.name)) es (is_module (name_at strings e.name)) fit.1)
     (all_append IsNamed (option_to_list (option_map (symbol_of strings source e) (kind_of e))) (symbols_from strings source es) (kept_named strings source e (kind_of e) m fit.0) (are_named strings source es m fit.1))
 
-last_named : (ss : List Symbol) → AllByRecursion IsNamed ss → AllByRecursion IsNamed (with_program_last ss)
+pub last_named : (ss : List Symbol) → AllByRecursion IsNamed ss → AllByRecursion IsNamed (with_program_last ss)
 last_named ss all = all_append IsNamed (filter (λ s. not (is_of_program s)) ss) (filter is_of_program ss) (all_kept IsNamed (λ s. not (is_of_program s)) ss all) (all_kept IsNamed is_of_program ss all)
 
 -- ---- order
@@ -114,7 +114,7 @@ not_true : (b : Bool) → not b ≡ true → b ≡ false
 not_true true h = sym h
 not_true false h = refl
 
-last_again : (ss : List Symbol) → with_program_last (with_program_last ss) ≡ with_program_last ss
+pub last_again : (ss : List Symbol) → with_program_last (with_program_last ss) ≡ with_program_last ss
 last_again ss =
     let p = λ (s : Symbol). not (is_of_program s) in
     let q = λ (s : Symbol). is_of_program s in

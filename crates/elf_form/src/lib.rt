@@ -5,6 +5,7 @@
 mod fault;
 mod fields;
 mod header;
+mod limits;
 mod load;
 mod section;
 mod segment;
@@ -12,6 +13,7 @@ mod symbol;
 
 pub use fault::ElfFault;
 pub use header::{Header, begins_as_elf, header_of};
+pub use limits::MAX_PROGRAM_LEN;
 pub use load::Load;
 pub use section::{SectionHeader, TextRange, section_header_at};
 pub use segment::{ProgramHeader, program_header_at};

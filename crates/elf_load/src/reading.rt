@@ -24,6 +24,7 @@ fn image_of(
 ) -> Result<Image, ElfFault>
     requires { header_fault bytes.now ≡ None }
     ensures meaning { MeansWith bytes.now (record { entry = entry; loads = loads.now; sections = sections.now }) result }
+    ensures few { IfOk result (λ image. length image.symbols < 2 ^ 32) }
     ensures named { IfOk result (λ image. names_len image.symbols ≤ MAX_NAMES_LEN) }
 {
     check_segments(loads, bytes.len() as u64)?;
@@ -40,11 +41,11 @@ fn image_of(
 }
 
 /// The image of an ELF file, or its first fault. Want of memory is the answer also where the names of its symbols have
-/// more than [`MAX_NAMES_LEN`] bytes together.
+/// more than [`MAX_NAMES_LEN`] bytes together, or its symbol table has 2^32 entries or more.
 pub fn load(alloc: Global, bytes: &[u8]) -> Result<Image, ElfFault>
     ensures meaning { Means result (meaning_of bytes.now) }
-    ensures accepted { IfOk result (λ image. length bytes.now < 2 ^ 32 → IsAccepted image) }
-    ensures modules { IfOk result (λ image. length bytes.now < 2 ^ 32 → All (λ s. is_good_name s.«module» ≡ true) image.symbols) }
+    ensures accepted { IfOk result IsAccepted }
+    ensures modules { IfOk result (λ image. All (λ s. is_good_name s.«module» ≡ true) image.symbols) }
     ensures named { IfOk result (λ image. names_len image.symbols ≤ MAX_NAMES_LEN) }
 {
     let header = checked_header(bytes)?;

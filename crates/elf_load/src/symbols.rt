@@ -1,6 +1,6 @@
 //! The symbols of a program.
 
-ghost use Rattle.std.specs.Prelude.{◌≡◌, ◌≤◌, nat_le, length, false, IfOk, Option, Some, None};
+ghost use Rattle.std.specs.Prelude.{◌≡◌, ◌<◌, ◌≤◌, ◌^◌, nat_le, length, false, IfOk, Option, Some, None};
 ghost use Rattle.std.specs.List.{list_all};
 ghost use Rattle.elf_form.specs.Symbols.{is_ended, is_short, section_bytes, symbol_of, symbol_table, strings_of, symbols_from, with_program_last, symbols_fault, symbols_of, table_fault, table_symbols};
 ghost use Rattle.elf_form.specs.Accepted.{names_len};
@@ -12,6 +12,9 @@ use crate::tables::{part, symbol_entries};
 use elf_form::{ElfFault, MAX_NAMES_LEN, SectionHeader, SymbolEntry};
 use pn_types::{NoMemory, PROGRAM_MODULE, SymKind, Symbol, Text};
 use std::alloc::Global;
+
+/// The greatest number of entries of a symbol table that is read, since an image counts its symbols in 32 bits.
+const MAX_ENTRIES: usize = 0xffff_ffff;
 
 /// The symbol table: the first section of its type.
 fn symbol_table(sections: &[SectionHeader]) -> Option<SectionHeader>
@@ -120,6 +123,7 @@ fn table_symbols(
 ) -> Result<Vec<Symbol>, ElfFault>
     ensures fault { ChecksOrWants result (table_fault bytes.now symbols.now (Some strings.now)) }
     ensures symbols { IfOk result (λ found. found.items ≡ table_symbols bytes.now symbols.now (Some strings.now)) }
+    ensures few { IfOk result (λ found. length found.items < 2 ^ 32) }
     ensures named { IfOk result (λ found. names_len found.items ≤ MAX_NAMES_LEN) }
 {
     if symbols.entry_size != 24 || symbols.size % 24 != 0 {
@@ -133,6 +137,9 @@ fn table_symbols(
     let entries = symbol_entries(alloc, bytes, symbols)?;
     if !are_ended(names, &entries) {
         return Err(ElfFault::BadSymbols);
+    }
+    if entries.len() > MAX_ENTRIES {
+        return Err(ElfFault::NoMemory);
     }
     if !are_names_short(names, &entries) {
         return Err(ElfFault::NoMemory);
@@ -149,6 +156,7 @@ pub fn checked_symbols(
 ) -> Result<Vec<Symbol>, ElfFault>
     ensures fault { ChecksOrWants result (symbols_fault bytes.now sections.now) }
     ensures symbols { IfOk result (λ symbols. symbols.items ≡ symbols_of bytes.now sections.now) }
+    ensures few { IfOk result (λ symbols. length symbols.items < 2 ^ 32) }
     ensures named { IfOk result (λ symbols. names_len symbols.items ≤ MAX_NAMES_LEN) }
 {
     let Some(symbols) = symbol_table(sections) else {

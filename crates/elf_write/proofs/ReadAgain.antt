@@ -198,6 +198,6 @@ module _ (i : Image) (acc : IsAccepted i) (named : CanWrite i) where
   unfolding meaning_of meaning_with
   read_again = ap (λ u. unless_fault (fault_with (elf_bytes i) u) (image_with (elf_bytes i) u)) tables ∙ ap (λ o. unless_fault o (image_with (elf_bytes i) t)) no_fault ∙ ap Ok same_image
 
--- what is written of an image that a file means
-pub reads_again : (file : List ℕ) (i : Image) → IsBytes file → meaning_of file ≡ Ok i → CanWrite i → meaning_of (elf_bytes i) ≡ Ok i
-reads_again file i bytes meant can = read_again i (accepted file i bytes meant (few_named i can)) can
+-- the image of a file, if it can be written
+pub file_accepted : (file : List ℕ) (i : Image) → IsBytes file → meaning_of file ≡ Ok i → CanWrite i → IsAccepted i
+file_accepted file i bytes meant can = accepted file i bytes meant (few_named i can)

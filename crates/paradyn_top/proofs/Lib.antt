@@ -1,3 +1,6 @@
 mod FewItems
 mod SightSteps
 mod PlanLemmas
+mod OneDue
+mod Rising
+mod OneOwed

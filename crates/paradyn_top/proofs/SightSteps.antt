@@ -1,13 +1,18 @@
 -- What was seen of files, step by step.
-use Rattle.std.proofs.Common.{◌≡◌, ℕ, ◌+◌, ◌<◌, List, length, Option, Some, None, Result, Ok, Err, refl, subst, arith}
-use Rattle.std.specs.Prelude.{replicate}
+use Rattle.std.proofs.Common.{◌≡◌, ℕ, ◌+◌, ◌<◌, ◌≤◌, List, length, Some, None, Result, Ok, Err, refl, sym, subst, arith}
+use Rattle.std.specs.Prelude.{nat_lt, replicate}
+use Rattle.std.proofs.lemmas.Bool.{lt-ltb, le-ltb, cond-true, cond-false}
 use Rattle.std.proofs.lemmas.List.{length-replicate}
+use Rattle.outside.specs.Causes.{Rose}
 use Rattle.outside.specs.Outside.{Holding, IsWhole, IsLonger}
-use Rattle.refusals.specs.Refusals.{Step, Then, Comes}
+use Rattle.mdl_ast.specs.declared.items.Conf.{Conf}
+use Rattle.pn_types.specs.declared.image.Image.{Image}
+use Rattle.refusals.specs.Refusals.{Refuses}
 use Rattle.refusals.specs.declared.fault.Fault.{Fault}
 use Rattle.refusals.specs.declared.refusal.Refusal.{Refusal}
-use Rattle.refusals.proofs.Steps.{comes_then}
-use Rattle.paradyn_top.specs.Sights.{Sight, IsRead}
+use Rattle.refusals.specs.declared.refusal.Refusal.TheVariants as refusal
+use Rattle.paradyn_top.specs.Inputs.{IsProgram, IsConfiguration}
+use Rattle.paradyn_top.specs.Sights.{Sight, seen, IsContent}
 
 -- a file that is longer than so many bytes has some bytes
 pub some_longer : (holding : Holding) (most : ℕ) → IsLonger holding most → (bytes : List ℕ) × IsWhole holding bytes × (most < length bytes)
@@ -15,15 +20,35 @@ some_longer None most h = (replicate (most + 1) 0, tt, omega (arith, length-repl
 some_longer (Some None) most h = absurd h
 some_longer (Some (Some file)) most h = (file, refl, h)
 
-module _ {B : Type 0} (sees : Sight) (most : ℕ) (name : List ℕ) (next : List ℕ → Step B) where
-  -- what follows the bytes of a file
-  pub some_then : (o : Option (List ℕ)) (bytes : List ℕ) (b : Result B Refusal) → o ≡ Some bytes → IsRead sees most name o → Comes b (next bytes) → Comes b (Then (sees name) next)
-  some_then None bytes b e read h = absurd (cc)
-  some_then (Some xs) bytes b e read h =
-      let same : xs ≡ bytes = cc in
-      comes_then (sees name) next bytes b (subst (λ (ys : List ℕ). sees name (Ok ys)) same read.0) h
+module _ (sees : Sight) (most : ℕ) (too_long : Fault) (name : List ℕ) where
+  -- a file that has at most so many bytes
+  pub short_content : (bytes : List ℕ) → sees name (Ok bytes) → length bytes ≤ most → IsContent sees most too_long name (Ok bytes)
+  short_content bytes h short = (Ok bytes, h, sym (cond-false (nat_lt most (length bytes)) (Err too_long) (Ok bytes) (le-ltb most (length bytes) short)))
 
-  -- what follows a file that is too long
-  pub none_then : (o : Option (List ℕ)) (fault : Fault) → o ≡ None → IsRead sees most name o → ((bytes : List ℕ) → most < length bytes → next bytes (Err fault)) → Then (sees name) next (Err fault)
-  none_then None fault e read h = (Ok read.0, read.1, h read.0 read.2)
-  none_then (Some xs) fault e read h = absurd (cc)
+  -- a file that has more
+  pub long_content : ((bytes : List ℕ) × sees name (Ok bytes) × (most < length bytes)) → IsContent sees most too_long name (Err too_long)
+  long_content (bytes, h, long) = (Ok bytes, h, sym (cond-true (nat_lt most (length bytes)) (Err too_long) (Ok bytes) (lt-ltb most (length bytes) long)))
+
+  -- a file that could not be read
+  pub unread_content : (fault : Fault) → sees name (Err fault) → IsContent sees most too_long name (Err fault)
+  unread_content fault h = (Err fault, h, refl)
+
+-- ---- what was seen before other files were read, and after
+
+-- a program that was read stays so
+pub program_again : (holds : List ℕ → Holding) (before then now : List ℕ → ℕ) (name : List ℕ) (image : Image) → IsProgram (seen holds before then) name (Ok image) → IsProgram (seen holds before now) name (Ok image)
+program_again holds before then now name image (Ok bytes, (Ok whole, h, short), is) = (Ok bytes, (Ok whole, h, short), is)
+program_again holds before then now name image (Ok bytes, (Err fault, h, short), is) = absurd (cc)
+program_again holds before then now name image (Err fault, h, is) = absurd (cc)
+
+-- a file whose holding and count are those of before
+pub seen_from : (holds later : List ℕ → Holding) (before then now : List ℕ → ℕ) (name : List ℕ) → later name ≡ holds name → then name ≡ before name → (r : Result (List ℕ) Fault) → seen later then now name r → seen holds before now name r
+seen_from holds later before then now name same count (Ok bytes) h = subst (λ x. IsWhole x bytes) same h
+seen_from holds later before then now name same count (Err fault) h = (h.0, subst (λ n. Rose n (now name)) count h.1)
+
+pub configuration_from : (sees also : Sight) (name : List ℕ) → ((r : Result (List ℕ) Fault) → sees name r → also name r) → (conf : Result Conf Fault) → IsConfiguration sees name conf → IsConfiguration also name conf
+configuration_from sees also name more conf (content, (bytes, h, short), means) = (content, (bytes, more bytes h, short), means)
+
+pub refuses_as : (P Q : Fault → Type 0) (e : Refusal) → ((fault : Fault) → P fault → Q fault) → Refuses e P → Refuses e Q
+refuses_as P Q (refusal.Fault fault) more h = more fault h
+refuses_as P Q refusal.NoMemory more h = tt

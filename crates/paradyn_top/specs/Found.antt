@@ -1,5 +1,5 @@
 -- What is found of a program and a configuration: the program's resources, and what the configuration says of them.
-use Rattle.std.specs.Prelude.{ℕ, ◌≡◌, List, Result, Ok, Err}
+use Rattle.std.specs.Prelude.{ℕ, ◌≡◌, Ok, Err}
 use Rattle.code_points.specs.Points.{points_of}
 use Rattle.code_points.specs.Procedures.{procedures_of}
 use Rattle.code_points.specs.Objects.{objects_of}

@@ -1,5 +1,5 @@
 -- What the top call leaves in its sinks.
-use Rattle.std.specs.Prelude.{◌≡◌, ◌≢◌, ◌⊎◌, ℕ, List, [], map, string_bytes, Option, Some, None, Result, Ok, Err}
+use Rattle.std.specs.Prelude.{◌≡◌, ◌⊎◌, ℕ, ◌<◌, ◌-◌, ◌^◌, IsSome, List, [], map, string_bytes, Option, Some, None, Result, Err}
 use Rattle.outside.specs.Outside.{Holding, IsCalm}
 use Rattle.refusals.specs.declared.fault.Fault.{Fault}
 use Rattle.refusals.specs.declared.fault.Fault.TheVariants.{FileFault}
@@ -18,6 +18,15 @@ pub record IsOwed {F : Type 0} (holds : F → List ℕ → Holding) (faults : F 
   pub due : IsDue words (seen (holds old) (faults old) (faults new)) answer
   pub same : (name : List ℕ) → holds new name ≡ holds old name
   pub counts : CountedFor holds faults old new answer
+
+-- What each file holds is told, and its count of faults is below the end of its type.
+abbrev pub AreTold : {F : Type 0} → (F → List ℕ → Holding) → (F → List ℕ → ℕ) → F → Type 0
+AreTold holds faults files = (name : List ℕ) → IsSome (holds files name) × (faults files name < 2 ^ 64 - 1)
+
+-- Over files that are told one answer is owed.
+abbrev pub OneOwed : {F : Type 0} → (F → List ℕ → Holding) → (F → List ℕ → ℕ) → Type 0
+OneOwed {F} holds faults = (old new : F) (words : List (List ℕ)) (a b : Result Texts Fault) →
+    AreTold holds faults old → IsOwed holds faults old new words a → IsOwed holds faults old new words b → a ≡ b
 
 -- Nothing was read beyond what is due: no count of faults rose, or the answer that is due names a file as unread.
 abbrev pub IsUntold : {F : Type 0} → (F → List ℕ → Holding) → (F → List ℕ → ℕ) → F → F → List (List ℕ) → Type 0

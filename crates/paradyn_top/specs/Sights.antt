@@ -1,8 +1,8 @@
 -- What was seen of files, and which counts of faults rose.
-use Rattle.std.specs.Prelude.{◌≡◌, ◌<◌, ◌≤◌, ℕ, List, length, Option, Some, None, Result, Ok, Err}
+use Rattle.std.specs.Prelude.{◌≡◌, ℕ, List, length, nat_lt, if◌then◌else◌, Result, Ok, Err}
 use Rattle.outside.specs.Causes.{Rose}
 use Rattle.outside.specs.Outside.{Holding, IsWhole, IsCalm, ReadsOnly}
-use Rattle.refusals.specs.Refusals.{Step}
+use Rattle.refusals.specs.Refusals.{Step, Then}
 use Rattle.refusals.specs.declared.fault.Fault.{Fault}
 use Rattle.refusals.specs.declared.fault.Fault.TheVariants.{Usage, FileFault, BadProgram, BadConf, BadPick, NotYet}
 use Rattle.refusals.specs.declared.refusal.Refusal.{Refusal}
@@ -17,10 +17,13 @@ abbrev pub seen : (List ℕ → Holding) → (List ℕ → ℕ) → (List ℕ �
 seen holds before now name (Ok bytes) = IsWhole (holds name) bytes
 seen holds before now name (Err fault) = (fault ≡ FileFault name) × Rose (before name) (now name)
 
--- a file was read to its end where it has at most so many bytes, and is longer otherwise
-abbrev pub IsRead : Sight → ℕ → List ℕ → Option (List ℕ) → Type 0
-IsRead sees most name (Some bytes) = sees name (Ok bytes) × (length bytes ≤ most)
-IsRead sees most name None = (bytes : List ℕ) × sees name (Ok bytes) × (most < length bytes)
+-- the bytes, or this fault where there are more than so many
+abbrev pub limited : ℕ → Fault → List ℕ → Result (List ℕ) Fault
+limited most too_long bytes = if nat_lt most (length bytes) then Err too_long else Ok bytes
+
+-- what the file of a name has, if it has at most so many bytes
+abbrev pub IsContent : Sight → ℕ → Fault → List ℕ → Step (List ℕ)
+IsContent sees most too_long name = Then (sees name) (λ bytes content. content ≡ limited most too_long bytes)
 
 -- the counts of faults after a fault: none rose but that of the file which the fault names
 abbrev pub Counted : {F : Type 0} → (F → List ℕ → Holding) → (F → List ℕ → ℕ) → F → F → Fault → Type 0

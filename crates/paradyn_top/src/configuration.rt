@@ -22,9 +22,9 @@ pub(crate) fn bad_configuration(line: u32, col: u32, kind: ConfKind) -> Refusal
 
 /// The configuration of a text.
 pub(crate) fn configuration(alloc: Global, text: &[u8]) -> Result<Conf, Refusal>
-    requires { length text.now ≤ 1048576 }
+    requires { length text.now ≤ CONFIGURATION_LIMIT }
     ensures means { Comes result (MeansConf text.now) }
-    ensures few { IfOk result (λ conf. length conf.items ≤ 1048576) }
+    ensures few { IfOk result (λ conf. length conf.items ≤ CONFIGURATION_LIMIT) }
 {
     match parse(alloc, text) {
         Ok(conf) => Ok(conf),

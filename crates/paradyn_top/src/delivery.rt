@@ -4,12 +4,13 @@ ghost use Rattle.paradyn_top.specs.Serving.{AreGained, AreTorn};
 use crate::texts::Texts;
 use outside::{Failed, Sink, write_all};
 
-/// Writes texts, first to the log and then to the output.
-pub(crate) fn deliver<K: Sink, L: Sink>(
-    texts: &Texts,
-    out: &mut K,
-    log: &mut L,
-) -> Result<(), Failed>
+/// Writes texts, first all of the log and then the output.
+///
+/// # Errors
+///
+/// `Failed` comes where a sink failed or took no byte. That sink has a true prefix of its text then; where it was the log,
+/// the output has nothing.
+pub fn deliver<K: Sink, L: Sink>(texts: &Texts, out: &mut K, log: &mut L) -> Result<(), Failed>
     ensures gained { OnOk result (AreGained K.has K.faults out.old out.new L.has L.faults log.old log.new texts.now) }
     ensures torn { OnErr result (AreTorn K.has K.faults out.old out.new L.has L.faults log.old log.new texts.now) }
 {

@@ -2,19 +2,30 @@
 
 ghost use Rattle.std.specs.Prelude.{◌≡◌, ◌≤◌, IfOk, length};
 ghost use Rattle.code_points.specs.Procedures.{AreModulesGood};
-ghost use Rattle.paradyn_top.specs.Inputs.{IsProgram, IsElfFile, IsConfiguration, AreInputs};
+ghost use Rattle.paradyn_top.specs.Inputs.{IsProgramContent, IsProgram, IsElfFile, IsConfiguration, AreInputs};
 ghost use Rattle.paradyn_top.specs.Sights.{seen, Looks};
 ghost use Rattle.pn_types.specs.Images.{IsImage};
 ghost use Rattle.refusals.specs.Refusals.{Comes};
 
-use crate::configuration::{CONFIGURATION_LIMIT, bad_configuration, configuration};
+use crate::configuration::{CONFIGURATION_LIMIT, configuration};
 use crate::files::read_file;
-use crate::loading::{PROGRAM_LIMIT, bad_program, load, make_file};
+use crate::loading::{load, make_file};
+use elf_form::MAX_PROGRAM_LEN;
 use mdl_ast::Conf;
 use outside::Files;
 use pn_types::{Image, Seq};
-use refusals::{ConfKind, ProgramFault, Refusal};
+use refusals::{ConfFault, ConfKind, Fault, ProgramFault, Refusal};
 use std::alloc::Global;
+
+/// Reads a program file.
+fn read_program_file<F: Files>(alloc: Global, files: &mut F, name: &str) -> Result<Seq<u8>, Refusal>
+    ensures content { Comes result (IsProgramContent (seen (F.holds files.old) (F.faults files.old) (F.faults files.new)) name.now) }
+    ensures short { IfOk result (λ bytes. length bytes ≤ MAX_PROGRAM_LEN) }
+    ensures looks { Looks F.holds F.faults files.old files.new result }
+{
+    let too_long = Fault::BadProgram(ProgramFault::TooLong);
+    read_file(alloc, files, name, MAX_PROGRAM_LEN, too_long)
+}
 
 /// Reads a program file, and gives its image.
 pub(crate) fn read_program<F: Files>(
@@ -27,10 +38,8 @@ pub(crate) fn read_program<F: Files>(
     ensures modules { IfOk result AreModulesGood }
     ensures looks { Looks F.holds F.faults files.old files.new result }
 {
-    match read_file(alloc, files, name, PROGRAM_LIMIT)? {
-        Some(bytes) => load(alloc, bytes.as_slice()),
-        None => Err(bad_program(ProgramFault::TooLong)),
-    }
+    let bytes = read_program_file(alloc, files, name)?;
+    load(alloc, bytes.as_slice())
 }
 
 /// Reads an assembly text, and gives its ELF file.
@@ -42,10 +51,8 @@ pub(crate) fn read_text<F: Files>(
     ensures file { Comes result (IsElfFile (seen (F.holds files.old) (F.faults files.old) (F.faults files.new)) name.now) }
     ensures looks { Looks F.holds F.faults files.old files.new result }
 {
-    match read_file(alloc, files, name, PROGRAM_LIMIT)? {
-        Some(bytes) => make_file(alloc, bytes.as_slice()),
-        None => Err(bad_program(ProgramFault::TooLong)),
-    }
+    let bytes = read_program_file(alloc, files, name)?;
+    make_file(alloc, bytes.as_slice())
 }
 
 /// Reads a configuration.
@@ -58,10 +65,13 @@ pub(crate) fn read_configuration<F: Files>(
     ensures few { IfOk result (λ conf. length conf.items ≤ 1048576) }
     ensures looks { Looks F.holds F.faults files.old files.new result }
 {
-    match read_file(alloc, files, name, CONFIGURATION_LIMIT)? {
-        Some(bytes) => configuration(alloc, bytes.as_slice()),
-        None => Err(bad_configuration(0, 0, ConfKind::TooLong)),
-    }
+    let too_long = Fault::BadConf(ConfFault {
+        line: 0,
+        col: 0,
+        kind: ConfKind::TooLong,
+    });
+    let bytes = read_file(alloc, files, name, CONFIGURATION_LIMIT, too_long)?;
+    configuration(alloc, bytes.as_slice())
 }
 
 /// A program and a configuration.

@@ -8,6 +8,7 @@ mod delivery;
 mod files;
 mod finding;
 mod inputs;
+mod laws;
 mod listing;
 mod loading;
 mod planning;
@@ -17,6 +18,9 @@ mod texts;
 mod top;
 
 pub use command_words::log_name;
+pub use delivery::deliver;
+pub use laws::one_owed;
 pub use program::{Words, run_program};
 pub use refusals::{ConfFault, ConfKind, Fault, ProgramFault, faults_text};
+pub use texts::Texts;
 pub use top::serve;

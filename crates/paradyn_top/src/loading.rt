@@ -10,14 +10,11 @@ ghost use Rattle.refusals.specs.Refusals.{Comes};
 ghost use Rattle.rv_asm.specs.Assembly.{assembled};
 
 use asm_file::elf_of_text;
-use elf_form::ElfFault;
+use elf_form::{ElfFault, MAX_PROGRAM_LEN};
 use pn_types::{Image, Seq};
 use refusals::{Fault, ProgramFault, Refusal};
 use rv_asm::{AsmFault, assemble};
 use std::alloc::Global;
-
-/// The greatest length of a program file in bytes.
-pub(crate) const PROGRAM_LIMIT: u64 = 33_554_432;
 
 /// The refusal of a program.
 pub(crate) fn bad_program(fault: ProgramFault) -> Refusal
@@ -35,7 +32,7 @@ fn begins_elf(bytes: &[u8]) -> bool
 
 /// The image of an ELF file.
 fn load_elf(alloc: Global, bytes: &[u8]) -> Result<Image, Refusal>
-    requires { length bytes.now ≤ 33554432 }
+    requires { length bytes.now ≤ MAX_PROGRAM_LEN }
     ensures loads { Comes result (λ image. image ≡ or_bad_elf (meaning_of bytes.now)) }
     ensures image { IfOk result IsImage }
     ensures modules { IfOk result AreModulesGood }
@@ -49,7 +46,7 @@ fn load_elf(alloc: Global, bytes: &[u8]) -> Result<Image, Refusal>
 
 /// The image of an assembly text.
 fn load_text(alloc: Global, bytes: &[u8]) -> Result<Image, Refusal>
-    requires { length bytes.now ≤ 33554432 }
+    requires { length bytes.now ≤ MAX_PROGRAM_LEN }
     ensures loads { Comes result (λ image. image ≡ or_bad_text (assembled bytes.now)) }
     ensures image { IfOk result IsImage }
     ensures modules { IfOk result AreModulesGood }
@@ -63,7 +60,7 @@ fn load_text(alloc: Global, bytes: &[u8]) -> Result<Image, Refusal>
 
 /// The image of a program's bytes.
 pub(crate) fn load(alloc: Global, bytes: &[u8]) -> Result<Image, Refusal>
-    requires { length bytes.now ≤ 33554432 }
+    requires { length bytes.now ≤ MAX_PROGRAM_LEN }
     ensures loads { Comes result (λ image. image ≡ image_of bytes.now) }
     ensures image { IfOk result IsImage }
     ensures modules { IfOk result AreModulesGood }
@@ -77,7 +74,7 @@ pub(crate) fn load(alloc: Global, bytes: &[u8]) -> Result<Image, Refusal>
 
 /// The ELF file of an assembly text.
 pub(crate) fn make_file(alloc: Global, text: &[u8]) -> Result<Seq<u8>, Refusal>
-    requires { length text.now ≤ 33554432 }
+    requires { length text.now ≤ MAX_PROGRAM_LEN }
     ensures { Comes result (λ file. file ≡ file_of text.now) }
 {
     match elf_of_text(alloc, text) {

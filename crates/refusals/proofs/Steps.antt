@@ -1,5 +1,5 @@
 -- Steps one after another.
-use Rattle.std.proofs.Common.{◌≡◌, Result, Ok, Err, refl, sym, subst}
+use Rattle.std.proofs.Common.{◌≡◌, Result, Ok, Err, refl, sym, ap, ◌∙◌, subst}
 use Rattle.std.specs.Result.{IsErr, IsErrAnd}
 use Rattle.refusals.specs.declared.fault.Fault.{Fault}
 use Rattle.refusals.specs.declared.refusal.Refusal.{Refusal}
@@ -26,3 +26,27 @@ handed_on first next e (Err x) h why = subst (λ (y : Refusal). Comes (Err y) (T
 pub handed_as : {B : Type 0} (step : Step B) (e : Refusal) (r : Result B Refusal) → IsErr r × IsErrAnd r (λ x. x ≡ e) → Refuses e (λ fault. step (Err fault)) → Comes r step
 handed_as step e (Ok b) h why = absurd h.1
 handed_as step e (Err x) h why = subst (λ (y : Refusal). Comes (Err y) step) (sym h.1) why
+
+-- ---- steps that come to one thing
+
+-- a step comes to one thing
+abbrev pub IsOne : {A : Type 0} → Step A → Type 0
+IsOne {A} step = (a b : Result A Fault) → step a → step b → a ≡ b
+
+-- where each of two steps comes to one thing, so do both
+pub one_then : {A B : Type 0} (first : Step A) (next : A → Step B) → IsOne first → ((a : A) → IsOne (next a)) → IsOne (Then first next)
+one_then first next one each r s (Ok a, f, n) (Ok b, g, m) =
+    let same = one (Ok a) (Ok b) f g in
+    let value : b ≡ a = cc in
+    each a r s n (subst (λ x. next x s) value m)
+one_then first next one each r s (Ok a, f, n) (Err e, g, m) = let same = one (Ok a) (Err e) f g in absurd cc
+one_then first next one each r s (Err e, f, n) (Ok b, g, m) = let same = one (Err e) (Ok b) f g in absurd cc
+one_then first next one each r s (Err e, f, n) (Err d, g, m) =
+    let same = one (Err e) (Err d) f g in
+    let fault : e ≡ d = cc in
+    n ∙ ap (λ x. Err x) fault ∙ sym m
+
+-- where a fault is what both come to, it is what one of them comes to
+pub of_either : {A B : Type 0} (P : Type 0) (first : Step A) (next : A → Step B) (fault : Fault) → (first (Err fault) → P) → ((a : A) → next a (Err fault) → P) → Then first next (Err fault) → P
+of_either P first next fault of each (Ok a, f, n) = each a n
+of_either P first next fault of each (Err e, f, n) = let same : e ≡ fault = cc in of (subst (λ x. first (Err x)) same f)

@@ -1,5 +1,5 @@
 -- An assembled image is an image, whose text doesn't name x31.
-use Rattle.std.proofs.Common.{◌≡◌, ℕ, suc, ◌+◌, ◌-◌, ◌*◌, ◌^◌, ◌<◌, ◌≤◌, ◌==◌, cond, not, Bool, true, false, Option, Some, None, Result, Ok, Err, List, [], ◌∷◌, length, take, drop, refl, ap, ◌∙◌, subst, arith}
+use Rattle.std.proofs.Common.{◌≡◌, ℕ, suc, ◌+◌, ◌-◌, ◌*◌, ◌^◌, ◌<◌, ◌≤◌, ◌==◌, cond, not, Bool, true, false, Option, Some, None, Result, Ok, Err, List, [], ◌∷◌, ◌++◌, length, take, drop, refl, ap, ◌∙◌, subst, arith}
 use Rattle.std.specs.List.{All, AllByRecursion, sum_by}
 use Rattle.std.proofs.lemmas.List.Elements.{All-from_recursion}
 use Rattle.pn_types.specs.GoodNames.{is_good_name}
@@ -23,6 +23,7 @@ use Rattle.rv_asm.specs.SecondPass.{code}
 use Rattle.rv_asm.specs.Assembly.{assembled, closed, closed_by, sized, image_of, segment, data_bytes, symbol_of, symbols_from, symbols_of, belonging, belongs, is_own, ends_after, name_room, names_room}
 use Rattle.rv_asm.proofs.Lengths.{mark_room, marks_room, Passes, lines_len, passed_leads, lines_shorter, blank_tight, ok_step, ok_is, passes_by}
 use Rattle.rv_asm.proofs.CleanCode.{IsClean, all_append, clean_none, clean_whole, code_clean}
+use Rattle.rv_asm.proofs.CleanNames.{IsClean as IsCleanName, AreNamed, passed_named}
 use Rattle.rv_asm.proofs.SoundDrafts.{IsSound, AreOfModules, passed_sound, blank_sound, entry_whole}
 
 -- ---- names
@@ -86,6 +87,27 @@ modules_of d all =
     let good = symbols_good d.ends d.marks all in
     let symbols = symbols_from d.ends d.marks in
     all_append HasGoodModule (belonging false symbols) (belonging true symbols) (belonging_good false symbols good) (belonging_good true symbols good)
+
+-- a symbol with such a module, whose name has no zero byte and whose numbers have 64 bits
+pub record IsWhole (s : Symbol) : Type 0 where
+  pub name : IsCleanName s.name
+  pub source : HasGoodModule s
+  pub at : s.at < 2 ^ 64
+  pub size : s.size < 2 ^ 64
+
+symbol_whole : (m : Mark) (ends : List ℕ) → IsCleanName m.name → is_good_name m.«module» ≡ true → IsWhole (symbol_of m ends)
+unfolding symbol_of
+symbol_whole m ends name source = record { name = name; source = source; at = omega arith; size = omega arith }
+
+symbols_whole : (ends : List ℕ) (ms : List Mark) → AreNamed ms → AreOfModules ms → AllByRecursion IsWhole (symbols_from ends ms)
+symbols_whole ends [] names modules = tt
+symbols_whole ends (m ∷ ms) names modules = (symbol_whole m ends names.0 modules.0, symbols_whole (ends_after m.kind ends) ms names.1 modules.1)
+
+-- symbols in the order of their marks, of which those of the program come last
+pub record ArePut (symbols : List Symbol) : Type 0 where
+  pub marked : List Symbol
+  pub whole : AllByRecursion IsWhole marked
+  pub put : belonging false marked ++ belonging true marked ≡ symbols
 
 -- ---- segments
 
@@ -166,10 +188,11 @@ pub record IsAssembled (len : ℕ) (image : Image) : Type 0 where
   pub unscratched : scratch_in (words_of (text_of image)) image.text_at ≡ None
   pub names : names_room image.symbols ≤ 127 * (len + 1)
   pub modules : All HasGoodModule image.symbols
+  pub symbols : ArePut image.symbols
 
-image_is : (len : ℕ) (d : Draft) (text : List ℕ) → IsSound d → IsClean text → 0 < length text → length text ≤ 524288 → length (data_bytes d.data_part) ≤ 16777216 → length d.marks ≤ len + 1 → marks_room d ≤ 127 * (len + 1) → IsAssembled len (image_of d text)
+image_is : (len : ℕ) (d : Draft) (text : List ℕ) → IsSound d → IsClean text → 0 < length text → length text ≤ 524288 → length (data_bytes d.data_part) ≤ 16777216 → length d.marks ≤ len + 1 → marks_room d ≤ 127 * (len + 1) → AreNamed d.marks → IsAssembled len (image_of d text)
 unfolding image_of
-image_is len d text sound clean some short small few room =
+image_is len d text sound clean some short small few room named =
     let ss = segments_by (length (data_bytes d.data_part) == 0) text (data_bytes d.data_part) refl some short small in
     let count = draft_many d in
     let same = draft_room d in
@@ -193,6 +216,7 @@ image_is len d text sound clean some short small few room =
       unscratched = ap (λ b. scratch_in (words_of b) text_start) ss.bytes ∙ clean_none text text_start clean;
       names = omega arith;
       modules = All-from_recursion HasGoodModule (symbols_of d) (modules_of d sound.marks);
+      symbols = record { marked = symbols_from d.ends d.marks; whole = symbols_whole d.ends d.marks named sound.marks; put = refl };
     }
 
 -- What a text stands for is an image, whose text doesn't name x31.
@@ -206,6 +230,7 @@ assembled_is text image e =
     let same : first.0 ≡ whole.0 = closed_is first.0 whole.0 first.0.opened whole.1.0 in
     let passes = subst (λ (d : Draft). Passes (lines_len (lines text)) blank_draft d) same (passed_leads 1 blank_draft first.0 (lines text) first.1.0 blank_tight) in
     let sound = subst IsSound same (passed_sound 1 blank_draft first.0 (lines text) first.1.0 blank_sound) in
+    let named = subst (λ (d : Draft). AreNamed d.marks) same (passed_named 1 blank_draft first.0 (lines text) first.1.0 tt) in
     let clean = code_clean whole.0.labels whole.0.text_part bytes.0 sound.code bytes.1.0 in
     let room = passes.room in
     let count = passes.count in
@@ -213,4 +238,4 @@ assembled_is text image e =
     let data_fits = found.data_len in
     let len = lines_shorter text in
     subst (IsAssembled (length text)) found.is
-    (image_is (length text) whole.0 bytes.0 sound clean found.some found.text_len (omega arith) (omega arith) (omega arith))
+    (image_is (length text) whole.0 bytes.0 sound clean found.some found.text_len (omega arith) (omega arith) (omega arith) named)

@@ -181,7 +181,7 @@ judged_by : (n : ℕ) (s : Section) (inside : Bool) (o : Option Line) (found : L
 judged_by n s inside None found e = absurd (cc)
 judged_by n s inside (Some line) found e = ap Some (faultless_is n s inside line found e)
 
-judged_line : (n : ℕ) (s : Section) (inside : Bool) (bytes : List ℕ) (found : Line) → judged n s inside bytes ≡ Ok found → line_of bytes ≡ Some found
+pub judged_line : (n : ℕ) (s : Section) (inside : Bool) (bytes : List ℕ) (found : Line) → judged n s inside bytes ≡ Ok found → line_of bytes ≡ Some found
 unfolding judged
 judged_line n s inside bytes found e = judged_by n s inside (line_of bytes) found e
 

@@ -11,4 +11,5 @@ pub mod SoundDrafts
 mod ShorterOperands
 mod Shorter
 mod Lengths
+mod CleanNames
 pub mod AssembledImages

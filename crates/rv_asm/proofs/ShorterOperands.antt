@@ -18,11 +18,11 @@ step_of (Some a) f x e = (a, (refl, e))
 pub some_is : {A : Type 0} (a x : A) → ◌≡◌ {A = Option A} (Some a) (Some x) → a ≡ x
 some_is a x e = cc
 
-chosen : {A : Type 0} (b : Bool) (a x : A) → cond b (Some a) None ≡ Some x → a ≡ x
+pub chosen : {A : Type 0} (b : Bool) (a x : A) → cond b (Some a) None ≡ Some x → a ≡ x
 chosen true a x e = cc
 chosen false a x e = absurd (cc)
 
-alone_is : {A : Type 0} (value : A) (rest : List ℕ) (x : A) → alone value rest ≡ Some x → value ≡ x
+pub alone_is : {A : Type 0} (value : A) (rest : List ℕ) (x : A) → alone value rest ≡ Some x → value ≡ x
 alone_is value rest x e = chosen (ends rest) value x e
 
 pub either : {A : Type 0} (P : Type 0) (a b : Option A) (x : A) → (a ≡ Some x → P) → (b ≡ Some x → P) → option_or a b ≡ Some x → P

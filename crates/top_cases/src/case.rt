@@ -1,7 +1,7 @@
 use crate::given::Given;
 use outside::{MemFiles, MemSink, StdSink, write_all};
-use paradyn_top::{Words, run_program};
-use pn_types::NoMemory;
+use paradyn_top::{Texts, Words, deliver, run_program};
+use pn_types::{NoMemory, Seq};
 use std::alloc::Global;
 use std::io;
 
@@ -29,6 +29,19 @@ fn words(alloc: Global, line: Option<&str>) -> Result<Words, NoMemory> {
         }
     }
     Ok(Words::Read(words))
+}
+
+/// The bytes of a text.
+fn bytes_of(alloc: Global, text: &str) -> Result<Seq<u8>, NoMemory> {
+    Ok(Seq::from_vec(text.as_bytes().to_vec(alloc)?))
+}
+
+/// Prints what a sink has.
+fn show(rt: HostRuntime, name: &str, sink: &MemSink) -> io::Result<()> {
+    print!(rt; "{name} '")?;
+    let mut printed = StdSink::new(rt);
+    let _ = write_all(&mut printed, sink.bytes());
+    println!(rt; "'")
 }
 
 impl Case {
@@ -69,14 +82,35 @@ impl Case {
         Ok(files)
     }
 
+    /// A sink of which these writings fail.
+    fn sink(&self, alloc: Global, fails: &Vec<u64>) -> Result<MemSink, NoMemory> {
+        MemSink::new(alloc, ROOM, self.piece, Vec::from_slice(alloc, fails)?)
+    }
+
+    /// Delivers the texts of the log and the output, between which is a space, and prints what each sink gained.
+    pub fn deliver(&self, rt: HostRuntime, alloc: Global, texts: &str) -> io::Result<()> {
+        let (log_text, out_text) = texts.split_once(' ').unwrap_or((texts, ""));
+        let texts = Texts {
+            out: bytes_of(alloc, out_text)?,
+            log: bytes_of(alloc, log_text)?,
+        };
+        let mut out = self.sink(alloc, &self.out_fails)?;
+        let mut log = self.sink(alloc, &self.log_fails)?;
+        let answer = match deliver(&texts, &mut out, &mut log) {
+            Ok(()) => "delivered",
+            Err(_) => "failed",
+        };
+        println!(rt; "{answer}")?;
+        show(rt, "log", &log)?;
+        show(rt, "output", &out)
+    }
+
     /// Serves words, and prints how the program ends and what the sinks gained.
     pub fn serve(&self, rt: HostRuntime, alloc: Global, line: Option<&str>) -> io::Result<()> {
         let words = words(alloc, line)?;
         let mut files = self.files(alloc)?;
-        let out_fails = Vec::from_slice(alloc, &self.out_fails)?;
-        let log_fails = Vec::from_slice(alloc, &self.log_fails)?;
-        let mut out = MemSink::new(alloc, ROOM, self.piece, out_fails)?;
-        let mut log = MemSink::new(alloc, ROOM, self.piece, log_fails)?;
+        let mut out = self.sink(alloc, &self.out_fails)?;
+        let mut log = self.sink(alloc, &self.log_fails)?;
         let exit = run_program(alloc, &words, &mut files, &mut out, &mut log);
         let count = out.bytes().len();
         let logged = log.bytes().len();

@@ -5,6 +5,8 @@ pub enum Line<'a> {
     Given(&'a str, &'a str),
     /// Words that are served, or none where they aren't text.
     Served(Option<&'a str>),
+    /// Texts that are delivered.
+    Delivered(&'a str),
     /// Nothing.
     Nothing,
 }
@@ -22,6 +24,7 @@ impl<'a> Line<'a> {
         match word {
             "words" => Line::Served(Some(rest)),
             "not-text" => Line::Served(None),
+            "deliver" => Line::Delivered(rest),
             "" | "#" => Line::Nothing,
             _ => Line::Given(word, rest),
         }

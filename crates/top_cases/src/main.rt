@@ -8,6 +8,7 @@
 //! - `fail NUMBER`: this reading of the last file fails, counted from 0.
 //! - `piece COUNT`: a writing takes at most so many bytes. `fail-out NUMBER`, `fail-log NUMBER`: this writing fails.
 //! - `words WORDS`: the words, between single spaces, are served. `not-text`: words that aren't text are.
+//! - `deliver LOG OUTPUT`: these two texts are delivered, and what the log and the output gained is printed.
 //!
 //! Other lines say nothing.
 #![tactic(auto)]
@@ -31,6 +32,10 @@ fn main(rt: HostRuntime) -> io::Result<()> {
             Line::Served(words) => {
                 println!(rt; "{text}")?;
                 case.serve(rt, alloc, words)?;
+            }
+            Line::Delivered(texts) => {
+                println!(rt; "{text}")?;
+                case.deliver(rt, alloc, texts)?;
             }
             Line::Nothing => {}
         }

@@ -1,12 +1,15 @@
-use Rattle.std.proofs.Common.{◌≡◌, ap, ◌∙◌, subst}
-use Rattle.std.proofs.Common.{arith}
+use Rattle.std.proofs.Common.{◌≡◌, ℕ, ◌<◌, ◌^◌, List, length, ap, ◌∙◌, subst, arith}
 use Rattle.std.proofs.lemmas.Result.{MatchResult-weaker}
+use Rattle.std.specs.Prelude.{◌≢◌, IfOk, MatchResult, Result, Ok, Err}
 use Rattle.elf_form.proofs.AcceptedImages.{accepted, good_modules}
-use Rattle.elf_form.proofs.Countable.{few_symbols}
-use Rattle.std.specs.Prelude.{◌≢◌, MatchResult, Ok, Err}
+use Rattle.elf_form.specs.Accepted.{IsAccepted, IsBytes}
+use Rattle.elf_form.specs.Meaning.{meaning_of}
 use Rattle.elf_form.specs.Segments.{loads_from}
+use Rattle.elf_form.specs.declared.fault.ElfFault.{ElfFault}
 use Rattle.elf_form.specs.declared.fault.ElfFault.TheVariants.{NoMemory}
 use Rattle.elf_load.proofs.MeaningLemmas.{passed, header_meant, tables_read}
+use Rattle.elf_load.specs.Means.{Means}
+use Rattle.pn_types.specs.declared.image.Image.{Image}
 use Rattle.elf_load.proofs.reading.load.Goals as goal
 
 pub returns-in_err-header-clause-meaning : goal.returns-in_err-header-clause-meaning
@@ -20,10 +23,13 @@ returns-clause-meaning c =
     subst (λ meaning. MatchResult c.image_of.result (λ image. meaning ≡ Ok image) (λ fault. fault ≢ NoMemory → meaning ≡ Err fault))
     (tables_read c.args.bytes.now c.in_ok-header.header _ _ c.in_ok-header.ensures.header loads sections) c.image_of.ensures.meaning
 
+accepted_by : (b : List ℕ) (r : Result Image ElfFault) → IsBytes b → Means r (meaning_of b) → IfOk r (λ image. length image.symbols < 2 ^ 32) → IfOk r IsAccepted
+accepted_by b (Ok image) bytes meant few = accepted b image bytes meant few
+accepted_by b (Err fault) bytes meant few = tt
+
 pub returns-clause-accepted : goal.returns-clause-accepted
 returns-clause-accepted c =
-    MatchResult-weaker c.image_of.result (returns-clause-meaning c) (λ image meant short. accepted c.args.bytes.now image (λ i. omega (arith, c.type_inv.bytes i)) meant (omega (arith, few_symbols c.args.bytes.now image meant))) (λ fault meant. tt)
+    accepted_by c.args.bytes.now c.image_of.result (λ i. omega (arith, c.type_inv.bytes i)) (returns-clause-meaning c) c.image_of.ensures.few
 
 pub returns-clause-modules : goal.returns-clause-modules
-returns-clause-modules c =
-    MatchResult-weaker c.image_of.result (returns-clause-accepted c) (λ image is short. good_modules image (is short)) (λ fault _. tt)
+returns-clause-modules c = MatchResult-weaker c.image_of.result (returns-clause-accepted c) good_modules (λ fault _. tt)

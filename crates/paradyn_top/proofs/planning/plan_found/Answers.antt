@@ -1,4 +1,4 @@
-use Rattle.std.proofs.Common.{◌≡◌, ◌<◌, length, Some, Option, Result, Ok, List, ℕ, sym, ap, ap₂, subst, ◌∙◌}
+use Rattle.std.proofs.Common.{◌≡◌, ◌<◌, length, Ok, List, sym, ap, ap₂, subst, ◌∙◌}
 use Rattle.std.specs.Prelude.{slice_get}
 use Rattle.command_words.specs.Asked.{asked_plan}
 use Rattle.mdl_ast.specs.declared.metric.Metric.{Metric}

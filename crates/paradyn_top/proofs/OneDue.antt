@@ -1,0 +1,186 @@
+-- What is due is unique where each file was seen as one thing.
+use Rattle.std.proofs.Common.{◌≡◌, ℕ, List, Option, Some, None, Bool, true, false, Result, Ok, Err, sym, ap, ◌∙◌}
+use Rattle.command_words.specs.Requests.{Request, RunRequest, PlanRequest, run, make_plan, assemble, list_points, later, request_of}
+use Rattle.elf_form.specs.declared.limits.TheConstants.{MAX_PROGRAM_LEN}
+use Rattle.mdl_ast.specs.declared.items.Conf.{Conf}
+use Rattle.mdl_check.specs.Checking.{OneAnswer}
+use Rattle.mdl_check.specs.declared.checked.Checked.{Checked}
+use Rattle.mdl_check.specs.declared.fault.CheckFault.{CheckFault}
+use Rattle.mdl_check.specs.declared.fault.CheckFault.TheVariants.{NoMemory, At}
+use Rattle.mdl_check.specs.declared.fault.CheckKind.{CheckKind}
+use Rattle.mdl_parse.specs.Meaning.{OneConf, OneFault, ConfOrFault}
+use Rattle.mdl_parse.specs.Shipped.{shipped_conf}
+use Rattle.mdl_parse.specs.declared.fault.SyntaxKind.{SyntaxKind}
+use Rattle.mdl_plan.specs.Plans.{plan_of}
+use Rattle.mdl_plan.specs.declared.fault.PlanFault.{PlanFault}
+use Rattle.mdl_plan.specs.declared.fault.PlanFault.TheVariants as cause
+use Rattle.plain_report.specs.Reports.{OneReport}
+use Rattle.pn_types.specs.declared.code.Proc.{Proc}
+use Rattle.pn_types.specs.declared.image.Image.{Image}
+use Rattle.pn_types.specs.declared.plan.Plan.{Plan}
+use Rattle.pn_types.specs.declared.code.Point.{Point}
+use Rattle.refusals.proofs.Steps.{IsOne, one_then}
+use Rattle.refusals.specs.Kinds.{fault_at, syntax_kind, check_kind}
+use Rattle.refusals.specs.Refusals.{Step, Then}
+use Rattle.refusals.specs.declared.configuration.ConfKind.TheVariants.{TooLong as TooLongConf}
+use Rattle.refusals.specs.declared.program.ProgramFault.TheVariants.{TooLong}
+use Rattle.refusals.specs.declared.fault.Fault.{Fault}
+use Rattle.refusals.specs.declared.fault.Fault.TheVariants.{Usage, BadProgram, BadConf, NotYet}
+use Rattle.resource_tree.specs.Foci.{OneSelection, canonical}
+use Rattle.resource_tree.specs.Resources.{Resources}
+use Rattle.paradyn_top.specs.Answers.{output}
+use Rattle.paradyn_top.specs.Due.{asks_instruments, IsRunWith, IsRun, IsRunDue, IsDueFor, IsDue}
+use Rattle.paradyn_top.specs.Found.{resources_of, IsCheck, IsFound}
+use Rattle.paradyn_top.specs.Inputs.{image_of, file_of, MeansConf, IsProgramContent, IsProgram, IsElfFile, IsConfContent, IsConfiguration, AreInputs}
+use Rattle.paradyn_top.specs.Plans.{metric_named, or_unknown, or_bad_focus, IsSelected, IsPlanned, IsPlanAt, IsPlan}
+use Rattle.paradyn_top.specs.Sights.{Sight, limited, IsContent}
+use Rattle.paradyn_top.specs.declared.configuration.TheConstants.{CONFIGURATION_LIMIT}
+use Rattle.paradyn_top.specs.declared.finding.Found.{Found}
+use Rattle.paradyn_top.specs.declared.inputs.Inputs.{Inputs}
+
+-- the laws of what the top call's steps stand upon
+pub record Laws : Type 0 where
+  pub conf : OneConf
+  pub wrong : OneFault
+  pub either : ConfOrFault
+  pub answer : OneAnswer
+  pub selection : OneSelection
+  pub report : OneReport
+
+equal_once : {A : Type 0} (value : Result A Fault) → IsOne (λ r. r ≡ value)
+equal_once value a b e f = e ∙ sym f
+
+-- ---- configurations
+
+abbrev conf_fault : ℕ → ℕ → SyntaxKind → Fault
+conf_fault line col kind = BadConf (fault_at line col (syntax_kind kind))
+
+module _ (laws : Laws) where
+  conf_once : (text : List ℕ) → IsOne (MeansConf text)
+  conf_once text (Ok c) (Ok d) a b = ap (λ (x : Conf). Ok x) (laws.conf text c d a b)
+  conf_once text (Ok c) (Err f) a (line, col, kind, b, e) = absurd (laws.either text c line col kind a b)
+  conf_once text (Err f) (Ok d) (line, col, kind, a, e) b = absurd (laws.either text d line col kind b a)
+  conf_once text (Err f) (Err g) (line, col, kind, a, e) (line', col', kind', b, e') =
+      let same = laws.wrong text line col line' col' kind kind' a b in
+      ap (λ (x : Fault). Err x)
+      (e ∙ ap (λ (n : ℕ). conf_fault n col kind) same.0 ∙ ap (λ (n : ℕ). conf_fault line' n kind) same.1 ∙ ap (conf_fault line' col') same.2 ∙ sym e')
+
+  -- ---- what is found
+
+  abbrev checked_fault : ℕ → CheckKind → Fault
+  checked_fault line kind = BadConf (fault_at line 0 (check_kind kind))
+
+  abbrev checked : Checked → Result Checked CheckFault
+  checked c = Ok c
+
+  abbrev refused : ℕ → CheckKind → Result Checked CheckFault
+  refused line kind = Err (At line kind)
+
+  some_checked : (c : Checked) → checked c ≡ Err NoMemory → ⊥
+  some_checked c e = cc
+
+  some_fault : (line : ℕ) (kind : CheckKind) → refused line kind ≡ Err NoMemory → ⊥
+  some_fault line kind e = cc
+
+  check_once : (t : Resources) (conf : Conf) → IsOne (IsCheck t conf)
+  check_once t conf (Ok c) (Ok d) a b =
+      let same = laws.answer t shipped_conf.items conf.items (Ok c) (Ok d) a b (some_checked c) (some_checked d) in
+      let value : c ≡ d = cc in
+      ap (λ (x : Checked). Ok x) value
+  check_once t conf (Ok c) (Err g) a (line, kind, b, e) =
+      let same = laws.answer t shipped_conf.items conf.items (Ok c) (Err (At line kind)) a b (some_checked c) (some_fault line kind) in
+      absurd cc
+  check_once t conf (Err f) (Ok d) (line, kind, a, e) b =
+      let same = laws.answer t shipped_conf.items conf.items (Err (At line kind)) (Ok d) a b (some_fault line kind) (some_checked d) in
+      absurd cc
+  check_once t conf (Err f) (Err g) (line, kind, a, e) (line', kind', b, e') =
+      let same = laws.answer t shipped_conf.items conf.items (Err (At line kind)) (Err (At line' kind')) a b (some_fault line kind) (some_fault line' kind') in
+      let one : line ≡ line' = cc in
+      let other : kind ≡ kind' = cc in
+      ap (λ (x : Fault). Err x) (e ∙ ap (λ (n : ℕ). checked_fault n kind) one ∙ ap (checked_fault line') other ∙ sym e')
+
+  abbrev made : Resources → List Proc → List Point → Checked → Found
+  made tree procs points checked = record { tree = tree; procs = procs; points = points; checked = checked }
+
+  found_once : (image : Image) (harts : ℕ) (conf : Conf) → IsOne (IsFound image harts conf)
+  found_once image harts conf (Ok f) (Ok g) a b =
+      let same = check_once (resources_of image harts conf) conf (Ok f.checked) (Ok g.checked) a.checked b.checked in
+      let checked : f.checked ≡ g.checked = cc in
+      ap (λ (x : Found). Ok x) (
+      ap (λ (x : Resources). made x f.procs f.points f.checked) (a.tree ∙ sym b.tree)
+      ∙ ap (λ (x : List Proc). made g.tree x f.points f.checked) (a.procs ∙ sym b.procs)
+      ∙ ap (λ (x : List Point). made g.tree g.procs x f.checked) (a.points ∙ sym b.points)
+      ∙ ap (made g.tree g.procs g.points) checked)
+  found_once image harts conf (Ok f) (Err e) a b =
+      let same = check_once (resources_of image harts conf) conf (Ok f.checked) (Err e) a.checked b in
+      absurd cc
+  found_once image harts conf (Err e) (Ok g) a b =
+      let same = check_once (resources_of image harts conf) conf (Err e) (Ok g.checked) a b.checked in
+      absurd cc
+  found_once image harts conf (Err d) (Err e) a b =
+      let same = check_once (resources_of image harts conf) conf (Err d) (Err e) a b in
+      let fault : d ≡ e = cc in
+      ap (λ (x : Fault). Err x) fault
+
+  -- ---- plans
+
+  selected_once : (t : Resources) (text : List ℕ) → IsOne (IsSelected t text)
+  selected_once t text r s (o, a, e) (p, b, f) = e ∙ ap or_bad_focus (laws.selection t text o p a b) ∙ sym f
+
+  planned_once : (metric focus : List ℕ) (due : Result Plan PlanFault) → IsOne (IsPlanned metric focus due)
+  planned_once metric focus (Ok plan) a b e f = e ∙ sym f
+  planned_once metric focus (Err cause.NoMemory) a b e f = absurd e
+  planned_once metric focus (Err (cause.NoConstraint axis)) a b e f = e ∙ sym f
+  planned_once metric focus (Err (cause.TooManySites n)) a b e f = e ∙ sym f
+  planned_once metric focus (Err (cause.TooManyStmts at)) a b e f = e ∙ sym f
+
+  plan_once : (p : PlanRequest) (found : Found) → IsOne (IsPlan p found)
+  plan_once p found =
+      one_then (λ m. m ≡ or_unknown (metric_named found.checked.metrics p.metric)) (λ m. Then (IsSelected found.tree p.focus) (IsPlanAt p.metric found m))
+      (equal_once (or_unknown (metric_named found.checked.metrics p.metric)))
+      (λ m. one_then (IsSelected found.tree p.focus) (IsPlanAt p.metric found m) (selected_once found.tree p.focus)
+      (λ focus. planned_once p.metric (canonical found.tree focus) (plan_of found.checked.constraints m focus found.tree found.procs found.points)))
+
+  -- ---- runs
+
+  run_once : (r : RunRequest) (image : Image) (asks : Bool) → IsOne (IsRunWith r image asks)
+  run_once r image true a b e f = e ∙ sym f
+  run_once r image false a b (text, reports, e) (other, reports', f) =
+      e ∙ ap (λ (t : List ℕ). Ok (output t)) (laws.report image r.settings r.seed r.quantum text other reports reports') ∙ sym f
+
+  module _ (sees : Sight) (once : (name : List ℕ) → IsOne (sees name)) where
+    content_once : (most : ℕ) (too_long : Fault) (name : List ℕ) → IsOne (IsContent sees most too_long name)
+    content_once most too_long name = one_then (sees name) (λ bytes content. content ≡ limited most too_long bytes) (once name) (λ bytes. equal_once (limited most too_long bytes))
+
+    program_once : (name : List ℕ) → IsOne (IsProgram sees name)
+    program_once name =
+        one_then (IsProgramContent sees name) (λ bytes image. image ≡ image_of bytes) (content_once MAX_PROGRAM_LEN (BadProgram TooLong) name) (λ bytes. equal_once (image_of bytes))
+
+    inputs_once : (program conf : List ℕ) → IsOne (AreInputs sees program conf)
+    inputs_once program conf =
+        let ended : Image → Conf → Step Inputs = λ image c inputs. inputs ≡ Ok (record { image = image; conf = c }) in
+        one_then (IsProgram sees program) (λ image. Then (IsConfiguration sees conf) (ended image)) (program_once program)
+        (λ image. one_then (IsConfiguration sees conf) (ended image) (one_then (IsConfContent sees conf) MeansConf (content_once CONFIGURATION_LIMIT (BadConf (fault_at 0 0 TooLongConf)) conf) conf_once)
+        (λ c. equal_once (Ok (record { image = image; conf = c }))))
+
+    run_due_once : (r : RunRequest) (log : Option (List ℕ)) → IsOne (IsRunDue r log sees)
+    run_due_once r (Some log) = equal_once (Err NotYet)
+    run_due_once r None =
+        one_then (AreInputs sees r.program r.conf) (λ i. Then (IsFound i.image r.settings.harts i.conf) (IsRun r i.image)) (inputs_once r.program r.conf)
+        (λ i. one_then (IsFound i.image r.settings.harts i.conf) (IsRun r i.image) (found_once i.image r.settings.harts i.conf)
+        (λ found. run_once r i.image (asks_instruments found.checked)))
+
+    due_for_once : (asked : Option Request) → IsOne (IsDueFor asked sees)
+    due_for_once None = equal_once (Err Usage)
+    due_for_once (Some (run r)) = run_due_once r r.log
+    due_for_once (Some (make_plan p)) =
+        one_then (AreInputs sees p.program p.conf) (λ i. Then (IsFound i.image p.harts i.conf) (IsPlan p)) (inputs_once p.program p.conf)
+        (λ i. one_then (IsFound i.image p.harts i.conf) (IsPlan p) (found_once i.image p.harts i.conf) (plan_once p))
+    due_for_once (Some (list_points name)) = one_then (IsProgram sees name) _ (program_once name) (λ image. equal_once _)
+    due_for_once (Some (assemble name)) =
+        one_then (IsElfFile sees name) (λ file texts. texts ≡ Ok (output file))
+        (one_then (IsProgramContent sees name) (λ bytes file. file ≡ file_of bytes) (content_once MAX_PROGRAM_LEN (BadProgram TooLong) name) (λ bytes. equal_once (file_of bytes))) (λ file. equal_once (Ok (output file)))
+    due_for_once (Some later) = equal_once (Err NotYet)
+
+    pub due_once : (words : List (List ℕ)) → IsOne (IsDue words sees)
+    due_once words = due_for_once (request_of words)

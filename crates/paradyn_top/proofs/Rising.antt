@@ -1,0 +1,178 @@
+-- The count of faults of a file that the answer names as unread has risen.
+use Rattle.std.proofs.Common.{◌≡◌, ℕ, List, length, Option, Some, None, Bool, true, false, cond, Result, Ok, Err, sym, subst}
+use Rattle.std.specs.Prelude.{⊤, nat_lt}
+use Rattle.asm_file.specs.Made.{elf_of}
+use Rattle.command_words.specs.Requests.{Request, RunRequest, PlanRequest, run, make_plan, assemble, list_points, later, request_of}
+use Rattle.elf_form.specs.Meaning.{meaning_of}
+use Rattle.elf_form.specs.declared.fault.ElfFault.{ElfFault}
+use Rattle.elf_form.specs.declared.limits.TheConstants.{MAX_PROGRAM_LEN}
+use Rattle.mdl_ast.specs.declared.items.Conf.{Conf}
+use Rattle.mdl_ast.specs.declared.metric.Metric.{Metric}
+use Rattle.mdl_plan.specs.Plans.{plan_of}
+use Rattle.mdl_plan.specs.declared.fault.PlanFault.{PlanFault}
+use Rattle.mdl_plan.specs.declared.fault.PlanFault.TheVariants as cause
+use Rattle.outside.specs.Causes.{Rose}
+use Rattle.outside.specs.Outside.{Holding}
+use Rattle.pn_types.specs.declared.focus.Focus.{Focus}
+use Rattle.pn_types.specs.declared.image.Image.{Image}
+use Rattle.pn_types.specs.declared.plan.Plan.{Plan}
+use Rattle.refusals.proofs.Steps.{of_either}
+use Rattle.refusals.specs.Kinds.{fault_at}
+use Rattle.refusals.specs.Refusals.{Then}
+use Rattle.refusals.specs.declared.configuration.ConfKind.TheVariants.{TooLong as TooLongConf}
+use Rattle.refusals.specs.declared.fault.Fault.{Fault}
+use Rattle.refusals.specs.declared.fault.Fault.TheVariants.{Usage, FileFault, BadProgram, BadConf, BadPick, NotYet}
+use Rattle.refusals.specs.declared.program.ProgramFault.TheVariants.{TooLong}
+use Rattle.resource_tree.specs.Foci.{canonical}
+use Rattle.resource_tree.specs.Resources.{Resources}
+use Rattle.rv_asm.specs.Assembly.{assembled}
+use Rattle.rv_asm.specs.declared.fault.AsmFault.{AsmFault}
+use Rattle.paradyn_top.specs.Answers.{output}
+use Rattle.paradyn_top.specs.Due.{asks_instruments, IsRunWith, IsRun, IsRunDue, IsDueFor, IsDue}
+use Rattle.paradyn_top.specs.Found.{resources_of, IsCheck, IsFound}
+use Rattle.paradyn_top.specs.Inputs.{begins_elf, or_bad_elf, or_bad_text, image_of, file_of, MeansConf, IsProgramContent, IsProgram, IsElfFile, IsConfContent, IsConfiguration, AreInputs}
+use Rattle.paradyn_top.specs.Plans.{metric_named, or_unknown, or_bad_focus, IsSelected, IsPlanned, IsPlanAt, IsPlan}
+use Rattle.paradyn_top.specs.Sights.{Sight, seen, limited, IsContent}
+use Rattle.paradyn_top.specs.declared.configuration.TheConstants.{CONFIGURATION_LIMIT}
+use Rattle.paradyn_top.specs.declared.finding.Found.{Found}
+use Rattle.paradyn_top.specs.declared.inputs.Inputs.{Inputs}
+use Rattle.paradyn_top.specs.declared.texts.Texts.{Texts}
+
+-- ---- what names no file as unread
+
+abbrev pub NotFile : Fault → Type 0
+NotFile Usage = ⊤
+NotFile (FileFault name) = ⊥
+NotFile (BadProgram fault) = ⊤
+NotFile (BadConf fault) = ⊤
+NotFile (BadPick metric focus why) = ⊤
+NotFile NotYet = ⊤
+
+abbrev Spares : {A : Type 0} → Result A Fault → Type 0
+Spares (Ok a) = ⊤
+Spares (Err fault) = NotFile fault
+
+spared : {A : Type 0} (value : Result A Fault) (name : List ℕ) → Spares value → Err (FileFault name) ≡ value → ⊥
+spared {A} value name h e = subst (λ (r : Result A Fault). Spares r) (sym e) h
+
+if_spared : {A : Type 0} (b : Bool) (x y : Result A Fault) → Spares x → Spares y → Spares (cond b x y)
+if_spared true x y h g = h
+if_spared false x y h g = g
+
+elf_spared : {A : Type 0} (r : Result A ElfFault) → Spares (or_bad_elf r)
+elf_spared (Ok a) = tt
+elf_spared (Err fault) = tt
+
+text_spared : {A : Type 0} (r : Result A AsmFault) → Spares (or_bad_text r)
+text_spared (Ok a) = tt
+text_spared (Err fault) = tt
+
+limited_spared : (most : ℕ) (too_long : Fault) (bytes : List ℕ) → NotFile too_long → Spares (limited most too_long bytes)
+limited_spared most too_long bytes other = if_spared (nat_lt most (length bytes)) (Err too_long) (Ok bytes) other tt
+
+image_spared : (bytes : List ℕ) → Spares (image_of bytes)
+image_spared bytes = if_spared (begins_elf bytes) (or_bad_elf (meaning_of bytes)) (or_bad_text (assembled bytes)) (elf_spared (meaning_of bytes)) (text_spared (assembled bytes))
+
+conf_spared : (text : List ℕ) (name : List ℕ) → MeansConf text (Err (FileFault name)) → ⊥
+conf_spared text name (line, col, kind, wrong, e) = cc
+
+check_spared : (t : Resources) (conf : Conf) (name : List ℕ) → IsCheck t conf (Err (FileFault name)) → ⊥
+check_spared t conf name (line, kind, answer, e) = cc
+
+metric_spared : (o : Option Metric) (name : List ℕ) → Err (FileFault name) ≡ or_unknown o → ⊥
+metric_spared None name e = cc
+metric_spared (Some m) name e = cc
+
+focus_spared : (o : Option Focus) (name : List ℕ) → Err (FileFault name) ≡ or_bad_focus o → ⊥
+focus_spared None name e = cc
+focus_spared (Some m) name e = cc
+
+plan_spared : (metric focus : List ℕ) (due : Result Plan PlanFault) (name : List ℕ) → IsPlanned metric focus due (Err (FileFault name)) → ⊥
+plan_spared metric focus (Ok plan) name e = cc
+plan_spared metric focus (Err cause.NoMemory) name e = e
+plan_spared metric focus (Err (cause.NoConstraint axis)) name e = cc
+plan_spared metric focus (Err (cause.TooManySites n)) name e = cc
+plan_spared metric focus (Err (cause.TooManyStmts at)) name e = cc
+
+run_spared : (r : RunRequest) (image : Image) (asks : Bool) (name : List ℕ) → IsRunWith r image asks (Err (FileFault name)) → ⊥
+run_spared r image true name e = cc
+run_spared r image false name (text, reports, e) = cc
+
+-- ---- where a file was read
+
+module _ (holds : List ℕ → Holding) (before now : List ℕ → ℕ) (name : List ℕ) where
+  abbrev Rises : Type 0
+  Rises = Rose (before name) (now name)
+
+  abbrev sees : Sight
+  sees = seen holds before now
+
+  at_file : (other : List ℕ) → sees other (Err (FileFault name)) → Rises
+  at_file other h =
+      let e = h.0 in
+      let same : other ≡ name = cc in
+      subst (λ (x : List ℕ). Rose (before x) (now x)) same h.1
+
+  at_content : (most : ℕ) (too_long : Fault) (other : List ℕ) → NotFile too_long → IsContent sees most too_long other (Err (FileFault name)) → Rises
+  at_content most too_long other spare =
+      of_either Rises (sees other) (λ bytes content. content ≡ limited most too_long bytes) (FileFault name) (at_file other)
+      (λ bytes e. absurd (spared (limited most too_long bytes) name (limited_spared most too_long bytes spare) e))
+
+  at_program : (other : List ℕ) → IsProgram sees other (Err (FileFault name)) → Rises
+  at_program other =
+      of_either Rises (IsProgramContent sees other) (λ bytes image. image ≡ image_of bytes) (FileFault name) (at_content MAX_PROGRAM_LEN (BadProgram TooLong) other tt)
+      (λ bytes e. absurd (spared (image_of bytes) name (image_spared bytes) e))
+
+  at_text : (other : List ℕ) → IsElfFile sees other (Err (FileFault name)) → Rises
+  at_text other =
+      of_either Rises (IsProgramContent sees other) (λ bytes file. file ≡ file_of bytes) (FileFault name) (at_content MAX_PROGRAM_LEN (BadProgram TooLong) other tt)
+      (λ bytes e. absurd (spared (file_of bytes) name (text_spared (elf_of bytes)) e))
+
+  at_configuration : (other : List ℕ) → IsConfiguration sees other (Err (FileFault name)) → Rises
+  at_configuration other =
+      of_either Rises (IsConfContent sees other) MeansConf (FileFault name) (at_content CONFIGURATION_LIMIT (BadConf (fault_at 0 0 TooLongConf)) other tt) (λ bytes wrong. absurd (conf_spared bytes name wrong))
+
+  at_inputs : (program conf : List ℕ) → AreInputs sees program conf (Err (FileFault name)) → Rises
+  at_inputs program conf =
+      let ended : Image → Conf → Result Inputs Fault → Type 0 = λ image c inputs. inputs ≡ Ok (record { image = image; conf = c }) in
+      of_either Rises (IsProgram sees program) (λ image. Then (IsConfiguration sees conf) (ended image)) (FileFault name) (at_program program)
+      (λ image. of_either Rises (IsConfiguration sees conf) (ended image) (FileFault name) (at_configuration conf) (λ c e. absurd (cc)))
+
+  at_plan : (p : PlanRequest) (found : Found) → IsPlan p found (Err (FileFault name)) → ⊥
+  at_plan p found =
+      of_either ⊥ (λ m. m ≡ or_unknown (metric_named found.checked.metrics p.metric)) (λ m. Then (IsSelected found.tree p.focus) (IsPlanAt p.metric found m)) (FileFault name)
+      (metric_spared (metric_named found.checked.metrics p.metric) name)
+      (λ m. of_either ⊥ (IsSelected found.tree p.focus) (IsPlanAt p.metric found m) (FileFault name) (λ (o, selects, e). focus_spared o name e)
+      (λ focus. plan_spared p.metric (canonical found.tree focus) (plan_of found.checked.constraints m focus found.tree found.procs found.points) name))
+
+  abbrev due_texts : Fault → Result Texts Fault
+  due_texts fault = Err fault
+
+  not_yet : due_texts (FileFault name) ≡ due_texts NotYet → Rises
+  not_yet e = absurd (cc)
+
+  no_usage : due_texts (FileFault name) ≡ due_texts Usage → Rises
+  no_usage e = absurd (cc)
+
+  at_run : (r : RunRequest) (log : Option (List ℕ)) → IsRunDue r log sees (Err (FileFault name)) → Rises
+  at_run r (Some log) = not_yet
+  at_run r None =
+      of_either Rises (AreInputs sees r.program r.conf) (λ i. Then (IsFound i.image r.settings.harts i.conf) (IsRun r i.image)) (FileFault name)
+      (at_inputs r.program r.conf)
+      (λ i. of_either Rises (IsFound i.image r.settings.harts i.conf) (IsRun r i.image) (FileFault name)
+      (λ wrong. absurd (check_spared (resources_of i.image r.settings.harts i.conf) i.conf name wrong))
+      (λ found e. absurd (run_spared r i.image (asks_instruments found.checked) name e)))
+
+  at_request : (asked : Option Request) → IsDueFor asked sees (Err (FileFault name)) → Rises
+  at_request None = no_usage
+  at_request (Some (run r)) = at_run r r.log
+  at_request (Some (make_plan p)) =
+      of_either Rises (AreInputs sees p.program p.conf) (λ i. Then (IsFound i.image p.harts i.conf) (IsPlan p)) (FileFault name) (at_inputs p.program p.conf)
+      (λ i. of_either Rises (IsFound i.image p.harts i.conf) (IsPlan p) (FileFault name)
+      (λ wrong. absurd (check_spared (resources_of i.image p.harts i.conf) i.conf name wrong)) (λ found e. absurd (at_plan p found e)))
+  at_request (Some (list_points other)) = of_either Rises (IsProgram sees other) _ (FileFault name) (at_program other) (λ image e. absurd (cc))
+  at_request (Some (assemble other)) = of_either Rises (IsElfFile sees other) (λ file texts. texts ≡ Ok (output file)) (FileFault name) (at_text other) (λ file e. absurd (cc))
+  at_request (Some later) = not_yet
+
+  pub rises : (words : List (List ℕ)) → IsDue words sees (Err (FileFault name)) → Rises
+  rises words = at_request (request_of words)

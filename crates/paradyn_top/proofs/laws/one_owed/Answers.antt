@@ -1,0 +1,15 @@
+use Rattle.paradyn_top.proofs.OneOwed.{owed_once}
+use Rattle.paradyn_top.proofs.laws.one_owed.Goals as goal
+
+pub returns : goal.returns
+returns g c old new words a b told owed other =
+    owed_once g.F.Files.holds g.F.Files.faults old new told
+    (record {
+      conf = c.one_meaning.ensures.conf;
+      wrong = c.one_meaning.ensures.fault;
+      either = c.one_meaning.ensures.either;
+      answer = c.one_answer.ensures;
+      selection = c.one_reading.ensures.selection;
+      report = c.one_report.ensures;
+    })
+    words a b owed other
