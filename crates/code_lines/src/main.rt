@@ -1,0 +1,40 @@
+//! Answers the lines of the standard input, and prints each line before its answer. Numbers are hexadecimal, between single
+//! spaces.
+//!
+//! - `move WORD FROM TO`: how many words the moved word has, and these.
+//! - `base POINT AT WORD`: the base block of the point whose word this is, with the word moved there.
+//! - `mini AT NEXT`: the mini block at an address of one counter in slot 2, which leads to the next. `relinked AT NEXT OTHER`: the
+//!   same, made to lead elsewhere.
+#![tactic(auto)]
+
+mod blocks;
+mod numbers;
+
+use numbers::Numbers;
+use std::alloc::Global;
+use std::io;
+
+/// Prints the answer of a call; `no call` where it isn't understood.
+fn answer(rt: &impl Print, alloc: Global, line: &str) -> io::Result<()> {
+    let mut words = line.split(' ');
+    let call = words.next().unwrap_or("");
+    let numbers = Numbers::of(words.next(), words.next(), words.next());
+    match call {
+        "move" => blocks::print_moved(rt, numbers),
+        "base" => blocks::print_base(rt, alloc, numbers),
+        "mini" => blocks::print_mini(rt, alloc, numbers),
+        "relinked" => blocks::print_relinked(rt, alloc, numbers),
+        _ => println!(rt; "no call"),
+    }
+}
+
+fn main(rt: HostRuntime) -> io::Result<()> {
+    let alloc = rt.alloc();
+    for line in rt.lines(alloc) {
+        let line = line?;
+        let text = line.as_str();
+        println!(rt; "{text}")?;
+        answer(&rt, alloc, text)?;
+    }
+    Ok(())
+}
