@@ -51,6 +51,16 @@ pub fn moved_len(word: u32) -> u32
     }
 }
 
+/// The two words that put a number of 32 bits with their sign into a register.
+fn put_number(rd: u32, number: u64) -> [MarkedWord; 2]
+    ensures { result ≡ table.tools (jumps.put_number rd number) }
+{
+    let imm = lower(number);
+    let low = tool(Instr::Addiw { rd, rs1: rd, imm });
+    let imm = upper(number);
+    [tool(Instr::Lui { rd, imm }), low]
+}
+
 /// An auipc: its value is put into the register by two words.
 fn move_auipc(rd: u32, imm: u64, from: u64, to: u64) -> Result<Moved, Unmovable>
     requires from { from < 2 ^ 31 }
@@ -99,21 +109,9 @@ fn move_jal(rd: u32, offset: u64, from: u64, to: u64) -> Result<Moved, Unmovable
             len: 1,
         });
     }
-    let low = tool(Instr::Addiw {
-        rd,
-        rs1: rd,
-        imm: lower(from + 4),
-    });
+    let link = put_number(rd, from + 4);
     Ok(Moved {
-        words: [
-            tool(Instr::Lui {
-                rd,
-                imm: upper(from + 4),
-            }),
-            low,
-            jump,
-            jump,
-        ],
+        words: [link[0], link[1], jump, jump],
         len: 3,
     })
 }
@@ -135,15 +133,7 @@ fn move_jalr(word: u32, rd: u32, rs1: u32, offset: u64, from: u64) -> Moved
         rs1,
         imm: offset,
     });
-    let high = tool(Instr::Lui {
-        rd,
-        imm: upper(from + 4),
-    });
-    let low = tool(Instr::Addiw {
-        rd,
-        rs1: rd,
-        imm: lower(from + 4),
-    });
+    let [high, low] = put_number(rd, from + 4);
     let jump = MarkedWord::own(encode(&Instr::Jalr {
         rd: 0,
         rs1: 31,
