@@ -96,17 +96,17 @@ within (a ∷ xs) (b ∷ ys) (suc h) x l e = within xs ys h x (let m : length xs
 abbrev pub Does : Core → Plain → Event → Type 0
 Does c s e = LegalFrom c.program c.budget (owned c e) s × Inv (after c e) (run_from c.program (owned c e) s)
 
-turn_by_tick : (c : Core) (s : Plain) (h : ℕ) (x : Hart) (y : PlainHart) (b : Bool) (z : Solo) (v : Inv c s) → slice_get c.harts h ≡ Some x → slice_get s.harts h ≡ Some y → OwesBy b c.program c.budget v.ps h z y c.prog
+turn_by_tick : (c : Core) (s : Plain) (h : ℕ) (x : Hart) (y : PlainHart) (b : Bool) (z : Solo) (v : Inv c s) (bound : Option ℕ) → slice_get c.harts h ≡ Some x → slice_get s.harts h ≡ Some y → OwesBy b c.program c.budget v.ps v.clock bound h z y c.prog
     → LegalFrom c.program c.budget (cond b (h ∷ []) []) s × Inv (put_back c h z) (run_from c.program (cond b (h ∷ []) []) s)
-turn_by_tick c s h x y true z v ex ey o =
+turn_by_tick c s h x y true z v bound ex ey o =
     let may : IsTrue (can c.budget s h) = subst (λ q. IsTrue (may_go q c.budget)) (sym ey) o.0 in
     let a : Alone = plain.turn_alone c.program h (record { hart = y; prog = s.prog }) in
-    let d : Dynamic c.program c.budget v.ps z.hart a.hart = subst (λ q. Dynamic c.program c.budget v.ps z.hart (plain.turn_alone c.program h (record { hart = y; prog = q })).hart) v.prog o.1 in
+    let d : Dynamic c.program c.budget v.ps z.hart a.hart = subst (λ q. Dynamic c.program c.budget v.ps z.hart (plain.turn_alone c.program h (record { hart = y; prog = q })).hart) v.prog (o.1).0 in
     let p : z.prog ≡ a.prog = o.2 ∙ ap (λ q. (plain.turn_alone c.program h (record { hart = y; prog = q })).prog) v.prog in
     let i = puts c s (plain.put_back s h a) h x a.hart z v ex (get_set_same s.harts h y a.hart ey) (λ j n. get_set_other s.harts h j a.hart n) (length_slice_set s.harts h a.hart) d p in
     ((may, tt), subst (λ q. Inv (put_back c h z) (turn_of q c.program h s)) (sym ey) i)
-turn_by_tick c s h x y false z v ex ey o =
-    (tt, puts c s s h x y z v ex ey (λ j n. refl) refl o.0 (o.1 ∙ v.prog))
+turn_by_tick c s h x y false z v bound ex ey o =
+    (tt, puts c s s h x y z v ex ey (λ j n. refl) refl (o.0).0 (o.1 ∙ v.prog))
 
 not_stopped : (x : Hart) (budget : ℕ) → IsTrue (may_turn (Some x) budget) → (x.stop ≡ None) × ((x.inside ≡ true) ⊎ (x.ticks < budget))
 not_stopped x budget m =
@@ -125,7 +125,7 @@ turns c s h v (Some x) e m =
     let k = not_stopped x c.budget m in
     let d = v.harts h x q.0 e q.1 in
     let o = turn_keeps c.program v.ground c.budget c.code c.rows v.ps v.clock v.static h x q.0 c.prog d k.0 k.1 in
-    turn_by_tick c s h x q.0 (is_tick (fetched c.program c.code x)) (turn_alone c h x) v e q.1 o
+    turn_by_tick c s h x q.0 (is_tick (fetched c.program c.code x)) (turn_alone c h x) v _ e q.1 o
 
 -- one event
 pub step : (c : Core) (s : Plain) (e : Event) → Inv c s → May c e → Does c s e

@@ -14,6 +14,7 @@ use Rattle.rv_word.specs.Exec.{Prog, Outcome, Stops, Goes, done, exec_of, next}
 use Rattle.rv_word.specs.Plain.{Words, PlainHart, Alone, program_word, may_go, after_done, hart_after}
 use Rattle.rv_word.specs.Plain as plain
 use Rattle.rv_word.specs.declared.outcome.Cause.{Cause}
+use Rattle.rv_word.specs.declared.outcome.Next.TheVariants.{Go}
 use Rattle.rv_word.specs.declared.outcome.Cause.TheVariants.{FetchOutside}
 use Rattle.rv_word.specs.declared.instr.Instr.TheVariants.{Load, Store}
 use Rattle.rv_word.specs.declared.instr.LoadOp.TheVariants.{Ld}
@@ -22,10 +23,10 @@ use Rattle.tramp_spec.specs.Codes.{Code, tool_at, is_text_word, is_tool_word}
 use Rattle.tramp_spec.specs.Banks.{bank_len, saved_x5, set_bank}
 use Rattle.tramp_spec.specs.Blocks.{tail_of, moved_at}
 use Rattle.tramp_spec.specs.Bodies.{Safe, Harmless, Leap}
-use Rattle.tramp_spec.specs.Harts.{Hart, Solo, bench_of, stopped, ticked, own_step, other_hart, step_of, is_tick}
+use Rattle.tramp_spec.specs.Harts.{own_hart, Hart, Solo, bench_of, stopped, ticked, own_step, other_hart, step_of, is_tick}
 use Rattle.tramp_spec.specs.Marks.{own, enter, tool, leave, is_jump}
 use Rattle.tramp_spec.specs.MovedWords.{moved_of, own_place}
-use Rattle.tramp_spec.specs.Moves.{Agree, SameStep, bench}
+use Rattle.tramp_spec.specs.Moves.{Agree, Alike, LeadsHome, SameStep, bench}
 use Rattle.tramp_spec.specs.Steps.{Bench, stand, step_on, with_value, with_doubleword}
 use Rattle.tramp_spec.specs.declared.mark.Mark.TheVariants.{Enter, Tool, Leave}
 use Rattle.tramp_spec.specs.declared.mark.MarkedWord.{MarkedWord}
@@ -38,6 +39,7 @@ use Rattle.machine.specs.Places.{home_of, program_pc}
 use Rattle.machine.specs.Turns.{fetched}
 use Rattle.machine.proofs.Lists.{stands_at, get_append, get_before, same_some}
 use Rattle.machine.proofs.Invariant.{Ground, Piece, IsBase, Linked, base_with, BaseShape, MiniShape, Leads, HasFamily, Door, Static, Saved, Outside, AtSave, AtSaved, MovedWord, AtMoved, AtLeave, BasePlace, InBase, InMini, HartOk, Dynamic}
+use Rattle.machine.proofs.Lefts.{ahead, left_at, left, Below, Soon, ahead_of}
 use Rattle.machine.proofs.Homes.{one_block, home_word}
 
 -- ---- the program's words
@@ -100,11 +102,11 @@ text_cases t a = by (nat_le t.at a) ((a - t.at) % 4 == 0) refl refl
 -- ---- what a turn owes
 
 -- with what was fetched: a tick is a turn of the program, and the rest leaves the program's hart
-abbrev pub OwesBy : Bool → Words → ℕ → List Piece → ℕ → Solo → PlainHart → Prog → Type 0
-OwesBy true t budget ps h z y p =
-    IsTrue (may_go (Some y) budget) × Dynamic t budget ps z.hart (plain.turn_alone t h (record { hart = y; prog = p })).hart
+abbrev pub OwesBy : Bool → Words → ℕ → List Piece → ℕ → Option ℕ → ℕ → Solo → PlainHart → Prog → Type 0
+OwesBy true t budget ps clock bound h z y p =
+    IsTrue (may_go (Some y) budget) × Soon t budget ps clock bound z.hart (plain.turn_alone t h (record { hart = y; prog = p })).hart
     × (z.prog ≡ (plain.turn_alone t h (record { hart = y; prog = p })).prog)
-OwesBy false t budget ps h z y p = Dynamic t budget ps z.hart y × (z.prog ≡ p)
+OwesBy false t budget ps clock bound h z y p = Soon t budget ps clock bound z.hart y × (z.prog ≡ p)
 
 is_none_of : (o : Option Cause) → o ≡ None → is_none o ≡ true
 is_none_of None e = refl
@@ -114,11 +116,11 @@ pub wrap_next : (pc : ℕ) → pc + 4 < 2 ^ 64 → next pc ≡ pc + 4
 wrap_next pc l = omega arith
 
 module _ (t : Words) (g : Ground t) (budget : ℕ) (code : Code) (rows : List Row) (ps : List Piece) (clock : ℕ) (st : Static t code rows ps clock) (h : ℕ) (x : Hart) (y : PlainHart) (p : Prog) (d : Dynamic t budget ps x y) (on : x.stop ≡ None) where
-  abbrev Owes : Option MarkedWord → Type 0
-  Owes o = OwesBy (is_tick o) t budget ps h (step_of o h (program_pc code rows x) (record { hart = x; prog = p })) y p
+  abbrev Owes : Option ℕ → Option MarkedWord → Type 0
+  Owes bound o = OwesBy (is_tick o) t budget ps clock bound h (step_of o h (program_pc code rows x) (record { hart = x; prog = p })) y p
 
-  owes : (o : Option MarkedWord) → fetched t code x ≡ o → Owes o → Owes (fetched t code x)
-  owes o e k = subst Owes (sym e) k
+  owes : (bound : Option ℕ) (o : Option MarkedWord) → fetched t code x ≡ o → Owes bound o → Owes bound (fetched t code x)
+  owes bound o e k = subst (Owes bound) (sym e) k
 
   plain_on : y.stop ≡ None
   plain_on = sym d.stop ∙ on
@@ -127,9 +129,9 @@ module _ (t : Words) (g : Ground t) (budget : ℕ) (code : Code) (rows : List Ro
   can_go l = and_from _ _ (is_none_of y.stop plain_on) (lt-ltb _ _ (subst (λ n. n < budget) d.ticks l))
 
   -- the machine's hart behind a word that stops it
-  downs : (c : Cause) (home : ℕ) (z : PlainHart) → home ≡ y.pc → z ≡ record { pc = y.pc; regs = y.regs; ticks = y.ticks + 1; stop = Some c } → Dynamic t budget ps (ticked (stopped x home c)) z
-  downs c home z e is =
-      subst (Dynamic t budget ps (ticked (stopped x home c))) (sym is) (record {
+  downs : (bound : Option ℕ) (c : Cause) (home : ℕ) (z : PlainHart) → home ≡ y.pc → z ≡ record { pc = y.pc; regs = y.regs; ticks = y.ticks + 1; stop = Some c } → Soon t budget ps clock bound (ticked (stopped x home c)) z
+  downs bound c home z e is =
+      subst (Soon t budget ps clock bound (ticked (stopped x home c))) (sym is) (record {
         ticks = ap (λ n. n + 1) d.ticks;
         stop = refl;
         first = d.first;
@@ -137,18 +139,18 @@ module _ (t : Words) (g : Ground t) (budget : ℕ) (code : Code) (rows : List Ro
         bank = d.bank;
         down = λ k q. (refl, e);
         hart = λ q. absurd cc;
-      })
+      }, λ q. absurd cc)
 
   -- ---- outside
 
   own_outcome : (w : ℕ) (a b : Outcome) → x.inside ≡ false → x.pc ≡ y.pc → Same a b
-      → Dynamic t budget ps (own_step (done a x.regs p) w (program_pc code rows x) x).hart (after_done (done b y.regs p) y).hart × ((own_step (done a x.regs p) w (program_pc code rows x) x).prog ≡ (after_done (done b y.regs p) y).prog)
+      → Soon t budget ps clock None (own_step (done a x.regs p) w (program_pc code rows x) x).hart (after_done (done b y.regs p) y).hart × ((own_step (done a x.regs p) w (program_pc code rows x) x).prog ≡ (after_done (done b y.regs p) y).prog)
   own_outcome w (Stops c) (Stops e) i pc s =
-      (downs c (program_pc code rows x) _ (cond-false x.inside (home_of code rows x.pc) x.pc i ∙ pc) (ap (λ k. record { pc = y.pc; regs = y.regs; ticks = y.ticks + 1; stop = Some k }) (sym s)), refl)
+      (downs None c (program_pc code rows x) _ (cond-false x.inside (home_of code rows x.pc) x.pc i ∙ pc) (ap (λ k. record { pc = y.pc; regs = y.regs; ticks = y.ticks + 1; stop = Some k }) (sym s)), refl)
   own_outcome w (Stops c) (Goes pc b q) i e s = absurd s
   own_outcome w (Goes pc a q) (Stops c) i e s = absurd s
   own_outcome w (Goes pc a q) (Goes qc b r) i e s = (
-    record {
+    (record {
       ticks = ap (λ n. n + 1) d.ticks;
       stop = d.stop;
       first = (s.1).first;
@@ -156,42 +158,42 @@ module _ (t : Words) (g : Ground t) (budget : ℕ) (code : Code) (rows : List Ro
       bank = d.bank;
       down = λ k z. absurd cc;
       hart = λ z. inl (record { outside = ap (λ b. b && not (is_jump w)) i; pc = s.0; agree = (s.1).agree });
-    },
+    }, λ z. tt),
     s.2,
   )
 
-  own_outside : (w : ℕ) → has_scratch w ≡ false → x.inside ≡ false → x.pc ≡ y.pc → Agree x.regs y.regs → x.ticks < budget → program_word t y.pc ≡ Some w → Owes (Some (own w))
+  own_outside : (w : ℕ) → has_scratch w ≡ false → x.inside ≡ false → x.pc ≡ y.pc → Agree x.regs y.regs → x.ticks < budget → program_word t y.pc ≡ Some w → Owes None (Some (own w))
   own_outside w n i e a l f =
       let same : Same (exec_of w x.pc h x.regs p) (exec_of w y.pc h y.regs p) =
       subst (λ q. Same (exec_of w x.pc h x.regs p) (exec_of w q h y.regs p)) e (execs w x.pc h x.regs y.regs p n (record { agree = a; first = d.first; second = d.second })) in
       let both = own_outcome w (exec_of w x.pc h x.regs p) (exec_of w y.pc h y.regs p) i e same in
       let to : (o : Option ℕ) → Type 0 = λ o.
-      Dynamic t budget ps (own_step (done (exec_of w x.pc h x.regs p) x.regs p) w (program_pc code rows x) x).hart (after_done (done (plain.fetched o h y p) y.regs p) y).hart
+      Soon t budget ps clock None (own_step (done (exec_of w x.pc h x.regs p) x.regs p) w (program_pc code rows x) x).hart (after_done (done (plain.fetched o h y p) y.regs p) y).hart
       × ((own_step (done (exec_of w x.pc h x.regs p) x.regs p) w (program_pc code rows x) x).prog ≡ (after_done (done (plain.fetched o h y p) y.regs p) y).prog) in
       let k : to (program_word t y.pc) = subst to (sym f) both in (can_go l, k.0, k.1)
 
-  none_outside : x.inside ≡ false → x.pc ≡ y.pc → x.ticks < budget → program_word t y.pc ≡ None → Owes None
+  none_outside : x.inside ≡ false → x.pc ≡ y.pc → x.ticks < budget → program_word t y.pc ≡ None → Owes None None
   none_outside i e l f =
       let to : (o : Option ℕ) → Type 0 = λ o.
-      Dynamic t budget ps (ticked (stopped x (program_pc code rows x) FetchOutside)) (after_done (done (plain.fetched o h y p) y.regs p) y).hart
+      Soon t budget ps clock None (ticked (stopped x (program_pc code rows x) FetchOutside)) (after_done (done (plain.fetched o h y p) y.regs p) y).hart
       × (p ≡ (after_done (done (plain.fetched o h y p) y.regs p) y).prog) in
-      let k : to (program_word t y.pc) = subst to (sym f) (downs FetchOutside (program_pc code rows x) _ (cond-false x.inside (home_of code rows x.pc) x.pc i ∙ e) refl, refl) in (can_go l, k.0, k.1)
+      let k : to (program_word t y.pc) = subst to (sym f) (downs None FetchOutside (program_pc code rows x) _ (cond-false x.inside (home_of code rows x.pc) x.pc i ∙ e) refl, refl) in (can_go l, k.0, k.1)
 
   -- ---- words that are no ticks
 
-  tool_to : (w to : ℕ) (b : Bench) → step_on bank_len w x.ticks x.pc (bench_of x) ≡ Ok (stand to b) → Dynamic t budget ps (record x { pc = to; regs = b.regs; bank = b.bank }) y → Owes (Some (tool w))
-  tool_to w to b e k = (subst (λ r. Dynamic t budget ps (other_hart r Tool w (program_pc code rows x) x) y) (sym e) k, refl)
+  tool_to : (bound : Option ℕ) (w to : ℕ) (b : Bench) → step_on bank_len w x.ticks x.pc (bench_of x) ≡ Ok (stand to b) → Soon t budget ps clock bound (record x { pc = to; regs = b.regs; bank = b.bank }) y → Owes bound (Some (tool w))
+  tool_to bound w to b e k = (subst (λ r. Soon t budget ps clock bound (other_hart r Tool w (program_pc code rows x) x) y) (sym e) k, refl)
 
-  leave_to : (w to : ℕ) (b : Bench) → step_on 0 w x.ticks x.pc (bench_of x) ≡ Ok (stand to b) → Dynamic t budget ps (record x { pc = to; regs = b.regs; bank = b.bank; inside = false }) y → Owes (Some (leave w))
-  leave_to w to b e k = (subst (λ r. Dynamic t budget ps (other_hart r Leave w (program_pc code rows x) x) y) (sym e) k, refl)
+  leave_to : (bound : Option ℕ) (w to : ℕ) (b : Bench) → step_on 0 w x.ticks x.pc (bench_of x) ≡ Ok (stand to b) → Soon t budget ps clock bound (record x { pc = to; regs = b.regs; bank = b.bank; inside = false }) y → Owes bound (Some (leave w))
+  leave_to bound w to b e k = (subst (λ r. Soon t budget ps clock bound (other_hart r Leave w (program_pc code rows x) x) y) (sym e) k, refl)
 
-  enter_to : (w to : ℕ) (b : Bench) → step_on 0 w x.ticks x.pc (bench_of x) ≡ Ok (stand to b) → Dynamic t budget ps (record x { pc = to; regs = b.regs; bank = b.bank; inside = true }) y → Owes (Some (enter w))
-  enter_to w to b e k = (subst (λ r. Dynamic t budget ps (other_hart r Enter w (program_pc code rows x) x) y) (sym e) k, refl)
+  enter_to : (bound : Option ℕ) (w to : ℕ) (b : Bench) → step_on 0 w x.ticks x.pc (bench_of x) ≡ Ok (stand to b) → Soon t budget ps clock bound (record x { pc = to; regs = b.regs; bank = b.bank; inside = true }) y → Owes bound (Some (enter w))
+  enter_to bound w to b e k = (subst (λ r. Soon t budget ps clock bound (other_hart r Enter w (program_pc code rows x) x) y) (sym e) k, refl)
 
-  enters : (b : Piece) → In b ps → IsBase b → b.row.point ≡ x.pc → b.row.status ≡ Live → (door : Door code b) → Outside x y → x.ticks < budget → Owes (Some (enter door.jump))
+  enters : (b : Piece) → In b ps → IsBase b → b.row.point ≡ x.pc → b.row.status ≡ Live → (door : Door code b) → Outside x y → x.ticks < budget → Owes None (Some (enter door.jump))
   enters b hb bs e live door o l =
       let hop : Hops x.pc b.row.at door.jump = subst (λ a. Hops a b.row.at door.jump) e door.hops in
-      enter_to door.jump b.row.at (bench_of x) (hop_steps 0 door.jump x.ticks x.pc b.row.at (bench_of x) hop (st.places b hb).aligned)
+      enter_to None door.jump b.row.at (bench_of x) (hop_steps 0 door.jump x.ticks x.pc b.row.at (bench_of x) hop (st.places b hb).aligned)
       (record {
         ticks = d.ticks;
         stop = d.stop;
@@ -207,7 +209,7 @@ module _ (t : Words) (g : Ground t) (budget : ℕ) (code : Code) (rows : List Ro
           inside = refl;
           place = inl (record { pc = refl; home = sym o.pc ∙ sym e; before = l; agree = o.agree });
         }));
-      })
+      }, λ z. tt)
 
   -- ---- inside
 
@@ -244,18 +246,19 @@ module _ (t : Words) (g : Ground t) (budget : ℕ) (code : Code) (rows : List Ro
   body_fits m hm k = let s = mini_shape m hm k in let l = s.len in let hi = (st.places m hm).high in let top = tool_high in omega arith
 
   -- on to what a jump leads to
-  hop_on : (b : Piece) (fam n q : ℕ) (live : Bool) (w : ℕ) → In b ps → IsBase b → (b.row.status ≡ Written → ⊥) → b.row.at ≡ fam → x.inside ≡ true → y.pc ≡ b.row.point → x.ticks < budget → Saved x y → Hops x.pc q w → Leads ps fam n q live → Owes (Some (tool w))
-  hop_on b fam n q live w hb bs was at i e l sv hop le = ⊎_elim to_tail to_mini le.to
+  hop_on : (most : ℕ) (b : Piece) (fam n q : ℕ) (live : Bool) (w : ℕ) → In b ps → IsBase b → (b.row.status ≡ Written → ⊥) → b.row.at ≡ fam → x.inside ≡ true → y.pc ≡ b.row.point → x.ticks < budget → Saved x y → Hops x.pc q w → Leads ps fam n q live
+      → b.row.len - 2 + ahead ps fam n < most → Owes (Some most) (Some (tool w))
+  hop_on most b fam n q live w hb bs was at i e l sv hop le room = ⊎_elim to_tail to_mini le.to
     where
-      base : HartOk t budget ps (record x { pc = q }) y → Dynamic t budget ps (record x { pc = q; regs = x.regs; bank = x.bank }) y
-      base k = record { ticks = d.ticks; stop = d.stop; first = d.first; second = d.second; bank = d.bank; down = λ k z. absurd cc; hart = λ z. k }
+      base : (k : HartOk t budget ps (record x { pc = q }) y) → Below ps clock (Some most) k → Soon t budget ps clock (Some most) (record x { pc = q; regs = x.regs; bank = x.bank }) y
+      base k u = (record { ticks = d.ticks; stop = d.stop; first = d.first; second = d.second; bank = d.bank; down = λ k z. absurd cc; hart = λ z. k }, λ z. u)
 
-      to_tail : (le.lo ≡ 0) × (q ≡ tail_of fam) → Owes (Some (tool w))
+      to_tail : (le.lo ≡ 0) × (q ≡ tail_of fam) → Owes (Some most) (Some (tool w))
       to_tail r =
           let al = (st.places b hb).aligned in
           let e1 = r.1 in
           let a : q % 4 ≡ 0 = omega arith in
-          tool_to w q (bench_of x) (hop_steps bank_len w x.ticks x.pc q (bench_of x) hop a)
+          tool_to (Some most) w q (bench_of x) (hop_steps bank_len w x.ticks x.pc q (bench_of x) hop a)
           (base (inr (inl (record {
             b = b;
             is_in = hb;
@@ -263,9 +266,9 @@ module _ (t : Words) (g : Ground t) (budget : ℕ) (code : Code) (rows : List Ro
             was = was;
             inside = i;
             place = inr (inr (inl (record { pc = r.1 ∙ ap tail_of (sym at); home = e; before = l; saved = record { agree = sv.agree; saved = sv.saved } })));
-          }))))
+          }))) (omega arith))
 
-      to_mini : (m : Piece) × In m ps × Linked m × (m.family ≡ fam) × (m.age ≡ le.lo) × (m.row.at ≡ q) × (live ≡ true → m.row.status ≡ Live) → Owes (Some (tool w))
+      to_mini : (m : Piece) × In m ps × Linked m × (m.family ≡ fam) × (m.age ≡ le.lo) × (m.row.at ≡ q) × (live ≡ true → m.row.status ≡ Live) → Owes (Some most) (Some (tool w))
       to_mini r =
           let fm = st.families r.0 r.1 r.2 in
           let same : fm.0 ≡ b = one_block t code rows ps clock st fm.0 b (fm.1).is_in hb ((fm.1).at ∙ (r.3 ∙ sym at)) in
@@ -274,7 +277,7 @@ module _ (t : Words) (g : Ground t) (budget : ℕ) (code : Code) (rows : List Ro
           let e5 = r.5 in
           let a : q % 4 ≡ 0 = omega arith in
           let z : q ≡ (r.0).row.at + 4 * 0 = omega arith in
-          tool_to w q (bench_of x) (hop_steps bank_len w x.ticks x.pc q (bench_of x) hop a)
+          tool_to (Some most) w q (bench_of x) (hop_steps bank_len w x.ticks x.pc q (bench_of x) hop a)
           (base (inr (inr (record {
             m = r.0;
             b = b;
@@ -290,7 +293,7 @@ module _ (t : Words) (g : Ground t) (budget : ℕ) (code : Code) (rows : List Ro
             f = length (r.0).body;
             pc = z;
             safe = harmless_of r.0 r.1 r.2 (r.0).row.at x.ticks (bench_of x) (record { aligned = al; fits = body_fits r.0 r.1 r.2; file = d.first; bank = d.bank });
-          }))))
+          }))) (let g = ahead_of ps fam n r.0 r.1 r.2 r.3 (let e4 = r.4 in let lo = le.below in omega arith) in let fe : (r.0).family ≡ fam = r.3 in let here = ap (λ f. ahead ps f (r.0).age) fe in omega arith))
 
   -- ---- in a base block
 
@@ -344,8 +347,8 @@ module _ (t : Words) (g : Ground t) (budget : ℕ) (code : Code) (rows : List Ro
   pc_low : (b : Piece) (n : ℕ) → In b ps → x.pc ≡ b.row.at + 4 * n → n < b.row.len → x.pc + 4 < 2 ^ 64
   pc_low b n hb e l = let hi = (st.places b hb).high in let top = tool_high in omega arith
 
-  in_base : (b : Piece) → In b ps → IsBase b → (b.row.status ≡ Written → ⊥) → (z : Hart) → z.stop ≡ None → z.ticks ≡ x.ticks → length z.regs ≡ 32 → length z.bank ≡ bank_len → z.inside ≡ true → BasePlace t budget b z y → Dynamic t budget ps z y
-  in_base b hb bs was z on' et lr lb i k =
+  in_base : (b : Piece) → In b ps → IsBase b → (b.row.status ≡ Written → ⊥) → (z : Hart) → z.stop ≡ None → z.ticks ≡ x.ticks → length z.regs ≡ 32 → length z.bank ≡ bank_len → z.inside ≡ true → (k : BasePlace t budget b z y) → (most : ℕ) → left_at ps clock b k < most → Soon t budget ps clock (Some most) z y
+  in_base b hb bs was z on' et lr lb i k most u = (
       record {
         ticks = et ∙ d.ticks;
         stop = on' ∙ sym plain_on;
@@ -354,28 +357,29 @@ module _ (t : Words) (g : Ground t) (budget : ℕ) (code : Code) (rows : List Ro
         bank = lb;
         down = λ c q. absurd cc;
         hart = λ q. inr (inl (record { b = b; is_in = hb; base = bs; was = was; inside = i; place = k }));
-      }
+      }, λ q. u)
 
-  at_save : (b : Piece) → In b ps → IsBase b → (b.row.status ≡ Written → ⊥) → x.inside ≡ true → AtSave budget b x y → Owes (fetched t code x)
+  at_save : (b : Piece) → In b ps → IsBase b → (b.row.status ≡ Written → ⊥) → x.inside ≡ true → AtSave budget b x y → Owes (Some (b.row.len + ahead ps b.row.at clock)) (fetched t code x)
   at_save b hb bs was i k =
       let s = base_shape b hb bs in
       let len = s.len in
       let pc : x.pc ≡ b.row.at + 4 * 0 = (let e = k.pc in omega arith) in
       let low = pc_low b 0 hb pc (omega arith) in
       let nx : next x.pc ≡ b.row.at + 4 = (let e = k.pc in omega arith) in
-      owes (Some (tool (word_of (Store Sd 0 5 8)))) (fetch_base b hb bs 0 (tool (word_of (Store Sd 0 5 8))) i pc (omega arith) refl)
-      (tool_to (word_of (Store Sd 0 5 8)) (next x.pc) (with_doubleword (bench_of x) 1 (reg x.regs 5)) (save_steps x.ticks x.pc (bench_of x))
+      owes (Some (b.row.len + ahead ps b.row.at clock)) (Some (tool (word_of (Store Sd 0 5 8)))) (fetch_base b hb bs 0 (tool (word_of (Store Sd 0 5 8))) i pc (omega arith) refl)
+      (tool_to (Some (b.row.len + ahead ps b.row.at clock)) (word_of (Store Sd 0 5 8)) (next x.pc) (with_doubleword (bench_of x) 1 (reg x.regs 5)) (save_steps x.ticks x.pc (bench_of x))
       (in_base b hb bs was (record x { pc = next x.pc; bank = set_bank x.bank 1 (reg x.regs 5) }) on refl d.first (length_set_bank x.bank 1 (reg x.regs 5) ∙ d.bank) i
-      (inr (inl (record { pc = nx; home = k.home; before = k.before; saved = record { agree = λ r l n. k.agree r l; saved = saved_back x.bank (reg x.regs 5) d.bank ∙ k.agree 5 (omega arith) } })))))
+      (inr (inl (record { pc = nx; home = k.home; before = k.before; saved = record { agree = λ r l n. k.agree r l; saved = saved_back x.bank (reg x.regs 5) d.bank ∙ k.agree 5 (omega arith) } }))) (b.row.len + ahead ps b.row.at clock) (omega arith)))
 
-  at_head : (b : Piece) → In b ps → IsBase b → (b.row.status ≡ Written → ⊥) → x.inside ≡ true → AtSaved budget b (b.row.at + 4) x y → Owes (fetched t code x)
+  at_head : (b : Piece) → In b ps → IsBase b → (b.row.status ≡ Written → ⊥) → x.inside ≡ true → AtSaved budget b (b.row.at + 4) x y → Owes (Some (b.row.len - 1 + ahead ps b.row.at clock)) (fetched t code x)
   at_head b hb bs was i k =
       let s = base_shape b hb bs in
       let pc : x.pc ≡ b.row.at + 4 * 1 = (let e = k.pc in omega arith) in
-      owes (Some (tool s.jump)) (fetch_base b hb bs 1 (tool s.jump) i pc (omega arith) refl)
-      (hop_on b b.row.at clock b.next (is_current b.row.status) s.jump hb bs was refl i k.home k.before k.saved (subst (λ a. Hops a b.next s.jump) (sym k.pc) s.hops) (st.heads b hb bs))
+      let len = s.len in
+      owes (Some (b.row.len - 1 + ahead ps b.row.at clock)) (Some (tool s.jump)) (fetch_base b hb bs 1 (tool s.jump) i pc (omega arith) refl)
+      (hop_on (b.row.len - 1 + ahead ps b.row.at clock) b b.row.at clock b.next (is_current b.row.status) s.jump hb bs was refl i k.home k.before k.saved (subst (λ a. Hops a b.next s.jump) (sym k.pc) s.hops) (st.heads b hb bs) (omega arith))
 
-  at_tail : (b : Piece) → In b ps → IsBase b → (b.row.status ≡ Written → ⊥) → x.inside ≡ true → AtSaved budget b (tail_of b.row.at) x y → Owes (fetched t code x)
+  at_tail : (b : Piece) → In b ps → IsBase b → (b.row.status ≡ Written → ⊥) → x.inside ≡ true → AtSaved budget b (tail_of b.row.at) x y → Owes (Some (b.row.len - 2)) (fetched t code x)
   at_tail b hb bs was i k =
       let s = base_shape b hb bs in
       let len = s.len in
@@ -390,8 +394,8 @@ module _ (t : Words) (g : Ground t) (budget : ℕ) (code : Code) (rows : List Ro
       let agree : Agree (with_reg x.regs 5 v) y.regs = λ r l. ⊎_elim
       (λ (e : r ≡ 5). ap (reg (with_reg x.regs 5 v)) e ∙ (read_back x.regs 5 v refl room ∙ (sv.saved ∙ ap (reg y.regs) (sym e))))
       (λ (e : r ≡ 5 → ⊥). read_but x.regs 5 r v e ∙ sv.agree r l e) (cases_eq r 5) in
-      owes (Some (tool (word_of (Load Ld 5 0 8)))) (fetch_base b hb bs 2 (tool (word_of (Load Ld 5 0 8))) i pc (omega arith) refl)
-      (tool_to (word_of (Load Ld 5 0 8)) (next x.pc) (with_value (bench_of x) 5 v) (restore_steps x.ticks x.pc (bench_of x))
+      owes (Some (b.row.len - 2)) (Some (tool (word_of (Load Ld 5 0 8)))) (fetch_base b hb bs 2 (tool (word_of (Load Ld 5 0 8))) i pc (omega arith) refl)
+      (tool_to (Some (b.row.len - 2)) (word_of (Load Ld 5 0 8)) (next x.pc) (with_value (bench_of x) 5 v) (restore_steps x.ticks x.pc (bench_of x))
       (in_base b hb bs was (record x { pc = next x.pc; regs = with_reg x.regs 5 v }) on refl size d.bank i
       (inr (inr (inr (inl (record {
         m = m;
@@ -404,10 +408,10 @@ module _ (t : Words) (g : Ground t) (budget : ℕ) (code : Code) (rows : List Ro
         size = size;
         agree = agree;
         is = sym ((m.moves).start (with_reg x.regs 5 v));
-      })))))))
+      }))))) (b.row.len - 2) (omega arith)))
 
   -- a moved word before the tick
-  at_silent : (b : Piece) → In b ps → IsBase b → (b.row.status ≡ Written → ⊥) → x.inside ≡ true → (k : AtMoved t budget b x y) → k.j < own_place (k.m).word → Owes (fetched t code x)
+  at_silent : (b : Piece) → In b ps → IsBase b → (b.row.status ≡ Written → ⊥) → x.inside ≡ true → (k : AtMoved t budget b x y) → k.j < own_place (k.m).word → Owes (Some (b.row.len - 3 - k.j)) (fetched t code x)
   at_silent b hb bs was i k l =
       let m = k.m in
       let to = moved_at b.row.at in
@@ -416,43 +420,63 @@ module _ (t : Words) (g : Ground t) (budget : ℕ) (code : Code) (rows : List Ro
       subst (λ pc. step_on bank_len s.0 x.ticks pc (bench_of x) ≡ Ok (stand (to + 4 * (k.j + 1)) (bench ((m.moves).before (k.j + 1) k.regs) x.bank))) (sym k.pc)
       (subst (λ rs. step_on bank_len s.0 x.ticks (to + 4 * k.j) (bench rs x.bank) ≡ Ok (stand (to + 4 * (k.j + 1)) (bench ((m.moves).before (k.j + 1) k.regs) x.bank))) (sym k.is) (s.2 k.regs x.bank x.ticks k.size)) in
       let up : k.j + 1 ≤ own_place m.word = omega arith in
-      owes (Some (tool s.0)) (fetch_moved b hb bs m k.j (tool s.0) i k.pc s.1).0
-      (tool_to s.0 (to + 4 * (k.j + 1)) (bench ((m.moves).before (k.j + 1) k.regs) x.bank) step
+      let tk = (m.moves).tick in
+      let inside = slice_get_within m.moved (own_place m.word) (own tk.0) tk.1 in
+      let size : b.row.len ≡ 3 + length m.moved = (base_shape b hb bs).len ∙ ap (λ ws. 3 + length ws) (sym (same_word b m (base_shape b hb bs))) in
+      owes (Some (b.row.len - 3 - k.j)) (Some (tool s.0)) (fetch_moved b hb bs m k.j (tool s.0) i k.pc s.1).0
+      (tool_to (Some (b.row.len - 3 - k.j)) s.0 (to + 4 * (k.j + 1)) (bench ((m.moves).before (k.j + 1) k.regs) x.bank) step
       (in_base b hb bs was (record x { pc = to + 4 * (k.j + 1); regs = (m.moves).before (k.j + 1) k.regs }) on refl ((m.moves).size (k.j + 1) k.regs up ∙ k.size) d.bank i
-      (inr (inr (inr (inl (record { m = m; j = k.j + 1; low = up; pc = refl; home = k.home; before = k.before; regs = k.regs; size = k.size; agree = k.agree; is = refl })))))))
+      (inr (inr (inr (inl (record { m = m; j = k.j + 1; low = up; pc = refl; home = k.home; before = k.before; regs = k.regs; size = k.size; agree = k.agree; is = refl }))))) (b.row.len - 3 - k.j) (omega arith)))
 
-  -- the tick
-  tick_outcome : (b : Piece) → In b ps → IsBase b → (b.row.status ≡ Written → ⊥) → x.inside ≡ true → (m : MovedWord t b) (w : ℕ) (jumped : Bool) (o u : Outcome) → program_pc code rows x ≡ y.pc → is_jump w ≡ jumped → SameStep jumped (own_place m.word) (moved_at b.row.at) m.moved o u
-      → Dynamic t budget ps (own_step (done o x.regs p) w (program_pc code rows x) x).hart (after_done (done u y.regs p) y).hart × ((own_step (done o x.regs p) w (program_pc code rows x) x).prog ≡ (after_done (done u y.regs p) y).prog)
-  tick_outcome b hb bs was i m w jumped (Stops c) (Stops e) home tj s = (downs c (program_pc code rows x) _ home (ap (λ k. record { pc = y.pc; regs = y.regs; ticks = y.ticks + 1; stop = Some k }) (sym s)), refl)
-  tick_outcome b hb bs was i m w jumped (Stops c) (Goes pc a q) home tj s = absurd s
-  tick_outcome b hb bs was i m w jumped (Goes pc a q) (Stops c) home tj s = absurd s
-  tick_outcome b hb bs was i m w jumped (Goes pc a q) (Goes qc e r) home tj s = (
-    record {
-      ticks = ap (λ n. n + 1) d.ticks;
-      stop = d.stop;
-      first = (s.1).first;
-      second = (s.1).second;
-      bank = d.bank;
-      down = λ k z. absurd cc;
-      hart = λ z. ⊎_elim
-          (λ (k : (jumped ≡ true) × (pc ≡ qc)). let out : is_jump w ≡ true = tj ∙ k.0 in inl (record { outside = grind (arith, common_steps, i, out); pc = k.1; agree = (s.1).agree }))
-          (λ (k : (jumped ≡ false) × (j : ℕ) × (left : ℕ) × (own_place m.word < j) × (j < length m.moved) × (pc ≡ moved_at b.row.at + 4 * j) × (slice_get m.moved j ≡ Some (leave left)) × (jump_of (decode_of left) (moved_at b.row.at + 4 * j) ≡ Some qc)).
-          let out : is_jump w ≡ false = tj ∙ k.0 in
-          inr (inl (record {
+  -- the tick: to where it leads
+  tick_leads : (b : Piece) → In b ps → IsBase b → (b.row.status ≡ Written → ⊥) → x.inside ≡ true → (m : MovedWord t b) (w : ℕ) (jumped : Bool) (pc qc : ℕ) (a e : List ℕ) → Alike a e → is_jump w ≡ jumped
+      → LeadsHome jumped (own_place m.word) (moved_at b.row.at) m.moved pc qc
+      → Soon t budget ps clock (Some (b.row.len - 3 - own_place m.word)) (ticked (own_hart (Go pc) a w (program_pc code rows x) x)) (plain.hart_after (Go qc) e y)
+  tick_leads b hb bs was i m w jumped pc qc a e s tj (inl k) =
+      let out : is_jump w ≡ true = tj ∙ k.0 in (
+        record {
+          ticks = ap (λ n. n + 1) d.ticks;
+          stop = d.stop;
+          first = s.first;
+          second = s.second;
+          bank = d.bank;
+          down = λ k z. absurd cc;
+          hart = λ z. inl (record { outside = grind (arith, common_steps, i, out); pc = k.1; agree = s.agree });
+        },
+        λ z. tt,
+      )
+  tick_leads b hb bs was i m w jumped pc qc a e s tj (inr k) =
+      let out : is_jump w ≡ false = tj ∙ k.0 in
+      let above = k.3 in
+      let low = k.4 in
+      let size : b.row.len ≡ 3 + length m.moved = (base_shape b hb bs).len ∙ ap (λ ws. 3 + length ws) (sym (same_word b m (base_shape b hb bs))) in (
+        record {
+          ticks = ap (λ n. n + 1) d.ticks;
+          stop = d.stop;
+          first = s.first;
+          second = s.second;
+          bank = d.bank;
+          down = λ k z. absurd cc;
+          hart = λ z. inr (inl (record {
             b = b;
             is_in = hb;
             base = bs;
             was = was;
             inside = grind (arith, common_steps, i, out);
-            place = inr (inr (inr (inr (record { m = m; j = k.1; above = k.3; low = k.4; pc = k.5; left = k.2; stands = k.6; home = k.7; agree = (s.1).agree }))));
-          })))
-          s.2;
-    },
-    s.0,
-  )
+            place = inr (inr (inr (inr (record { m = m; j = k.1; above = k.3; low = k.4; pc = k.5; left = k.2; stands = k.6; home = k.7; agree = s.agree }))));
+          }));
+        },
+        λ z. omega arith,
+      )
 
-  at_tick : (b : Piece) → In b ps → IsBase b → (b.row.status ≡ Written → ⊥) → x.inside ≡ true → (k : AtMoved t budget b x y) → k.j ≡ own_place (k.m).word → Owes (fetched t code x)
+  tick_outcome : (b : Piece) → In b ps → IsBase b → (b.row.status ≡ Written → ⊥) → x.inside ≡ true → (m : MovedWord t b) (w : ℕ) (jumped : Bool) (o u : Outcome) → program_pc code rows x ≡ y.pc → is_jump w ≡ jumped → SameStep jumped (own_place m.word) (moved_at b.row.at) m.moved o u
+      → Soon t budget ps clock (Some (b.row.len - 3 - own_place m.word)) (own_step (done o x.regs p) w (program_pc code rows x) x).hart (after_done (done u y.regs p) y).hart × ((own_step (done o x.regs p) w (program_pc code rows x) x).prog ≡ (after_done (done u y.regs p) y).prog)
+  tick_outcome b hb bs was i m w jumped (Stops c) (Stops e) home tj s = (downs (Some (b.row.len - 3 - own_place m.word)) c (program_pc code rows x) _ home (ap (λ k. record { pc = y.pc; regs = y.regs; ticks = y.ticks + 1; stop = Some k }) (sym s)), refl)
+  tick_outcome b hb bs was i m w jumped (Stops c) (Goes pc a q) home tj s = absurd s
+  tick_outcome b hb bs was i m w jumped (Goes pc a q) (Stops c) home tj s = absurd s
+  tick_outcome b hb bs was i m w jumped (Goes pc a q) (Goes qc e r) home tj s = (tick_leads b hb bs was i m w jumped pc qc a e s.1 tj s.2, s.0)
+
+  at_tick : (b : Piece) → In b ps → IsBase b → (b.row.status ≡ Written → ⊥) → x.inside ≡ true → (k : AtMoved t budget b x y) → k.j ≡ own_place (k.m).word → Owes (Some (b.row.len - 3 - k.j)) (fetched t code x)
   at_tick b hb bs was i k e =
       let m = k.m in
       let to = moved_at b.row.at in
@@ -468,15 +492,16 @@ module _ (t : Words) (g : Ground t) (budget : ℕ) (code : Code) (rows : List Ro
       subst (λ a. SameStep (is_jump m.word) (own_place m.word) to m.moved (exec_of w a h x.regs p) (exec_of m.word y.pc h y.regs p)) (sym pc)
       (subst (λ rs. SameStep (is_jump m.word) (own_place m.word) to m.moved (exec_of w (to + 4 * own_place m.word) h rs p) (exec_of m.word y.pc h y.regs p)) (sym is)
       (subst (λ a. SameStep (is_jump m.word) (own_place m.word) to m.moved (exec_of w (to + 4 * own_place m.word) h ((m.moves).before (own_place m.word) k.regs) p) (exec_of m.word a h y.regs p)) (sym k.home) same0)) in
-      let both = tick_outcome b hb bs was i m w (is_jump m.word) (exec_of w x.pc h x.regs p) (exec_of m.word y.pc h y.regs p) home tk.2 same1 in
+      let both0 = tick_outcome b hb bs was i m w (is_jump m.word) (exec_of w x.pc h x.regs p) (exec_of m.word y.pc h y.regs p) home tk.2 same1 in
+      let both = subst (λ j. Soon t budget ps clock (Some (b.row.len - 3 - j)) (own_step (done (exec_of w x.pc h x.regs p) x.regs p) w (program_pc code rows x) x).hart (after_done (done (exec_of m.word y.pc h y.regs p) y.regs p) y).hart × ((own_step (done (exec_of w x.pc h x.regs p) x.regs p) w (program_pc code rows x) x).prog ≡ (after_done (done (exec_of m.word y.pc h y.regs p) y.regs p) y).prog)) (sym e) both0 in
       let here : program_word t y.pc ≡ Some m.word = ap (program_word t) k.home ∙ m.here in
       let to' : (o : Option ℕ) → Type 0 = λ o.
-      Dynamic t budget ps (own_step (done (exec_of w x.pc h x.regs p) x.regs p) w (program_pc code rows x) x).hart (after_done (done (plain.fetched o h y p) y.regs p) y).hart
+      Soon t budget ps clock (Some (b.row.len - 3 - k.j)) (own_step (done (exec_of w x.pc h x.regs p) x.regs p) w (program_pc code rows x) x).hart (after_done (done (plain.fetched o h y p) y.regs p) y).hart
       × ((own_step (done (exec_of w x.pc h x.regs p) x.regs p) w (program_pc code rows x) x).prog ≡ (after_done (done (plain.fetched o h y p) y.regs p) y).prog) in
       let r : to' (program_word t y.pc) = subst to' (sym here) both in
-      owes (Some (own w)) f.0 (can_go k.before, r.0, r.1)
+      owes (Some (b.row.len - 3 - k.j)) (Some (own w)) f.0 (can_go k.before, r.0, r.1)
 
-  at_leave : (b : Piece) → In b ps → IsBase b → x.inside ≡ true → AtLeave t b x y → Owes (fetched t code x)
+  at_leave : (b : Piece) → In b ps → IsBase b → x.inside ≡ true → (k : AtLeave t b x y) → Owes (Some (b.row.len - 3 - k.j)) (fetched t code x)
   at_leave b hb bs i k =
       let m = k.m in
       let to = moved_at b.row.at in
@@ -489,8 +514,8 @@ module _ (t : Words) (g : Ground t) (budget : ℕ) (code : Code) (rows : List Ro
       subst (λ a. step_on 0 k.left x.ticks a (bench_of x) ≡ Ok (stand y.pc (bench_of x))) (sym k.pc)
       (subst (λ w. step_on 0 w x.ticks (to + 4 * k.j) (bench_of x) ≡ Ok (stand y.pc (bench_of x))) word
       (subst (λ a. step_on 0 l.0 x.ticks (to + 4 * k.j) (bench_of x) ≡ Ok (stand a (bench_of x))) home step0)) in
-      owes (Some (leave k.left)) (fetch_moved b hb bs m k.j (leave k.left) i k.pc k.stands).0
-      (leave_to k.left y.pc (bench_of x) step
+      owes (Some (b.row.len - 3 - k.j)) (Some (leave k.left)) (fetch_moved b hb bs m k.j (leave k.left) i k.pc k.stands).0
+      (leave_to (Some (b.row.len - 3 - k.j)) k.left y.pc (bench_of x) step
       (record {
         ticks = d.ticks;
         stop = d.stop;
@@ -499,38 +524,42 @@ module _ (t : Words) (g : Ground t) (budget : ℕ) (code : Code) (rows : List Ro
         bank = d.bank;
         down = λ c z. absurd cc;
         hart = λ z. inl (record { outside = refl; pc = refl; agree = k.agree });
-      }))
+      }, λ z. tt))
 
-  at_moved : (b : Piece) → In b ps → IsBase b → (b.row.status ≡ Written → ⊥) → x.inside ≡ true → AtMoved t budget b x y → Owes (fetched t code x)
+  at_moved : (b : Piece) → In b ps → IsBase b → (b.row.status ≡ Written → ⊥) → x.inside ≡ true → (k : AtMoved t budget b x y) → Owes (Some (b.row.len - 3 - k.j)) (fetched t code x)
   at_moved b hb bs was i k = ⊎_elim (λ l. at_silent b hb bs was i k l) (λ l. at_tick b hb bs was i k (let q = k.low in omega arith)) (cases_lt k.j (own_place (k.m).word))
 
-  inside_base : InBase t budget ps x y → Owes (fetched t code x)
-  inside_base k = ⊎_elim (λ q. at_save k.b k.is_in k.base k.was k.inside q)
-      (λ r. ⊎_elim (λ q. at_head k.b k.is_in k.base k.was k.inside q)
-      (λ r. ⊎_elim (λ q. at_tail k.b k.is_in k.base k.was k.inside q)
-      (λ r. ⊎_elim (λ q. at_moved k.b k.is_in k.base k.was k.inside q) (λ q. at_leave k.b k.is_in k.base k.inside q) r) r) r) k.place
+  at_place : (b : Piece) → In b ps → IsBase b → (b.row.status ≡ Written → ⊥) → x.inside ≡ true → (k : BasePlace t budget b x y) → Owes (Some (left_at ps clock b k)) (fetched t code x)
+  at_place b hb bs was i (inl k) = at_save b hb bs was i k
+  at_place b hb bs was i (inr (inl k)) = at_head b hb bs was i k
+  at_place b hb bs was i (inr (inr (inl k))) = at_tail b hb bs was i k
+  at_place b hb bs was i (inr (inr (inr (inl k)))) = at_moved b hb bs was i k
+  at_place b hb bs was i (inr (inr (inr (inr k)))) = at_leave b hb bs i k
 
   -- ---- in a mini block
 
-  inside_mini : InMini budget ps x y → Owes (fetched t code x)
+  inside_mini : (k : InMini budget ps x y) → Owes (Some (left {t = t} ps clock (inr (inr k)))) (fetched t code x)
   inside_mini k = by k.f k.safe
     where
       shape : MiniShape code (k.m).row (k.m).body (k.m).next
       shape = mini_shape k.m k.is_in k.linked
 
+      most : ℕ
+      most = (k.m).row.len - k.i + ahead ps (k.m).family (k.m).age + ((k.b).row.len - 2)
+
       here : (j : ℕ) (w : MarkedWord) → j ≡ k.i → j < (k.m).row.len → slice_get ((k.m).body ++ tool shape.jump ∷ []) j ≡ Some w → fetched t code x ≡ Some w
       here j w e l q =
           fetch_block k.m j ((k.m).body ++ tool shape.jump ∷ []) w k.is_in k.inside (k.pc ∙ ap (λ n. (k.m).row.at + 4 * n) (sym e)) l (stands_at code (k.m).row.at ((k.m).body ++ tool shape.jump ∷ []) j w shape.stands q)
 
-      ends : k.i ≡ length (k.m).body → Owes (fetched t code x)
+      ends : k.i ≡ length (k.m).body → Owes (Some most) (fetched t code x)
       ends e =
           let len = shape.len in
           let pc : x.pc ≡ (k.m).row.at + 4 * length (k.m).body = k.pc ∙ ap (λ n. (k.m).row.at + 4 * n) e in
-          owes (Some (tool shape.jump)) (here (length (k.m).body) (tool shape.jump) (sym e) (omega arith) (get_append (k.m).body (tool shape.jump)))
-          (hop_on k.b (k.m).family (k.m).age (k.m).next (is_live (k.m).row.status) shape.jump (k.family).is_in (k.family).base k.was (k.family).at k.inside (k.home ∙ sym (k.family).point) k.before k.saved
-          (subst (λ a. Hops a (k.m).next shape.jump) (sym pc) shape.hops) (st.chains k.m k.is_in k.linked))
+          owes (Some most) (Some (tool shape.jump)) (here (length (k.m).body) (tool shape.jump) (sym e) (omega arith) (get_append (k.m).body (tool shape.jump)))
+          (hop_on most k.b (k.m).family (k.m).age (k.m).next (is_live (k.m).row.status) shape.jump (k.family).is_in (k.family).base k.was (k.family).at k.inside (k.home ∙ sym (k.family).point) k.before k.saved
+          (subst (λ a. Hops a (k.m).next shape.jump) (sym pc) shape.hops) (st.chains k.m k.is_in k.linked) (omega arith))
 
-      leaps : (f j : ℕ) (z : Bench) → Leap (k.m).body (k.m).row.at x.ticks k.i (bench_of x) j z → Safe f (k.m).body (k.m).row.at j z x.ticks → Owes (fetched t code x)
+      leaps : (f j : ℕ) (z : Bench) → Leap (k.m).body (k.m).row.at x.ticks k.i (bench_of x) j z → Safe f (k.m).body (k.m).row.at j z x.ticks → Owes (Some most) (fetched t code x)
       leaps f j z l s =
           let len = shape.len in
           let in_body = slice_get_within (k.m).body k.i (tool l.word) l.here in
@@ -538,8 +567,8 @@ module _ (t : Words) (g : Ground t) (budget : ℕ) (code : Code) (rows : List Ro
           let sv = k.saved in
           let step : step_on bank_len l.word x.ticks x.pc (bench_of x) ≡ Ok (stand ((k.m).row.at + 4 * j) z) =
           subst (λ a. step_on bank_len l.word x.ticks a (bench_of x) ≡ Ok (stand ((k.m).row.at + 4 * j) z)) (sym k.pc) l.step in
-          owes (Some (tool l.word)) (here k.i (tool l.word) refl (omega arith) (get_before (k.m).body (tool shape.jump ∷ []) k.i (tool l.word) l.here))
-          (tool_to l.word ((k.m).row.at + 4 * j) z step
+          owes (Some most) (Some (tool l.word)) (here k.i (tool l.word) refl (omega arith) (get_before (k.m).body (tool shape.jump ∷ []) k.i (tool l.word) l.here))
+          (tool_to (Some most) l.word ((k.m).row.at + 4 * j) z step
           (record {
             ticks = d.ticks;
             stop = d.stop;
@@ -563,9 +592,9 @@ module _ (t : Words) (g : Ground t) (budget : ℕ) (code : Code) (rows : List Ro
               pc = refl;
               safe = s;
             }));
-          }))
+          }, λ z. let on = l.on in let within = l.within in omega arith))
 
-      by : (f : ℕ) → Safe f (k.m).body (k.m).row.at k.i (bench_of x) x.ticks → Owes (fetched t code x)
+      by : (f : ℕ) → Safe f (k.m).body (k.m).row.at k.i (bench_of x) x.ticks → Owes (Some most) (fetched t code x)
       by zero e = ends e
       by (suc f) (inl e) = ends e
       by (suc f) (inr r) = leaps f r.0 r.1 r.2 r.3
@@ -578,25 +607,33 @@ module _ (t : Words) (g : Ground t) (budget : ℕ) (code : Code) (rows : List Ro
   fetch_none : x.inside ≡ false → is_text_word t x.pc ≡ false → fetched t code x ≡ None
   fetch_none i l = cond-false x.inside _ _ i ∙ cond-false (is_text_word t x.pc) (get code x.pc) None l
 
-  outside : Outside x y → x.ticks < budget → Owes (fetched t code x)
+  outside : Outside x y → x.ticks < budget → Owes None (fetched t code x)
   outside o l = ⊎_elim near far (text_cases t x.pc)
     where
-      near : (w : ℕ) × (program_word t x.pc ≡ Some w) × (is_text_word t x.pc ≡ true) → Owes (fetched t code x)
+      near : (w : ℕ) × (program_word t x.pc ≡ Some w) × (is_text_word t x.pc ≡ true) → Owes None (fetched t code x)
       near r =
           let q = in_text t x.pc r.0 r.1 in
           ⊎_elim
           (λ (e : get code x.pc ≡ Some (own r.0)).
-          owes (Some (own r.0)) (fetch_text (Some (own r.0)) o.outside r.2 e)
+          owes None (Some (own r.0)) (fetch_text (Some (own r.0)) o.outside r.2 e)
           (own_outside r.0 (g.plain q.i r.0 q.is) o.outside o.pc o.agree l (ap (program_word t) (sym o.pc) ∙ r.1)))
           (λ (e : (b : Piece) × In b ps × IsBase b × (b.row.point ≡ x.pc) × (b.row.status ≡ Live) × Door code b).
-          owes (Some (enter (e.5).jump)) (fetch_text (Some (enter (e.5).jump)) o.outside r.2 (ap (get code) (sym e.3) ∙ (e.5).stands))
+          owes None (Some (enter (e.5).jump)) (fetch_text (Some (enter (e.5).jump)) o.outside r.2 (ap (get code) (sym e.3) ∙ (e.5).stands))
           (enters e.0 e.1 e.2 e.3 e.4 e.5 o l))
           (st.words x.pc r.0 r.1)
 
-      far : (program_word t x.pc ≡ None) × (is_text_word t x.pc ≡ false) → Owes (fetched t code x)
-      far r = owes None (fetch_none o.outside r.1) (none_outside o.outside o.pc l (ap (program_word t) (sym o.pc) ∙ r.0))
+      far : (program_word t x.pc ≡ None) × (is_text_word t x.pc ≡ false) → Owes None (fetched t code x)
+      far r = owes None None (fetch_none o.outside r.1) (none_outside o.outside o.pc l (ap (program_word t) (sym o.pc) ∙ r.0))
 
-  pub turn_keeps : (x.inside ≡ true) ⊎ (x.ticks < budget) → Owes (fetched t code x)
-  turn_keeps r =
-      ⊎_elim (λ (o : Outside x y). outside o (⊎_elim (λ e. absurd (true≢false (sym e ∙ o.outside))) (λ l. l) r))
-      (λ (k : InBase t budget ps x y ⊎ InMini budget ps x y). ⊎_elim inside_base inside_mini k) (d.hart on)
+  -- where the hart is inside, fewer turns are left behind the turn
+  abbrev most_of : HartOk t budget ps x y → Option ℕ
+  most_of (inl o) = None
+  most_of (inr k) = Some (left {t = t} ps clock (inr k))
+
+  turn_at : (x.inside ≡ true) ⊎ (x.ticks < budget) → (k : HartOk t budget ps x y) → Owes (most_of k) (fetched t code x)
+  turn_at r (inl o) = outside o (⊎_elim (λ e. absurd (true≢false (sym e ∙ o.outside))) (λ l. l) r)
+  turn_at r (inr (inl k)) = at_place k.b k.is_in k.base k.was k.inside k.place
+  turn_at r (inr (inr k)) = inside_mini k
+
+  pub turn_keeps : (x.inside ≡ true) ⊎ (x.ticks < budget) → Owes (most_of (d.hart on)) (fetched t code x)
+  turn_keeps r = turn_at r (d.hart on)
