@@ -24,7 +24,7 @@ use Rattle.machine.specs.Events.{Apart, StandsIn, MayWrite, HasShape}
 use Rattle.machine.specs.Effects.{row_of, is_kept, written}
 use Rattle.machine.proofs.Lists.{in_snoc, snoc_old, map_snoc, in_filter, filter_in, map_filter, put_words_other, put_words_stand, stands_put, Stands, same_some}
 use Rattle.machine.proofs.Invariant.{Piece, the_row, IsBase, Linked, LiveOf, base_with, BaseShape, MiniShape, ShapedAs, Shaped, Placed, Leads, HasFamily, Door, Static, AtSave, AtSaved, MovedWord, AtMoved, AtLeave, InBase, InMini, Dynamic, Inv}
-use Rattle.machine.proofs.Homes.{has_len, row_in, covers}
+use Rattle.machine.proofs.Homes.{has_len, row_in, covers, same_moved}
 use Rattle.machine.proofs.Turns.{text_low}
 use Rattle.machine.proofs.Points.{live_true, same_point, base_point}
 use Rattle.machine.proofs.Follow.{Image, Kept, All, NoPiece, Nowhere}
@@ -333,18 +333,13 @@ module _ (c : Core) (s : Plain) (v : Inv c s) (p : ℕ) (may : (r : Row) → In 
       let low = z.low in
       let tk = ((z.m).moves).tick in
       let n = slice_get_within (z.m).moved (own_place (z.m).word) (own tk.0) tk.1 in
-      let same : length (z.m).moved ≡ length q.moved = ap length (same_moved k.b z.m q) in covers (k.b).row x.pc (omega arith) (omega arith))
+      let same : length (z.m).moved ≡ length q.moved = ap length (same_moved c.program c.code k.b z.m q) in covers (k.b).row x.pc (omega arith) (omega arith))
       (λ (z : AtLeave c.program k.b x y).
       let e = z.pc in
       let low = z.low in
-      let same : length (z.m).moved ≡ length q.moved = ap length (same_moved k.b z.m q) in covers (k.b).row x.pc (omega arith) (omega arith)) r) r) r) k.place)
+      let same : length (z.m).moved ≡ length q.moved = ap length (same_moved c.program c.code k.b z.m q) in covers (k.b).row x.pc (omega arith) (omega arith)) r) r) r) k.place)
       (λ (q : MiniShape c.code (k.b).row (k.b).body (k.b).next). absurd (true≢false (sym (k.base).base ∙ q.mini)))
       (st'.shapes k.b k.is_in)
-    where
-      same_moved : (b : Piece) (m : MovedWord c.program b) (q : BaseShape c.program c.code b.row b.next) → m.moved ≡ q.moved
-      same_moved b m q =
-          let e : m.word ≡ q.word = same_some (program_word c.program b.row.point) m.word q.word m.here q.here in
-          same_some (moved_of q.word b.row.point (moved_at b.row.at)) m.moved q.moved (subst (λ w. moved_of w b.row.point (moved_at b.row.at) ≡ Some m.moved) e m.movable) q.movable
 
   mini_holds : (x : Hart) (y : PlainHart) (k : InMini c.budget v.ps x y) → holds (k.m).row x.pc ≡ true
   mini_holds x y k = ⊎_elim (λ (q : BaseShape c.program c.code (k.m).row (k.m).next). absurd (true≢false (sym q.base ∙ (k.linked).mini)))

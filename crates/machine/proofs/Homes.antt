@@ -1,20 +1,21 @@
 -- Where the program is while a hart stands in a block.
-use Rattle.std.proofs.Common.{◌≡◌, ℕ, ◌+◌, ◌-◌, ◌*◌, ◌<◌, ◌≤◌, List, Some, sym, ap, ◌∙◌, subst, arith, ⊎_elim}
+use Rattle.std.proofs.Common.{◌≡◌, ℕ, ◌+◌, ◌-◌, ◌*◌, ◌<◌, ◌≤◌, List, length, Some, sym, ap, ◌∙◌, subst, arith, ⊎_elim}
 use Rattle.std.specs.Prelude.{true, nat_le, nat_lt}
 use Rattle.std.specs.FinMap.{get}
-use Rattle.std.proofs.lemmas.Bool.{and_parts, and_from, lt-ltb, ltb-true, leb-true, le-leb}
+use Rattle.std.proofs.lemmas.Bool.{true≢false, and_parts, and_from, lt-ltb, ltb-true, leb-true, le-leb}
 use Rattle.rv_word.specs.Names.{jump_of}
 use Rattle.rv_word.specs.Table.{decode_of}
-use Rattle.rv_word.specs.Plain.{Words}
+use Rattle.rv_word.specs.Plain.{Words, program_word}
 use Rattle.tramp_spec.specs.Codes.{Code}
-use Rattle.tramp_spec.specs.Blocks.{home_by, target_or}
+use Rattle.tramp_spec.specs.Blocks.{home_by, target_or, moved_at}
+use Rattle.tramp_spec.specs.MovedWords.{moved_of}
 use Rattle.tramp_spec.specs.Marks.{leave}
 use Rattle.tramp_spec.specs.declared.mark.MarkedWord.{MarkedWord}
 use Rattle.machine.specs.Cores.{In, Row}
 use Rattle.machine.specs.Places.{holds, block_at, home_in, home_of, home_of_word}
 use Rattle.machine.specs.Events.{Apart}
-use Rattle.machine.proofs.Lists.{in_map, map_in, find_gives, find_finds}
-use Rattle.machine.proofs.Invariant.{Piece, the_row, BaseShape, MiniShape, Static}
+use Rattle.machine.proofs.Lists.{in_map, map_in, find_gives, find_finds, same_some}
+use Rattle.machine.proofs.Invariant.{Piece, IsBase, Linked, the_row, BaseShape, MiniShape, MovedWord, Static}
 
 pub covers : (r : Row) (a : ℕ) → r.at ≤ a → a < r.at + 4 * r.len → holds r a ≡ true
 covers r a lo hi = let d : a - r.at < 4 * r.len = omega arith in and_from _ _ (le-leb _ _ lo) (lt-ltb _ _ d)
@@ -24,6 +25,15 @@ covered r a e =
     let p = and_parts (nat_le r.at a) (nat_lt (a - r.at) (4 * r.len)) e in
     let lo : r.at ≤ a = leb-true r.at a p.0 in
     let d : a - r.at < 4 * r.len = ltb-true (a - r.at) (4 * r.len) p.1 in (lo, omega arith)
+
+-- the moved words of a base block are those of its shape
+pub same_moved : (t : Words) (code : Code) (b : Piece) (m : MovedWord t b) (s : BaseShape t code b.row b.next) → m.moved ≡ s.moved
+same_moved t code b m s =
+    let e : m.word ≡ s.word = same_some (program_word t b.row.point) m.word s.word m.here s.here in
+    same_some (moved_of s.word b.row.point (moved_at b.row.at)) m.moved s.moved (subst (λ w. moved_of w b.row.point (moved_at b.row.at) ≡ Some m.moved) e m.movable) s.movable
+
+pub base_len : (t : Words) (code : Code) (b : Piece) (m : MovedWord t b) (s : BaseShape t code b.row b.next) → b.row.len ≡ 3 + length m.moved
+base_len t code b m s = s.len ∙ ap (λ (ws : List MarkedWord). 3 + length ws) (sym (same_moved t code b m s))
 
 module _ (t : Words) (code : Code) (rows : List Row) (ps : List Piece) (clock : ℕ) (st : Static t code rows ps clock) where
   -- a row is that of a piece
@@ -35,6 +45,12 @@ module _ (t : Words) (code : Code) (rows : List Row) (ps : List Piece) (clock : 
 
   pub has_len : (p : Piece) → In p ps → 0 < p.row.len
   has_len p h = ⊎_elim (λ (r : BaseShape t code p.row p.next). let l = r.len in omega arith) (λ (r : MiniShape code p.row p.body p.next). let l = r.len in omega arith) (st.shapes p h)
+
+  pub base_shape : (b : Piece) → In b ps → IsBase b → BaseShape t code b.row b.next
+  base_shape b hb k = ⊎_elim (λ (r : BaseShape t code b.row b.next). r) (λ (r : MiniShape code b.row b.body b.next). absurd (true≢false (sym k.base ∙ r.mini))) (st.shapes b hb)
+
+  pub mini_shape : (m : Piece) → In m ps → Linked m → MiniShape code m.row m.body m.next
+  mini_shape m hm k = ⊎_elim (λ (r : BaseShape t code m.row m.next). absurd (true≢false (sym r.base ∙ k.mini))) (λ (r : MiniShape code m.row m.body m.next). r) (st.shapes m hm)
 
   -- blocks that begin alike are one
   pub one_block : (x y : Piece) → In x ps → In y ps → x.row.at ≡ y.row.at → x ≡ y

@@ -26,7 +26,8 @@ use Rattle.machine.specs.Places.{block_at, word_no, program_pc, saved_in, has_sa
 use Rattle.machine.specs.Same.{SameProgram}
 use Rattle.machine.proofs.Lists.{stands_at, get_append, get_before, same_some}
 use Rattle.machine.proofs.Invariant.{Piece, IsBase, Linked, base_with, BaseShape, MiniShape, Static, Saved, Outside, AtSave, AtSaved, MovedWord, AtMoved, AtLeave, InBase, InMini, Dynamic, Inv}
-use Rattle.machine.proofs.Homes.{block_is, home_word, home_leave}
+use Rattle.machine.proofs.Homes as homes
+use Rattle.machine.proofs.Homes.{block_is, home_word, home_leave, same_moved}
 
 module _ (t : Words) (budget : ℕ) (code : Code) (rows : List Row) (ps : List Piece) (clock : ℕ) (st : Static t code rows ps clock) (x : Hart) (y : PlainHart) where
   -- what is seen of a hart in a block at its word number n
@@ -35,12 +36,7 @@ module _ (t : Words) (budget : ℕ) (code : Code) (rows : List Row) (ps : List P
     regs : (r : ℕ) → 0 < r → r < 31 → rebuilding_of t rows x ≢ Some r → seen rows x r ≡ reg y.regs r
 
   base_shape : (b : Piece) → In b ps → IsBase b → BaseShape t code b.row b.next
-  base_shape b hb k = ⊎_elim (λ (r : BaseShape t code b.row b.next). r) (λ (r : MiniShape code b.row b.body b.next). absurd (true≢false (sym k.base ∙ r.mini))) (st.shapes b hb)
-
-  same_moved : (b : Piece) → (m : MovedWord t b) → (s : BaseShape t code b.row b.next) → m.moved ≡ s.moved
-  same_moved b m s =
-      let e : m.word ≡ s.word = same_some (program_word t b.row.point) m.word s.word m.here s.here in
-      same_some (moved_of s.word b.row.point (moved_at b.row.at)) m.moved s.moved (subst (λ w. moved_of w b.row.point (moved_at b.row.at) ≡ Some m.moved) e m.movable) s.movable
+  base_shape = homes.base_shape t code rows ps clock st
 
   outside : Outside x y → Seen
   outside o =
@@ -121,7 +117,7 @@ module _ (t : Words) (budget : ℕ) (code : Code) (rows : List Row) (ps : List P
           let m = z.m in
           let tk = (m.moves).tick in
           let within = slice_get_within m.moved (own_place m.word) (own tk.0) tk.1 in
-          let same = same_moved k.b m s in
+          let same = same_moved t code k.b m s in
           let len = s.len in
           let low = z.low in
           let n : length m.moved ≡ length s.moved = ap length same in
@@ -146,7 +142,7 @@ module _ (t : Words) (budget : ℕ) (code : Code) (rows : List Row) (ps : List P
       at_leave : AtLeave t k.b x y → Seen
       at_leave z =
           let m = z.m in
-          let same = same_moved k.b m s in
+          let same = same_moved t code k.b m s in
           let len = s.len in
           let low = z.low in
           let n : length m.moved ≡ length s.moved = ap length same in
@@ -158,14 +154,11 @@ module _ (t : Words) (budget : ℕ) (code : Code) (rows : List Row) (ps : List P
             regs = λ r p u nr. unsaved k.b (suc (suc (suc z.j))) k.is_in k.inside pc l (not_saved z.j) r ∙ z.agree r u;
           }
 
-  mini_shape : (m : Piece) → In m ps → Linked m → MiniShape code m.row m.body m.next
-  mini_shape m hm k = ⊎_elim (λ (r : BaseShape t code m.row m.next). absurd (true≢false (sym r.base ∙ k.mini))) (λ (r : MiniShape code m.row m.body m.next). r) (st.shapes m hm)
-
   in_mini : InMini budget ps x y → Seen
   in_mini k = by k.f k.safe
     where
       s : MiniShape code (k.m).row (k.m).body (k.m).next
-      s = mini_shape k.m k.is_in k.linked
+      s = homes.mini_shape t code rows ps clock st k.m k.is_in k.linked
 
       at_word : (v : ℕ) → k.i < (k.m).row.len → slice_get ((k.m).body ++ tool s.jump ∷ []) k.i ≡ Some (tool v) → Seen
       at_word v l e =

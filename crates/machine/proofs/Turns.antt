@@ -40,7 +40,8 @@ use Rattle.machine.specs.Turns.{fetched}
 use Rattle.machine.proofs.Lists.{stands_at, get_append, get_before, same_some}
 use Rattle.machine.proofs.Invariant.{Ground, Piece, IsBase, Linked, base_with, BaseShape, MiniShape, Leads, HasFamily, Door, Static, Saved, Outside, AtSave, AtSaved, MovedWord, AtMoved, AtLeave, BasePlace, InBase, InMini, HartOk, Dynamic}
 use Rattle.machine.proofs.Lefts.{ahead, left_at, left, Below, Soon, ahead_of}
-use Rattle.machine.proofs.Homes.{one_block, home_word}
+use Rattle.machine.proofs.Homes as homes
+use Rattle.machine.proofs.Homes.{one_block, home_word, same_moved, base_len}
 
 -- ---- the program's words
 
@@ -230,14 +231,14 @@ module _ (t : Words) (g : Ground t) (budget : ℕ) (code : Code) (rows : List Ro
       let al = pl.aligned in
       fetch_inside w n (omega arith) (omega arith) (omega arith) (ap (get code) e ∙ k)
 
-  harmless_of : (m : Piece) → In m ps → Linked m → Harmless m.body
-  harmless_of m hm k = ⊎_elim (λ (r : BaseShape t code m.row m.next). absurd (true≢false (sym r.base ∙ k.mini))) (λ (r : MiniShape code m.row m.body m.next). r.harmless) (st.shapes m hm)
-
   base_shape : (b : Piece) → In b ps → IsBase b → BaseShape t code b.row b.next
-  base_shape b hb k = ⊎_elim (λ (r : BaseShape t code b.row b.next). r) (λ (r : MiniShape code b.row b.body b.next). absurd (true≢false (sym k.base ∙ r.mini))) (st.shapes b hb)
+  base_shape = homes.base_shape t code rows ps clock st
 
   mini_shape : (m : Piece) → In m ps → Linked m → MiniShape code m.row m.body m.next
-  mini_shape m hm k = ⊎_elim (λ (r : BaseShape t code m.row m.next). absurd (true≢false (sym r.base ∙ k.mini))) (λ (r : MiniShape code m.row m.body m.next). r) (st.shapes m hm)
+  mini_shape = homes.mini_shape t code rows ps clock st
+
+  harmless_of : (m : Piece) → In m ps → Linked m → Harmless m.body
+  harmless_of m hm k = (mini_shape m hm k).harmless
 
   tool_high : tool_at t + TOOL_TEXT_LEN < 2 ^ 32
   tool_high = let e = g.high in omega arith
@@ -321,17 +322,12 @@ module _ (t : Words) (g : Ground t) (budget : ℕ) (code : Code) (rows : List Ro
         moves = words_move s.word b.row.point (moved_at b.row.at) s.moved (g.plain q.i s.word q.is) (g.narrow q.i s.word q.is) (omega arith) (omega arith) (omega arith) (omega arith) (omega arith) s.movable;
       }
 
-  same_word : (b : Piece) → (m : MovedWord t b) → (s : BaseShape t code b.row b.next) → m.moved ≡ s.moved
-  same_word b m s =
-      let e : m.word ≡ s.word = same_some (program_word t b.row.point) m.word s.word m.here s.here in
-      same_some (moved_of s.word b.row.point (moved_at b.row.at)) m.moved s.moved (subst (λ w. moved_of w b.row.point (moved_at b.row.at) ≡ Some m.moved) e m.movable) s.movable
-
   -- the moved word of number j is fetched
   fetch_moved : (b : Piece) (hb : In b ps) (bs : IsBase b) (m : MovedWord t b) (j : ℕ) (w : MarkedWord) → x.inside ≡ true → x.pc ≡ moved_at b.row.at + 4 * j → slice_get m.moved j ≡ Some w
       → (fetched t code x ≡ Some w) × (get code x.pc ≡ Some w) × (x.pc < b.row.at + 4 * b.row.len)
   fetch_moved b hb bs m j w i e k =
       let s = base_shape b hb bs in
-      let k' : slice_get s.moved j ≡ Some w = subst (λ ws. slice_get ws j ≡ Some w) (same_word b m s) k in
+      let k' : slice_get s.moved j ≡ Some w = subst (λ ws. slice_get ws j ≡ Some w) (same_moved t code b m s) k in
       let l = slice_get_within s.moved j w k' in
       let len = s.len in
       let a : x.pc ≡ b.row.at + 4 * suc (suc (suc j)) = omega arith in
@@ -422,7 +418,7 @@ module _ (t : Words) (g : Ground t) (budget : ℕ) (code : Code) (rows : List Ro
       let up : k.j + 1 ≤ own_place m.word = omega arith in
       let tk = (m.moves).tick in
       let inside = slice_get_within m.moved (own_place m.word) (own tk.0) tk.1 in
-      let size : b.row.len ≡ 3 + length m.moved = (base_shape b hb bs).len ∙ ap (λ ws. 3 + length ws) (sym (same_word b m (base_shape b hb bs))) in
+      let size : b.row.len ≡ 3 + length m.moved = base_len t code b m (base_shape b hb bs) in
       owes (Some (b.row.len - 3 - k.j)) (Some (tool s.0)) (fetch_moved b hb bs m k.j (tool s.0) i k.pc s.1).0
       (tool_to (Some (b.row.len - 3 - k.j)) s.0 (to + 4 * (k.j + 1)) (bench ((m.moves).before (k.j + 1) k.regs) x.bank) step
       (in_base b hb bs was (record x { pc = to + 4 * (k.j + 1); regs = (m.moves).before (k.j + 1) k.regs }) on refl ((m.moves).size (k.j + 1) k.regs up ∙ k.size) d.bank i
@@ -449,7 +445,7 @@ module _ (t : Words) (g : Ground t) (budget : ℕ) (code : Code) (rows : List Ro
       let out : is_jump w ≡ false = tj ∙ k.0 in
       let above = k.3 in
       let low = k.4 in
-      let size : b.row.len ≡ 3 + length m.moved = (base_shape b hb bs).len ∙ ap (λ ws. 3 + length ws) (sym (same_word b m (base_shape b hb bs))) in (
+      let size : b.row.len ≡ 3 + length m.moved = base_len t code b m (base_shape b hb bs) in (
         record {
           ticks = ap (λ n. n + 1) d.ticks;
           stop = d.stop;
