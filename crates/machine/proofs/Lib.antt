@@ -18,3 +18,4 @@ pub mod Steps
 pub mod Sames
 pub mod Beginning
 pub mod Erasing
+pub mod Leaving

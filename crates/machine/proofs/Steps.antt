@@ -65,7 +65,7 @@ fixed c (Sample i) = (refl, refl)
 -- ---- a turn, among all harts
 
 -- one hart and what all share change on both sides
-puts : (c : Core) (s s' : Plain) (h : ℕ) (x : Hart) (y' : PlainHart) (z : Solo) (v : Inv c s) → slice_get c.harts h ≡ Some x → slice_get s'.harts h ≡ Some y' → ((j : ℕ) → (j ≡ h → ⊥) → slice_get s'.harts j ≡ slice_get s.harts j) → length s'.harts ≡ length s.harts
+unfoldable pub puts : (c : Core) (s s' : Plain) (h : ℕ) (x : Hart) (y' : PlainHart) (z : Solo) (v : Inv c s) → slice_get c.harts h ≡ Some x → slice_get s'.harts h ≡ Some y' → ((j : ℕ) → (j ≡ h → ⊥) → slice_get s'.harts j ≡ slice_get s.harts j) → length s'.harts ≡ length s.harts
     → Dynamic c.program c.budget v.ps z.hart y' → z.prog ≡ s'.prog → Inv (put_back c h z) s'
 puts c s s' h x y' z v ex ey others len d p =
     record {
@@ -86,7 +86,7 @@ puts c s s' h x y' z v ex ey others len d p =
           (cases_eq j h);
     }
 
-within : {A B : Type 0} (xs : List A) (ys : List B) (h : ℕ) (x : A) → length xs ≡ length ys → slice_get xs h ≡ Some x → (y : B) × (slice_get ys h ≡ Some y)
+pub within : {A B : Type 0} (xs : List A) (ys : List B) (h : ℕ) (x : A) → length xs ≡ length ys → slice_get xs h ≡ Some x → (y : B) × (slice_get ys h ≡ Some y)
 within [] ys h x l e = absurd cc
 within (a ∷ xs) [] h x l e = absurd (omega arith)
 within (a ∷ xs) (b ∷ ys) zero x l e = (b, refl)

@@ -626,7 +626,7 @@ module _ (t : Words) (g : Ground t) (budget : ℕ) (code : Code) (rows : List Ro
   most_of (inl o) = None
   most_of (inr k) = Some (left {t = t} ps clock (inr k))
 
-  turn_at : (x.inside ≡ true) ⊎ (x.ticks < budget) → (k : HartOk t budget ps x y) → Owes (most_of k) (fetched t code x)
+  pub turn_at : (x.inside ≡ true) ⊎ (x.ticks < budget) → (k : HartOk t budget ps x y) → Owes (most_of k) (fetched t code x)
   turn_at r (inl o) = outside o (⊎_elim (λ e. absurd (true≢false (sym e ∙ o.outside))) (λ l. l) r)
   turn_at r (inr (inl k)) = at_place k.b k.is_in k.base k.was k.inside k.place
   turn_at r (inr (inr k)) = inside_mini k

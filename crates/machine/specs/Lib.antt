@@ -10,3 +10,4 @@ pub mod Measures
 pub mod Instruments
 pub mod Laws
 pub mod FirstTurns
+pub mod Leaving
