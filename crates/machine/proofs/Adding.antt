@@ -1,33 +1,27 @@
--- Write and Free keep what is kept.
-use Rattle.std.proofs.Common.{◌≡◌, ℕ, zero, suc, ◌+◌, ◌*◌, ◌%◌, ◌<◌, ◌≤◌, List, [], ◌∷◌, ◌++◌, length, Some, refl, sym, ap, ◌∙◌, subst, arith, ⊎_elim, inl, inr}
-use Rattle.std.specs.Prelude.{filter, Bool, true, false, not, ◌⊎◌, ◌==◌, slice_get}
+-- Write keeps what is kept.
+use Rattle.std.proofs.Common.{◌≡◌, ℕ, suc, ◌+◌, ◌*◌, ◌%◌, ◌<◌, ◌≤◌, List, [], ◌∷◌, ◌++◌, length, Some, refl, sym, ap, ◌∙◌, subst, arith, ⊎_elim, inl, inr}
+use Rattle.std.specs.Prelude.{Bool, true, false}
 use Rattle.std.specs.FinMap.{get}
-use Rattle.std.proofs.lemmas.Bool.{true≢false, cases_Bool, cases_eq, eq-eqb, ne_eqb, not_from_false, not_from_true, and_left, and_right, and_from}
-use Rattle.std.proofs.lemmas.Option.{slice_get_within}
+use Rattle.std.proofs.lemmas.Bool.{true≢false, cases_Bool}
 use Rattle.pn_types.specs.declared.limits.TheConstants.{TOOL_TEXT_LEN}
 use Rattle.rv_word.specs.Plain.{Words, PlainHart, Plain, program_word}
 use Rattle.tramp_spec.specs.Codes.{Code, tool_at, put_words}
-use Rattle.tramp_spec.specs.Blocks.{tail_of, moved_at}
-use Rattle.tramp_spec.specs.Bodies.{Safe}
-use Rattle.tramp_spec.specs.Harts.{Hart, bench_of}
+use Rattle.tramp_spec.specs.Blocks.{tail_of}
+use Rattle.tramp_spec.specs.Harts.{Hart}
 use Rattle.tramp_spec.specs.Jumps.{jump_word}
-use Rattle.tramp_spec.specs.Marks.{own, tool}
-use Rattle.tramp_spec.specs.MovedWords.{moved_of, own_place}
-use Rattle.tramp_spec.specs.Steps.{Bench}
+use Rattle.tramp_spec.specs.Marks.{tool}
 use Rattle.tramp_spec.specs.declared.block.Block.{Block}
 use Rattle.tramp_spec.specs.declared.mark.MarkedWord.{MarkedWord}
 use Rattle.tramp_spec.proofs.Hops.{Hops, jump_hops}
 use Rattle.tramp_spec.proofs.Encodings.{jump_reads}
-use Rattle.machine.specs.Cores.{In, Row, Status, Written, Live, Retired, Core, is_live, is_current}
-use Rattle.machine.specs.Places.{holds}
-use Rattle.machine.specs.Events.{Apart, StandsIn, MayWrite, HasShape}
-use Rattle.machine.specs.Effects.{row_of, is_kept, written}
-use Rattle.machine.proofs.Lists.{in_snoc, snoc_old, map_snoc, in_filter, filter_in, map_filter, put_words_other, put_words_stand, stands_put, Stands, same_some}
-use Rattle.machine.proofs.Invariant.{Piece, the_row, IsBase, Linked, LiveOf, base_with, BaseShape, MiniShape, ShapedAs, Shaped, Placed, Leads, HasFamily, Door, Static, AtSave, AtSaved, MovedWord, AtMoved, AtLeave, InBase, InMini, Dynamic, Inv}
-use Rattle.machine.proofs.Homes.{has_len, row_in, covers, same_moved}
+use Rattle.machine.specs.Cores.{In, Row, Live, Core, is_live, is_current}
+use Rattle.machine.specs.Events.{Apart, MayWrite, HasShape}
+use Rattle.machine.specs.Effects.{row_of, written}
+use Rattle.machine.proofs.Lists.{in_snoc, snoc_old, map_snoc, put_words_other, put_words_stand, stands_put, Stands}
+use Rattle.machine.proofs.Invariant.{Piece, the_row, IsBase, Linked, LiveOf, base_with, BaseShape, MiniShape, ShapedAs, Shaped, Placed, Leads, HasFamily, Door, Static, InBase, InMini, Dynamic, Inv}
+use Rattle.machine.proofs.Homes.{has_len, row_in}
 use Rattle.machine.proofs.Turns.{text_low}
-use Rattle.machine.proofs.Points.{live_true, same_point, base_point}
-use Rattle.machine.proofs.Follow.{Image, Kept, All, NoPiece, Nowhere}
+use Rattle.machine.proofs.Follow.{Image, Kept, All, Nowhere}
 use Rattle.machine.proofs.Minis.{point_word}
 use Rattle.machine.proofs.Blocks.{mini_len}
 
@@ -262,159 +256,3 @@ write_mini c s v b may e h =
 
 pub write : (c : Core) (s : Plain) (v : Inv c s) (b : Block) → MayWrite c b → Wrote c s v b
 write c s v b may = ⊎_elim (λ e. write_base c s v b may e (subst (HasShape c b) e may.shape)) (λ e. write_mini c s v b may e (subst (HasShape c b) e may.shape)) (cases_Bool b.base)
-
--- Free
-module _ (c : Core) (s : Plain) (v : Inv c s) (p : ℕ) (may : (r : Row) → In r c.rows → r.point ≡ p → StandsIn c r → ⊥) where
-  abbrev kept : Piece → Bool
-  kept x = is_kept p x.row
-
-  st' : Static c.program c.code c.rows v.ps v.clock
-  st' = v.static
-
-  pub kept_current : (x : Piece) → is_current x.row.status ≡ true → kept x ≡ true
-  kept_current x e = not_from_false _ (and_right (x.row.point == p) (not (is_current x.row.status)) (not_from_true _ e))
-
-  kept_other : (x : Piece) → (x.row.point ≡ p → ⊥) → kept x ≡ true
-  kept_other x e = not_from_false _ (and_left (x.row.point == p) (not (is_current x.row.status)) (ne_eqb _ _ e))
-
-  -- what is kept is of another point or isn't retired
-  why : (x : Piece) → kept x ≡ true → (x.row.point ≡ p → ⊥) ⊎ (is_current x.row.status ≡ true)
-  why x e = ⊎_elim (λ i. ⊎_elim (λ t. inr t) (λ t. absurd (true≢false (sym e ∙ not_from_true _ (and_from _ _ (eq-eqb _ _ i) (not_from_false _ t))))) (cases_Bool (is_current x.row.status))) (λ i. inl i) (cases_eq x.row.point p)
-
-  live_current : (x : Piece) → x.row.status ≡ Live → is_current x.row.status ≡ true
-  live_current x e = ap is_current e
-
-  keep : (x : Piece) → In x (filter kept v.ps) → In x v.ps × (kept x ≡ true)
-  keep x h = in_filter kept v.ps x h
-
-  -- where the target is kept
-  leads_less : (family n q : ℕ) (live : Bool) → Leads v.ps family n q live → ((u : Piece) → In u v.ps → Linked u → u.family ≡ family → (live ≡ true → u.row.status ≡ Live) → kept u ≡ true) → Leads (filter kept v.ps) family n q live
-  leads_less family n q live l f = record {
-    lo = l.lo;
-    below = l.below;
-    free = λ y h o a b. l.free y (keep y h).0 o a b;
-    to = ⊎_elim (λ r. inl r) (λ (r : (m : Piece) × In m v.ps × Linked m × (m.family ≡ family) × (m.age ≡ l.lo) × (m.row.at ≡ q) × (live ≡ true → m.row.status ≡ Live)). inr (r.0, filter_in kept v.ps r.0 r.1 (f r.0 r.1 r.2 r.3 r.6), r.2, r.3, r.4, r.5, r.6)) l.to;
-  }
-
-  -- a linked block that isn't retired is live
-  live_from : (x : Piece) → Linked x → is_current x.row.status ≡ true → is_live x.row.status ≡ true
-  live_from x k e = by x.row.status k.was e
-    where
-      by : (z : Status) → (z ≡ Written → ⊥) → is_current z ≡ true → is_live z ≡ true
-      by Written n e = absurd (n refl)
-      by Live n e = refl
-      by Retired n e = absurd (true≢false (sym e))
-
-  family_kept : (m b : Piece) → In m v.ps → Linked m → kept m ≡ true → HasFamily v.ps m b → HasFamily (filter kept v.ps) m b
-  family_kept m b hm km e o = record {
-    is_in = filter_in kept v.ps b o.is_in (⊎_elim (λ i. kept_other b (λ z. i (sym o.point ∙ z))) (λ i. kept_current b (st'.used m b hm km o (live_true _ (live_from m km i)))) (why m e));
-    base = o.base;
-    at = o.at;
-    point = o.point;
-  }
-
-  -- a body's place is in it
-  in_body : (f : ℕ) (body : List MarkedWord) (at i ticks : ℕ) (x : Bench) → Safe f body at i x ticks → i ≤ length body
-  in_body zero body at i ticks x e = omega arith
-  in_body (suc f) body at i ticks x (inl e) = omega arith
-  in_body (suc f) body at i ticks x (inr r) = let l = slice_get_within body i (tool (r.2).word) (r.2).here in omega arith
-
-  -- the hart stands in the block
-  base_holds : (x : Hart) (y : PlainHart) (k : InBase c.program c.budget v.ps x y) → holds (k.b).row x.pc ≡ true
-  base_holds x y k = ⊎_elim
-      (λ (q : BaseShape c.program c.code (k.b).row (k.b).next).
-      let l = q.len in
-      ⊎_elim (λ (z : AtSave c.budget k.b x y). let e = z.pc in covers (k.b).row x.pc (omega arith) (omega arith))
-      (λ r. ⊎_elim (λ (z : AtSaved c.budget k.b ((k.b).row.at + 4) x y). let e = z.pc in covers (k.b).row x.pc (omega arith) (omega arith))
-      (λ r. ⊎_elim (λ (z : AtSaved c.budget k.b (tail_of (k.b).row.at) x y). let e = z.pc in covers (k.b).row x.pc (omega arith) (omega arith))
-      (λ r. ⊎_elim
-      (λ (z : AtMoved c.program c.budget k.b x y).
-      let e = z.pc in
-      let low = z.low in
-      let tk = ((z.m).moves).tick in
-      let n = slice_get_within (z.m).moved (own_place (z.m).word) (own tk.0) tk.1 in
-      let same : length (z.m).moved ≡ length q.moved = ap length (same_moved c.program c.code k.b z.m q) in covers (k.b).row x.pc (omega arith) (omega arith))
-      (λ (z : AtLeave c.program k.b x y).
-      let e = z.pc in
-      let low = z.low in
-      let same : length (z.m).moved ≡ length q.moved = ap length (same_moved c.program c.code k.b z.m q) in covers (k.b).row x.pc (omega arith) (omega arith)) r) r) r) k.place)
-      (λ (q : MiniShape c.code (k.b).row (k.b).body (k.b).next). absurd (true≢false (sym (k.base).base ∙ q.mini)))
-      (st'.shapes k.b k.is_in)
-
-  mini_holds : (x : Hart) (y : PlainHart) (k : InMini c.budget v.ps x y) → holds (k.m).row x.pc ≡ true
-  mini_holds x y k = ⊎_elim (λ (q : BaseShape c.program c.code (k.m).row (k.m).next). absurd (true≢false (sym q.base ∙ (k.linked).mini)))
-      (λ (q : MiniShape c.code (k.m).row (k.m).body (k.m).next).
-      let l = q.len in
-      let i = in_body k.f (k.m).body (k.m).row.at k.i x.ticks (bench_of x) k.safe in
-      let e = k.pc in covers (k.m).row x.pc (omega arith) (omega arith))
-      (st'.shapes k.m k.is_in)
-
-  in_rows : (x : Piece) → In x v.ps → In x.row c.rows
-  in_rows x h = row_in c.program c.code c.rows v.ps v.clock v.static x h
-
-  -- where a hart stands, the block and its base are kept
-  pub holds_base : (h : ℕ) (x : Hart) (y : PlainHart) → slice_get c.harts h ≡ Some x → (k : InBase c.program c.budget v.ps x y) → is_kept p (k.b).row ≡ true
-  holds_base h x y ex k = kept_other k.b (λ e. may (k.b).row (in_rows k.b k.is_in) e (h, x, ex, k.inside, base_holds x y k))
-
-  pub holds_mini : (h : ℕ) (x : Hart) (y : PlainHart) → slice_get c.harts h ≡ Some x → (k : InMini c.budget v.ps x y) → (is_kept p (k.m).row ≡ true) × (is_kept p (k.b).row ≡ true)
-  holds_mini h x y ex k =
-      let a = kept_other k.m (λ e. may (k.m).row (in_rows k.m k.is_in) e (h, x, ex, k.inside, mini_holds x y k)) in
-      (a, (keep k.b (family_kept k.m k.b k.is_in k.linked a k.family).is_in).1)
-
-  stays_free : (h : ℕ) (x : Hart) (y : PlainHart) → slice_get c.harts h ≡ Some x → Dynamic c.program c.budget v.ps x y → Dynamic c.program c.budget (filter kept v.ps) x y
-  stays_free h x y ex d = record {
-    ticks = d.ticks;
-    stop = d.stop;
-    first = d.first;
-    second = d.second;
-    bank = d.bank;
-    down = d.down;
-    hart = λ e. ⊎_elim (λ o. inl o) (λ r. inr (⊎_elim
-        (λ (k : InBase c.program c.budget v.ps x y). inl (record { b = k.b; is_in = filter_in kept v.ps k.b k.is_in (holds_base h x y ex k); base = k.base; was = k.was; inside = k.inside; place = k.place }))
-        (λ (k : InMini c.budget v.ps x y). let a = (holds_mini h x y ex k).0 in inr (record { m = k.m; b = k.b; is_in = filter_in kept v.ps k.m k.is_in a; linked = k.linked; family = family_kept k.m k.b k.is_in k.linked a k.family; was = k.was; inside = k.inside; home = k.home; before = k.before; saved = k.saved; i = k.i; f = k.f; pc = k.pc; safe = k.safe })) r)) (d.hart e);
-  }
-
-  pub freed : Kept (λ x. is_kept p x.row ≡ true) NoPiece (λ r. r.status) Nowhere v.ps c (record c { rows = filter (is_kept p) c.rows }) s
-  freed = record {
-    inv = record {
-      ground = v.ground;
-      ps = filter kept v.ps;
-      clock = v.clock;
-      some = v.some;
-      static = record {
-        images = sym (map_filter the_row (is_kept p) v.ps) ∙ ap (filter (is_kept p)) st'.images;
-        shapes = λ x h. st'.shapes x (keep x h).0;
-        places = λ x h. st'.places x (keep x h).0;
-        apart = λ x y hx hy. st'.apart x y (keep x hx).0 (keep y hy).0;
-        words = λ a u e. ⊎_elim (λ o. inl o)
-            (λ (o : (d : Piece) × In d v.ps × IsBase d × (d.row.point ≡ a) × (d.row.status ≡ Live) × Door c.code d). inr (o.0, filter_in kept v.ps o.0 o.1 (kept_current o.0 (live_current o.0 o.4)), o.2, o.3, o.4, o.5))
-            (st'.words a u e);
-        doors = λ x h k e. st'.doors x (keep x h).0 k e;
-        single = λ x y hx hy bx by e cx cy. st'.single x y (keep x hx).0 (keep y hy).0 bx by e cx cy;
-        ages = λ m h k. st'.ages m (keep m h).0 k;
-        distinct = λ x y hx hy kx ky e. st'.distinct x y (keep x hx).0 (keep y hy).0 kx ky e;
-        families = λ m h k. let i = keep m h in let o = st'.families m i.0 k in (o.0, family_kept m o.0 i.0 k i.1 o.1);
-        used = λ m b hm km o lv. st'.used m b (keep m hm).0 km (record { is_in = (keep b o.is_in).0; base = o.base; at = o.at; point = o.point }) lv;
-        chains = λ m h k. let i = keep m h in leads_less m.family m.age m.next (is_live m.row.status) (st'.chains m i.0 k)
-            (λ u hu ku fu lv. ⊎_elim
-            (λ away. let o = st'.families m i.0 k in kept_other u (λ z. away (sym (same_point c.program c.code c.rows v.ps v.clock v.static m u o.0 o.1 hu ku fu) ∙ z)))
-            (λ cur. kept_current u (live_current u (lv (live_from m k cur)))) (why m i.1));
-        heads = λ b h k. let i = keep b h in leads_less b.row.at v.clock b.next (is_current b.row.status) (st'.heads b i.0 k)
-            (λ u hu ku fu lv. ⊎_elim
-            (λ away. kept_other u (λ z. away (sym (base_point c.program c.code c.rows v.ps v.clock v.static b u i.0 k hu ku fu) ∙ z)))
-            (λ cur. kept_current u (live_current u (lv cur))) (why b i.1));
-      };
-      prog = v.prog;
-      many = v.many;
-      harts = λ h x y ex ey. stays_free h x y ex (v.harts h x y ex ey);
-    };
-    follows = record {
-      on = λ x h k. (x, filter_in kept v.ps x h k, record { at = refl; point = refl; base = refl; body = refl; status = refl; was = λ w. w; family = λ k. refl; age = λ k. refl });
-      back = λ y h. inl (y, (keep y h).0, record { at = refl; point = refl; base = refl; body = refl; status = refl; was = λ w. w; family = λ k. refl; age = λ k. refl });
-    };
-    words = λ a u e but. refl;
-    program = refl;
-    budget = refl;
-    harts = refl;
-    prog = refl;
-  }

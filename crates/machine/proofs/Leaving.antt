@@ -1,10 +1,9 @@
 -- A hart inside is soon outside.
-use Rattle.std.proofs.Common.{◌≡◌, ℕ, zero, suc, ◌+◌, ◌-◌, ◌*◌, ◌<◌, ◌≤◌, List, [], ◌∷◌, length, Option, Some, None, refl, sym, ap, ◌∙◌, subst, arith, ⊎_elim, inl, inr}
-use Rattle.std.specs.Prelude.{Bool, true, false, cond, not, is_none, IsTrue, slice_get, slice_set, ◌⊎◌, ◌&&◌, ◌||◌, ◌==◌, nat_lt}
-use Rattle.std.proofs.lemmas.Bool.{true≢false, eq-eqb}
+use Rattle.std.proofs.Common.{◌≡◌, ℕ, zero, suc, ◌+◌, ◌<◌, ◌≤◌, List, [], ◌∷◌, Option, Some, None, refl, sym, ap, ◌∙◌, subst, arith, inl, inr}
+use Rattle.std.specs.Prelude.{Bool, true, false, cond, not, is_none, IsTrue, slice_get, map, ◌⊎◌, ◌&&◌, ◌||◌, ◌==◌, nat_lt}
+use Rattle.std.proofs.lemmas.Bool.{true≢false, not-true, eq-eqb, eqb-true, and_parts}
 use Rattle.std.proofs.lemmas.Grind.{common_steps}
 use Rattle.std.proofs.lemmas.Option.{slice_get_within}
-use Rattle.pn_types.specs.declared.image.Image.{Image}
 use Rattle.rv_word.specs.Plain.{Words, PlainHart, Plain, Alone}
 use Rattle.rv_word.specs.Plain as plain
 use Rattle.rv_word.specs.declared.outcome.Cause.{Cause}
@@ -15,17 +14,17 @@ use Rattle.tramp_spec.specs.Codes.{Code}
 use Rattle.tramp_spec.specs.Harts.{Hart, Solo, is_tick}
 use Rattle.tramp_spec.specs.Marks.{own}
 use Rattle.tramp_spec.specs.MovedWords.{own_place}
-use Rattle.machine.specs.Cores.{In, Row, Core, start_core}
+use Rattle.machine.specs.Cores.{In, Row, Core, is_written, start_core}
 use Rattle.machine.specs.Places.{block_at}
-use Rattle.machine.specs.Turns.{fetched, may_turn, turn_by, put_back, is_runnable, turn, turn_alone}
-use Rattle.machine.specs.Events.{Event}
-use Rattle.machine.specs.Leaving.{words_at, is_out_now, is_out, OutWithin, OutSoon, LeavesSoon}
+use Rattle.machine.specs.Turns.{fetched, may_turn, turn_by, put_back, is_runnable, turn_alone}
+use Rattle.machine.specs.Leaving.{words_at, is_out_now, OutWithin, OutSoon, LeavesSoon}
 use Rattle.machine.specs.Replays.{replay, owns}
 use Rattle.machine.proofs.Beginning.{begins}
-use Rattle.machine.proofs.Homes.{base_shape, mini_shape, base_len, block_is}
-use Rattle.machine.proofs.Invariant.{Piece, IsBase, Linked, BaseShape, MiniShape, BasePlace, MovedWord, Static, HartOk, InBase, InMini, Dynamic, Inv}
-use Rattle.machine.proofs.Lefts.{ahead, left_at, left, Below, Soon}
-use Rattle.machine.proofs.Lists.{get_set_same, get_set_other, length_slice_set}
+use Rattle.machine.proofs.Homes.{base_shape, base_len, block_is, one_block}
+use Rattle.machine.proofs.Invariant.{Piece, the_row, IsBase, Linked, BasePlace, Static, HartOk, InBase, InMini, Dynamic, Inv}
+use Rattle.machine.proofs.Lefts.{is_ahead, words_if, ahead, ahead_of, left_at, left, Below, Soon}
+use Rattle.machine.proofs.Standing.{in_base, in_mini}
+use Rattle.machine.proofs.Lists.{get_set_same, get_set_other, length_slice_set, same_some}
 use Rattle.machine.proofs.Steps.{puts, within, all_events}
 use Rattle.machine.proofs.Turns.{OwesBy, turn_at}
 
@@ -129,3 +128,111 @@ module _ (most : ℕ) (rest : From most) (c : Core) (s : Plain) (v : Inv c s) (h
 out_within : (most : ℕ) → From most
 out_within zero = none_left
 out_within (suc most) = λ c s v h x y ex ey d u. one_more most (out_within most) c s v h x y ex ey d u
+
+-- ---- as many as the blocks of the point have words
+
+-- what is ahead is linked
+ahead_linked : (family n : ℕ) (m : Piece) → is_ahead family n m ≡ true → Linked m × (m.family ≡ family)
+ahead_linked family n m e =
+    let p = and_parts (not m.row.base) (not (is_written m.row.status) && ((m.family == family) && nat_lt m.age n)) e in
+    let q = and_parts (not (is_written m.row.status)) ((m.family == family) && nat_lt m.age n) p.1 in
+    let r = and_parts (m.family == family) (nat_lt m.age n) q.1 in
+    (record { mini = not-true m.row.base p.0; was = λ s. true≢false (sym q.0 ∙ ap (λ z. not (is_written z)) s) }, eqb-true m.family family r.0)
+
+one_word : (b : Bool) (p l : ℕ) (m : Piece) → (b ≡ true → m.row.point ≡ p) → words_if b l ≤ cond (m.row.point == p) l 0
+one_word true p l m f = let e = eq-eqb m.row.point p (f refl) in let s : cond (m.row.point == p) l 0 ≡ l = ap (λ b. cond b l 0) e in omega arith
+one_word false p l m f = omega arith
+
+ahead_words : (ps : List Piece) (family n p : ℕ) → ((m : Piece) → In m ps → is_ahead family n m ≡ true → m.row.point ≡ p) → ahead ps family n ≤ words_at p (map the_row ps)
+ahead_words [] family n p f = omega arith
+ahead_words (m ∷ ps) family n p f =
+    let h = one_word (is_ahead family n m) p m.row.len m (λ e. f m (inl refl) e) in
+    let t = ahead_words ps family n p (λ q i e. f q (inr i) e) in
+    omega arith
+
+-- with the base block
+base_and_ahead : (ps : List Piece) (b : Piece) (family n p : ℕ) → In b ps → IsBase b → b.row.point ≡ p → ((m : Piece) → In m ps → is_ahead family n m ≡ true → m.row.point ≡ p)
+    → b.row.len + ahead ps family n ≤ words_at p (map the_row ps)
+base_and_ahead [] b family n p h k e f = absurd h
+base_and_ahead (m ∷ ps) b family n p (inl i) k e f =
+    let none : is_ahead family n m ≡ false = ap (λ z. is_ahead family n z) (sym i) ∙ grind (arith, common_steps, k.base) in
+    let zeros : words_if (is_ahead family n m) m.row.len ≡ 0 = ap (λ z. words_if z m.row.len) none in
+    let here : cond (m.row.point == p) m.row.len 0 ≡ b.row.len = ap (λ z. cond (z.row.point == p) z.row.len 0) (sym i) ∙ ap (λ z. cond z b.row.len 0) (eq-eqb b.row.point p e) in
+    let t = ahead_words ps family n p (λ q j z. f q (inr j) z) in
+    omega arith
+base_and_ahead (m ∷ ps) b family n p (inr h) k e f =
+    let o = one_word (is_ahead family n m) p m.row.len m (λ z. f m (inl refl) z) in
+    let t = base_and_ahead ps b family n p h k e (λ q j z. f q (inr j) z) in
+    omega arith
+
+module _ (t : Words) (budget : ℕ) (code : Code) (rows : List Row) (ps : List Piece) (clock : ℕ) (st : Static t code rows ps clock) (x : Hart) (y : PlainHart) where
+  -- the mini blocks of a base block are at its point
+  of_point : (b : Piece) (n : ℕ) → In b ps → IsBase b → (m : Piece) → In m ps → is_ahead b.row.at n m ≡ true → m.row.point ≡ b.row.point
+  of_point b n hb bs m hm e =
+      let k = ahead_linked b.row.at n m e in
+      let o = st.families m hm k.0 in
+      let same : o.0 ≡ b = one_block t code rows ps clock st o.0 b (o.1).is_in hb ((o.1).at ∙ k.1) in
+      sym (o.1).point ∙ ap (λ (z : Piece). z.row.point) same
+
+  all_words : (b : Piece) (n : ℕ) → In b ps → IsBase b → b.row.len + ahead ps b.row.at n ≤ words_at b.row.point rows
+  all_words b n hb bs = subst (λ l. b.row.len + ahead ps b.row.at n ≤ words_at b.row.point l) st.images (base_and_ahead ps b b.row.at n b.row.point hb bs refl (of_point b n hb bs))
+
+  left_of_base : (b : Piece) → In b ps → IsBase b → (k : BasePlace t budget b x y) → left_at ps clock b k ≤ words_at b.row.point rows
+  left_of_base b hb bs (inl k) = all_words b clock hb bs
+  left_of_base b hb bs (inr (inl k)) = let w = all_words b clock hb bs in omega arith
+  left_of_base b hb bs (inr (inr (inl k))) = let w = all_words b clock hb bs in omega arith
+  left_of_base b hb bs (inr (inr (inr (inl k)))) = let w = all_words b clock hb bs in omega arith
+  left_of_base b hb bs (inr (inr (inr (inr k)))) = let w = all_words b clock hb bs in omega arith
+
+  -- the block in which the hart stands, and that no more is left than its point's blocks have words
+  record Bounded (n : ℕ) : Type 0 where
+    row : Row
+    block : block_at rows x.pc ≡ Some row
+    most : n ≤ words_at row.point rows
+
+  bounded : (k : InBase t budget ps x y ⊎ InMini budget ps x y) → Bounded (left {t = t} ps clock (inr k))
+  bounded (inl k) =
+      let w = in_base t budget code rows ps clock st x y k in
+      record { row = (k.b).row; block = block_is t code rows ps clock st k.b x.pc k.is_in w.0 w.1; most = left_of_base k.b k.is_in k.base k.place }
+  bounded (inr k) =
+      let w = in_mini t budget code rows ps clock st x y k in
+      let o = k.family in
+      let a = ahead_of ps (k.m).family clock k.m k.is_in k.linked refl (st.ages k.m k.is_in k.linked).1 in
+      let all = all_words k.b clock o.is_in o.base in
+      let same : ahead ps (k.b).row.at clock ≡ ahead ps (k.m).family clock = ap (λ f. ahead ps f clock) o.at in
+      let point : words_at (k.b).row.point rows ≡ words_at (k.m).row.point rows = ap (λ p. words_at p rows) o.point in
+      record { row = (k.m).row; block = block_is t code rows ps clock st k.m x.pc k.is_in w.0 w.1; most = omega arith }
+
+  -- the bound is that of the block, wherever in it the hart stands
+  below_words : (r : Row) → block_at rows x.pc ≡ Some r → (k : HartOk t budget ps x y) → Below ps clock (Some (suc (words_at r.point rows))) k
+  below_words r e (inl o) = tt
+  below_words r e (inr k) =
+      let b = bounded k in
+      let same : b.row ≡ r = same_some (block_at rows x.pc) b.row r b.block e in
+      let w : words_at b.row.point rows ≡ words_at r.point rows = ap (λ (z : Row). words_at z.point rows) same in
+      let m = b.most in
+      omega arith
+
+not_down : (x : Hart) (o : Option Cause) → x.inside ≡ true → ((cause : Cause) → o ≡ Some cause → x.inside ≡ false) → o ≡ None
+not_down x None i f = refl
+not_down x (Some cause) i f = absurd (true≢false (sym i ∙ f cause refl))
+
+out_soon : (c : Core) (s : Plain) → Inv c s → OutSoon c
+out_soon c s v h x ex i =
+    let q = within c.harts s.harts h x v.many ex in
+    let d = v.harts h x q.0 ex q.1 in
+    let on = not_down x x.stop i (λ cause e. (d.down cause e).0) in
+    stands (d.hart on)
+  where
+    stands : HartOk c.program c.budget v.ps x (within c.harts s.harts h x v.many ex).0 → (r : Row) × (block_at c.rows x.pc ≡ Some r) × OutWithin (words_at r.point c.rows) c h
+    stands (inl o) = absurd (true≢false (sym i ∙ o.outside))
+    stands (inr k) =
+        let q = within c.harts s.harts h x v.many ex in
+        let d = v.harts h x q.0 ex q.1 in
+        let b = bounded c.program c.budget c.code c.rows v.ps v.clock v.static x q.0 k in
+        (b.row, b.block, out_within (words_at b.row.point c.rows) c s v h x q.0 ex q.1 d (λ on. below_words c.program c.budget c.code c.rows v.ps v.clock v.static x q.0 b.row b.block (d.hart on)))
+
+pub leaves_soon : LeavesSoon
+leaves_soon image n budget es p l =
+    let a = all_events es (program_of image) budget (start_core image n budget) (start image n) refl refl (begins image n budget p) l in
+    out_soon (replay es (start_core image n budget)) (run_from (program_of image) (owns es (start_core image n budget)) (start image n)) a.1

@@ -1,9 +1,8 @@
 -- How many turns a hart inside has left at most, by where it stands: the words that lie before it.
 use Rattle.std.proofs.Common.{◌≡◌, ℕ, ◌+◌, ◌-◌, ◌<◌, ◌≤◌, List, [], ◌∷◌, Option, Some, None, refl, ap, subst, arith, inl, inr}
 use Rattle.std.proofs.lemmas.Grind.{common_steps}
-use Rattle.std.specs.Prelude.{Bool, true, false, not, nat_lt, ◌&&◌, ◌==◌, ◌⊎◌}
+use Rattle.std.specs.Prelude.{Bool, true, false, not, nat_lt, ◌&&◌, ◌==◌}
 use Rattle.rv_word.specs.Plain.{Words, PlainHart}
-use Rattle.rv_word.specs.declared.outcome.Cause.{Cause}
 use Rattle.tramp_spec.specs.Harts.{Hart}
 use Rattle.machine.specs.Cores.{In, Status, Written, Live, Retired, is_written}
 use Rattle.machine.proofs.Invariant.{Piece, Linked, BasePlace, HartOk, Dynamic}

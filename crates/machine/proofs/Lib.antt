@@ -13,6 +13,8 @@ pub mod Points
 pub mod Minis
 pub mod Unlink
 pub mod Adding
+pub mod Standing
+pub mod Freeing
 pub mod Arming
 pub mod Steps
 pub mod Sames

@@ -2,7 +2,7 @@
 use Rattle.std.proofs.Common.{◌≡◌, ◌≢◌, ℕ, zero, suc, ◌+◌, ◌*◌, ◌<◌, ◌≤◌, List, [], ◌∷◌, ◌++◌, length, Option, Some, None, refl, sym, ap, ◌∙◌, subst, arith, ⊎_elim, inl, inr}
 use Rattle.std.specs.Prelude.{Bool, true, false, slice_get, ◌⊎◌, ◌&&◌, ◌==◌}
 use Rattle.std.specs.FinMap.{get}
-use Rattle.std.proofs.lemmas.Bool.{true≢false, cases_eq, cases_lt, cond-true, cond-false, and_left, and_right, and_from, eq-eqb, ne_eqb}
+use Rattle.std.proofs.lemmas.Bool.{cases_eq, cases_lt, cond-true, cond-false, and_left, and_right, and_from, eq-eqb, ne_eqb}
 use Rattle.std.proofs.lemmas.Grind.{common_steps}
 use Rattle.std.proofs.lemmas.Option.{slice_get_within}
 use Rattle.rv_word.specs.Names.{jump_of}
@@ -19,13 +19,13 @@ use Rattle.tramp_spec.specs.Blocks.{tail_of, moved_at, home_by, is_saved, rebuil
 use Rattle.tramp_spec.specs.Bodies.{Safe}
 use Rattle.tramp_spec.specs.Harts.{Hart, bench_of}
 use Rattle.tramp_spec.specs.Marks.{own, tool, leave}
-use Rattle.tramp_spec.specs.MovedWords.{moved_of, own_place, rebuilt}
+use Rattle.tramp_spec.specs.MovedWords.{own_place, rebuilt}
 use Rattle.tramp_spec.specs.declared.mark.MarkedWord.{MarkedWord}
 use Rattle.machine.specs.Cores.{In, Row, Core}
 use Rattle.machine.specs.Places.{block_at, word_no, program_pc, saved_in, has_saved, rebuilding_by, rebuilding_in, rebuilding_of, seen}
 use Rattle.machine.specs.Same.{SameProgram}
-use Rattle.machine.proofs.Lists.{stands_at, get_append, get_before, same_some}
-use Rattle.machine.proofs.Invariant.{Piece, IsBase, Linked, base_with, BaseShape, MiniShape, Static, Saved, Outside, AtSave, AtSaved, MovedWord, AtMoved, AtLeave, InBase, InMini, Dynamic, Inv}
+use Rattle.machine.proofs.Lists.{stands_at, get_append, get_before}
+use Rattle.machine.proofs.Invariant.{Piece, IsBase, base_with, BaseShape, MiniShape, Static, Saved, Outside, AtSave, AtSaved, AtMoved, AtLeave, InBase, InMini, Dynamic, Inv}
 use Rattle.machine.proofs.Homes as homes
 use Rattle.machine.proofs.Homes.{block_is, home_word, home_leave, same_moved}
 

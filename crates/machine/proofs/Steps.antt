@@ -22,7 +22,8 @@ use Rattle.machine.proofs.Turns.{OwesBy, turn_keeps}
 use Rattle.machine.proofs.Points.{link_point, unlink_point}
 use Rattle.machine.proofs.Minis.{link_mini}
 use Rattle.machine.proofs.Unlink.{unlink_mini}
-use Rattle.machine.proofs.Adding.{write, freed}
+use Rattle.machine.proofs.Adding.{write}
+use Rattle.machine.proofs.Freeing.{freed}
 use Rattle.machine.proofs.Arming.{arms}
 
 -- ---- program and budget stay

@@ -25,7 +25,7 @@ use Rattle.tramp_spec.specs.Blocks.{tail_of, moved_at}
 use Rattle.tramp_spec.specs.Bodies.{Safe, Harmless, Leap}
 use Rattle.tramp_spec.specs.Harts.{own_hart, Hart, Solo, bench_of, stopped, ticked, own_step, other_hart, step_of, is_tick}
 use Rattle.tramp_spec.specs.Marks.{own, enter, tool, leave, is_jump}
-use Rattle.tramp_spec.specs.MovedWords.{moved_of, own_place}
+use Rattle.tramp_spec.specs.MovedWords.{own_place}
 use Rattle.tramp_spec.specs.Moves.{Agree, Alike, LeadsHome, SameStep, bench}
 use Rattle.tramp_spec.specs.Steps.{Bench, stand, step_on, with_value, with_doubleword}
 use Rattle.tramp_spec.specs.declared.mark.Mark.TheVariants.{Enter, Tool, Leave}
@@ -38,7 +38,7 @@ use Rattle.machine.specs.Cores.{In, Row, Written, Live, is_live, is_current}
 use Rattle.machine.specs.Places.{home_of, program_pc}
 use Rattle.machine.specs.Turns.{fetched}
 use Rattle.machine.proofs.Lists.{stands_at, get_append, get_before, same_some}
-use Rattle.machine.proofs.Invariant.{Ground, Piece, IsBase, Linked, base_with, BaseShape, MiniShape, Leads, HasFamily, Door, Static, Saved, Outside, AtSave, AtSaved, MovedWord, AtMoved, AtLeave, BasePlace, InBase, InMini, HartOk, Dynamic}
+use Rattle.machine.proofs.Invariant.{Ground, Piece, IsBase, Linked, base_with, BaseShape, MiniShape, Leads, HasFamily, Door, Static, Saved, Outside, AtSave, AtSaved, MovedWord, AtMoved, AtLeave, BasePlace, InMini, HartOk, Dynamic}
 use Rattle.machine.proofs.Lefts.{ahead, left_at, left, Below, Soon, ahead_of}
 use Rattle.machine.proofs.Homes as homes
 use Rattle.machine.proofs.Homes.{one_block, home_word, same_moved, base_len}
@@ -132,15 +132,18 @@ module _ (t : Words) (g : Ground t) (budget : ℕ) (code : Code) (rows : List Ro
   -- the machine's hart behind a word that stops it
   downs : (bound : Option ℕ) (c : Cause) (home : ℕ) (z : PlainHart) → home ≡ y.pc → z ≡ record { pc = y.pc; regs = y.regs; ticks = y.ticks + 1; stop = Some c } → Soon t budget ps clock bound (ticked (stopped x home c)) z
   downs bound c home z e is =
-      subst (Soon t budget ps clock bound (ticked (stopped x home c))) (sym is) (record {
-        ticks = ap (λ n. n + 1) d.ticks;
-        stop = refl;
-        first = d.first;
-        second = d.second;
-        bank = d.bank;
-        down = λ k q. (refl, e);
-        hart = λ q. absurd cc;
-      }, λ q. absurd cc)
+      subst (Soon t budget ps clock bound (ticked (stopped x home c))) (sym is) (
+        record {
+          ticks = ap (λ n. n + 1) d.ticks;
+          stop = refl;
+          first = d.first;
+          second = d.second;
+          bank = d.bank;
+          down = λ k q. (refl, e);
+          hart = λ q. absurd cc;
+        },
+        λ q. absurd cc,
+      )
 
   -- ---- outside
 
@@ -151,15 +154,18 @@ module _ (t : Words) (g : Ground t) (budget : ℕ) (code : Code) (rows : List Ro
   own_outcome w (Stops c) (Goes pc b q) i e s = absurd s
   own_outcome w (Goes pc a q) (Stops c) i e s = absurd s
   own_outcome w (Goes pc a q) (Goes qc b r) i e s = (
-    (record {
-      ticks = ap (λ n. n + 1) d.ticks;
-      stop = d.stop;
-      first = (s.1).first;
-      second = (s.1).second;
-      bank = d.bank;
-      down = λ k z. absurd cc;
-      hart = λ z. inl (record { outside = ap (λ b. b && not (is_jump w)) i; pc = s.0; agree = (s.1).agree });
-    }, λ z. tt),
+    (
+      record {
+        ticks = ap (λ n. n + 1) d.ticks;
+        stop = d.stop;
+        first = (s.1).first;
+        second = (s.1).second;
+        bank = d.bank;
+        down = λ k z. absurd cc;
+        hart = λ z. inl (record { outside = ap (λ b. b && not (is_jump w)) i; pc = s.0; agree = (s.1).agree });
+      },
+      λ z. tt,
+    ),
     s.2,
   )
 
@@ -194,23 +200,25 @@ module _ (t : Words) (g : Ground t) (budget : ℕ) (code : Code) (rows : List Ro
   enters : (b : Piece) → In b ps → IsBase b → b.row.point ≡ x.pc → b.row.status ≡ Live → (door : Door code b) → Outside x y → x.ticks < budget → Owes None (Some (enter door.jump))
   enters b hb bs e live door o l =
       let hop : Hops x.pc b.row.at door.jump = subst (λ a. Hops a b.row.at door.jump) e door.hops in
-      enter_to None door.jump b.row.at (bench_of x) (hop_steps 0 door.jump x.ticks x.pc b.row.at (bench_of x) hop (st.places b hb).aligned)
-      (record {
-        ticks = d.ticks;
-        stop = d.stop;
-        first = d.first;
-        second = d.second;
-        bank = d.bank;
-        down = λ k z. absurd cc;
-        hart = λ z. inr (inl (record {
-          b = b;
-          is_in = hb;
-          base = bs;
-          was = λ w. absurd cc;
-          inside = refl;
-          place = inl (record { pc = refl; home = sym o.pc ∙ sym e; before = l; agree = o.agree });
-        }));
-      }, λ z. tt)
+      enter_to None door.jump b.row.at (bench_of x) (hop_steps 0 door.jump x.ticks x.pc b.row.at (bench_of x) hop (st.places b hb).aligned) (
+        record {
+          ticks = d.ticks;
+          stop = d.stop;
+          first = d.first;
+          second = d.second;
+          bank = d.bank;
+          down = λ k z. absurd cc;
+          hart = λ z. inr (inl (record {
+            b = b;
+            is_in = hb;
+            base = bs;
+            was = λ w. absurd cc;
+            inside = refl;
+            place = inl (record { pc = refl; home = sym o.pc ∙ sym e; before = l; agree = o.agree });
+          }));
+        },
+        λ z. tt,
+      )
 
   -- ---- inside
 
@@ -345,15 +353,17 @@ module _ (t : Words) (g : Ground t) (budget : ℕ) (code : Code) (rows : List Ro
 
   in_base : (b : Piece) → In b ps → IsBase b → (b.row.status ≡ Written → ⊥) → (z : Hart) → z.stop ≡ None → z.ticks ≡ x.ticks → length z.regs ≡ 32 → length z.bank ≡ bank_len → z.inside ≡ true → (k : BasePlace t budget b z y) → (most : ℕ) → left_at ps clock b k < most → Soon t budget ps clock (Some most) z y
   in_base b hb bs was z on' et lr lb i k most u = (
-      record {
-        ticks = et ∙ d.ticks;
-        stop = on' ∙ sym plain_on;
-        first = lr;
-        second = d.second;
-        bank = lb;
-        down = λ c q. absurd cc;
-        hart = λ q. inr (inl (record { b = b; is_in = hb; base = bs; was = was; inside = i; place = k }));
-      }, λ q. u)
+    record {
+      ticks = et ∙ d.ticks;
+      stop = on' ∙ sym plain_on;
+      first = lr;
+      second = d.second;
+      bank = lb;
+      down = λ c q. absurd cc;
+      hart = λ q. inr (inl (record { b = b; is_in = hb; base = bs; was = was; inside = i; place = k }));
+    },
+    λ q. u,
+  )
 
   at_save : (b : Piece) → In b ps → IsBase b → (b.row.status ≡ Written → ⊥) → x.inside ≡ true → AtSave budget b x y → Owes (Some (b.row.len + ahead ps b.row.at clock)) (fetched t code x)
   at_save b hb bs was i k =
@@ -511,16 +521,18 @@ module _ (t : Words) (g : Ground t) (budget : ℕ) (code : Code) (rows : List Ro
       (subst (λ w. step_on 0 w x.ticks (to + 4 * k.j) (bench_of x) ≡ Ok (stand y.pc (bench_of x))) word
       (subst (λ a. step_on 0 l.0 x.ticks (to + 4 * k.j) (bench_of x) ≡ Ok (stand a (bench_of x))) home step0)) in
       owes (Some (b.row.len - 3 - k.j)) (Some (leave k.left)) (fetch_moved b hb bs m k.j (leave k.left) i k.pc k.stands).0
-      (leave_to (Some (b.row.len - 3 - k.j)) k.left y.pc (bench_of x) step
-      (record {
-        ticks = d.ticks;
-        stop = d.stop;
-        first = d.first;
-        second = d.second;
-        bank = d.bank;
-        down = λ c z. absurd cc;
-        hart = λ z. inl (record { outside = refl; pc = refl; agree = k.agree });
-      }, λ z. tt))
+      (leave_to (Some (b.row.len - 3 - k.j)) k.left y.pc (bench_of x) step (
+        record {
+          ticks = d.ticks;
+          stop = d.stop;
+          first = d.first;
+          second = d.second;
+          bank = d.bank;
+          down = λ c z. absurd cc;
+          hart = λ z. inl (record { outside = refl; pc = refl; agree = k.agree });
+        },
+        λ z. tt,
+      ))
 
   at_moved : (b : Piece) → In b ps → IsBase b → (b.row.status ≡ Written → ⊥) → x.inside ≡ true → (k : AtMoved t budget b x y) → Owes (Some (b.row.len - 3 - k.j)) (fetched t code x)
   at_moved b hb bs was i k = ⊎_elim (λ l. at_silent b hb bs was i k l) (λ l. at_tick b hb bs was i k (let q = k.low in omega arith)) (cases_lt k.j (own_place (k.m).word))
@@ -564,31 +576,33 @@ module _ (t : Words) (g : Ground t) (budget : ℕ) (code : Code) (rows : List Ro
           let step : step_on bank_len l.word x.ticks x.pc (bench_of x) ≡ Ok (stand ((k.m).row.at + 4 * j) z) =
           subst (λ a. step_on bank_len l.word x.ticks a (bench_of x) ≡ Ok (stand ((k.m).row.at + 4 * j) z)) (sym k.pc) l.step in
           owes (Some most) (Some (tool l.word)) (here k.i (tool l.word) refl (omega arith) (get_before (k.m).body (tool shape.jump ∷ []) k.i (tool l.word) l.here))
-          (tool_to (Some most) l.word ((k.m).row.at + 4 * j) z step
-          (record {
-            ticks = d.ticks;
-            stop = d.stop;
-            first = ke.size ∙ d.first;
-            second = d.second;
-            bank = ke.room ∙ d.bank;
-            down = λ c q. absurd cc;
-            hart = λ q. inr (inr (record {
-              m = k.m;
-              b = k.b;
-              is_in = k.is_in;
-              linked = k.linked;
-              family = k.family;
-              was = k.was;
-              inside = k.inside;
-              home = k.home;
-              before = k.before;
-              saved = record { agree = λ r u n. ke.regs r n (λ e. omega arith) ∙ sv.agree r u n; saved = ke.saved ∙ sv.saved };
-              i = j;
-              f = f;
-              pc = refl;
-              safe = s;
-            }));
-          }, λ z. let on = l.on in let within = l.within in omega arith))
+          (tool_to (Some most) l.word ((k.m).row.at + 4 * j) z step (
+            record {
+              ticks = d.ticks;
+              stop = d.stop;
+              first = ke.size ∙ d.first;
+              second = d.second;
+              bank = ke.room ∙ d.bank;
+              down = λ c q. absurd cc;
+              hart = λ q. inr (inr (record {
+                m = k.m;
+                b = k.b;
+                is_in = k.is_in;
+                linked = k.linked;
+                family = k.family;
+                was = k.was;
+                inside = k.inside;
+                home = k.home;
+                before = k.before;
+                saved = record { agree = λ r u n. ke.regs r n (λ e. omega arith) ∙ sv.agree r u n; saved = ke.saved ∙ sv.saved };
+                i = j;
+                f = f;
+                pc = refl;
+                safe = s;
+              }));
+            },
+            λ z. let on = l.on in let within = l.within in omega arith,
+          ))
 
       by : (f : ℕ) → Safe f (k.m).body (k.m).row.at k.i (bench_of x) x.ticks → Owes (Some most) (fetched t code x)
       by zero e = ends e

@@ -1,6 +1,7 @@
 //! What holds of the definitions.
 
 ghost use Rattle.machine.specs.FirstTurns.{FirstTurns};
+ghost use Rattle.machine.specs.Leaving.{LeavesSoon};
 ghost use Rattle.machine.specs.Laws.{Erasure, ReplaysGoOn};
 ghost use Rattle.machine.specs.Measures.{LevelsGoOn, MeasuresAdd};
 
@@ -11,6 +12,12 @@ ghost use Rattle.machine.specs.Measures.{LevelsGoOn, MeasuresAdd};
 /// pc and registers x1 to x30, those that the tool has saved or is rebuilding being taken from where they are.
 pub fn erasure()
     ensures { Erasure }
+{}
+
+/// A hart that is inside and takes turns with no event of the tool between is stopped or outside within as many turns as the
+/// blocks of its point that aren't freed have words. From the jump that enters it is one turn more.
+pub fn leaves_soon()
+    ensures { LeavesSoon }
 {}
 
 /// Lists of events may be parted anywhere: what a list leads to, what it owns and whether it is legal go on from its first part.
