@@ -4,4 +4,12 @@ pub mod Encodings
 pub mod Registers
 pub mod Frame
 pub mod Hops
+pub mod NumberWords
+pub mod Outcomes
+pub mod MovedPlaces
+pub mod MovedPlain
+pub mod MovedAuipc
+pub mod MovedJal
+pub mod MovedJalr
+pub mod MovedBranch
 pub mod Moving
