@@ -20,7 +20,7 @@ use Rattle.machine.specs.Effects.{row_of, written}
 use Rattle.machine.proofs.Lists.{in_snoc, snoc_old, map_snoc, put_words_other, put_words_stand, stands_put, Stands}
 use Rattle.machine.proofs.Invariant.{Piece, the_row, IsBase, Linked, LiveOf, base_with, BaseShape, MiniShape, ShapedAs, Shaped, Placed, Leads, HasFamily, Door, Static, InBase, InMini, Dynamic, Inv}
 use Rattle.machine.proofs.Homes.{has_len, row_in}
-use Rattle.machine.proofs.Turns.{text_low}
+use Rattle.machine.proofs.Texts.{text_low}
 use Rattle.machine.proofs.Follow.{Image, Kept, All, Nowhere}
 use Rattle.machine.proofs.Minis.{point_word}
 use Rattle.machine.proofs.Blocks.{mini_len}

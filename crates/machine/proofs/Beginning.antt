@@ -20,7 +20,7 @@ use Rattle.machine.specs.Cores.{first_hart, start_core}
 use Rattle.machine.specs.Laws.{IsProgram}
 use Rattle.machine.proofs.Lists.{get_same, get_other}
 use Rattle.machine.proofs.Invariant.{Ground, Static, Dynamic, Inv}
-use Rattle.machine.proofs.Turns.{in_text}
+use Rattle.machine.proofs.Texts.{in_text}
 
 -- ---- the text
 

@@ -5,6 +5,7 @@ pub mod FirstTurns
 pub mod Lists
 pub mod Invariant
 pub mod Homes
+pub mod Texts
 pub mod Lefts
 pub mod Turns
 pub mod Blocks

@@ -15,7 +15,7 @@ use Rattle.machine.specs.Events.{Apart, link_at, next_of, target_at, current_bas
 use Rattle.machine.proofs.Lists.{map_in, get_other, stands_at, get_append}
 use Rattle.machine.proofs.Invariant.{Ground, Piece, IsBase, Linked, LiveOf, BaseShape, MiniShape, ShapedAs, Shaped, Leads, Door, TextWord, Static, Inv}
 use Rattle.machine.proofs.Homes.{piece_of, one_block}
-use Rattle.machine.proofs.Turns.{text_low}
+use Rattle.machine.proofs.Texts.{text_low}
 use Rattle.machine.proofs.Points.{at_hit, at_miss, Current, current_piece, family_of}
 use Rattle.machine.proofs.Follow.{Kept, All, NoPiece, Nowhere, reworked}
 use Rattle.machine.proofs.Blocks.{shaped_other, shaped_next, link_in, static_kept, leads_kept, rework, door_of}

@@ -14,7 +14,7 @@ use Rattle.machine.specs.Events.{is_linked, current_base}
 use Rattle.machine.proofs.Lists.{map_in, find_gives, get_same, get_other, same_some}
 use Rattle.machine.proofs.Invariant.{Ground, Piece, IsBase, Linked, Leads, HasFamily, Door, TextWord, Static, Inv}
 use Rattle.machine.proofs.Homes.{piece_of, one_block}
-use Rattle.machine.proofs.Turns.{in_text, text_low}
+use Rattle.machine.proofs.Texts.{in_text, text_low}
 use Rattle.machine.proofs.Follow.{Kept, All, NoPiece, reworked}
 use Rattle.machine.proofs.Blocks.{shaped_other, static_kept, leads_kept, rework, door_of}
 
