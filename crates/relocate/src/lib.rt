@@ -2,6 +2,5 @@
 #![tactic(auto)]
 
 mod moving;
-mod numbers;
 
 pub use moving::{Unmovable, move_word, moved_len};

@@ -9,9 +9,8 @@ ghost use Rattle.tramp_spec.specs.Marks as marks;
 ghost use Rattle.tramp_spec.specs.MovedWords as table;
 ghost use Rattle.relocate.specs.Answers.{Answers};
 
-use crate::numbers::{is_signed_word, lower, upper};
 use rv_word::{BranchOp, ImmOp, Instr, decode, encode};
-use tramp_spec::{MarkedWord, Moved, jump_word, reaches};
+use tramp_spec::{MarkedWord, Moved, is_signed_word, jump_word, put_number, reaches};
 
 /// The word can't be moved: the target of its jump is out of reach or no multiple of 4, or the value of its auipc hasn't
 /// 32 bits with their sign.
@@ -51,14 +50,12 @@ pub fn moved_len(word: u32) -> u32
     }
 }
 
-/// The two words that put a number of 32 bits with their sign into a register.
-fn put_number(rd: u32, number: u64) -> [MarkedWord; 2]
+/// The two words of the tool that put a number into a register.
+fn number_words(rd: u32, number: u64) -> [MarkedWord; 2]
     ensures { result ≡ table.tools (jumps.put_number rd number) }
 {
-    let imm = lower(number);
-    let low = tool(Instr::Addiw { rd, rs1: rd, imm });
-    let imm = upper(number);
-    [tool(Instr::Lui { rd, imm }), low]
+    let [high, low] = put_number(rd, number);
+    [tool(high), tool(low)]
 }
 
 /// An auipc: its value is put into the register by two words.
@@ -71,22 +68,11 @@ fn move_auipc(rd: u32, imm: u64, from: u64, to: u64) -> Result<Moved, Unmovable>
     if !is_signed_word(value) {
         return Err(Unmovable);
     }
-    let own = MarkedWord::own(encode(&Instr::Addiw {
-        rd,
-        rs1: rd,
-        imm: lower(value),
-    }));
+    let [high, low] = put_number(rd, value);
+    let own = MarkedWord::own(encode(&low));
     let back = leave(to + 8, from + 4);
     Ok(Moved {
-        words: [
-            tool(Instr::Lui {
-                rd,
-                imm: upper(value),
-            }),
-            own,
-            back,
-            back,
-        ],
+        words: [tool(high), own, back, back],
         len: 3,
     })
 }
@@ -109,7 +95,7 @@ fn move_jal(rd: u32, offset: u64, from: u64, to: u64) -> Result<Moved, Unmovable
             len: 1,
         });
     }
-    let link = put_number(rd, from + 4);
+    let link = number_words(rd, from + 4);
     Ok(Moved {
         words: [link[0], link[1], jump, jump],
         len: 3,
@@ -133,7 +119,7 @@ fn move_jalr(word: u32, rd: u32, rs1: u32, offset: u64, from: u64) -> Moved
         rs1,
         imm: offset,
     });
-    let [high, low] = put_number(rd, from + 4);
+    let [high, low] = number_words(rd, from + 4);
     let jump = MarkedWord::own(encode(&Instr::Jalr {
         rd: 0,
         rs1: 31,

@@ -8,8 +8,10 @@ mod block;
 mod jump;
 mod laws;
 mod mark;
+mod numbers;
 
 pub use block::{Block, Moved};
 pub use jump::{jump_word, reaches};
 pub use laws::{bodies_go_on, code_rows, moved_rows, words_move};
 pub use mark::{Mark, MarkedWord};
+pub use numbers::{is_signed_word, lower, put_number, rounded, upper};
