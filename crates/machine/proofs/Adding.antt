@@ -23,30 +23,11 @@ use Rattle.machine.proofs.Homes.{has_len, row_in}
 use Rattle.machine.proofs.Texts.{text_low}
 use Rattle.machine.proofs.Follow.{Image, Kept, All, Nowhere}
 use Rattle.machine.proofs.Minis.{point_word}
-use Rattle.machine.proofs.Blocks.{mini_len}
+use Rattle.machine.proofs.Blocks.{mini_len, shaped_still}
 
 shaped_put : (t : Words) (code : Code) (at : ℕ) (ws : List MarkedWord) (row : Row) (body : List MarkedWord) (next : ℕ) → Apart row.at row.len at (length ws) → ShapedAs t code row body next → ShapedAs t (put_words at ws code) row body next
-shaped_put t code at ws row body next o (inl r) =
-    inl (record {
-      base = r.base;
-      word = r.word;
-      here = r.here;
-      moved = r.moved;
-      movable = r.movable;
-      len = r.len;
-      jump = r.jump;
-      hops = r.hops;
-      stands = stands_put at ws code row.at (base_with r.jump r.moved) (let l = r.len in ⊎_elim (λ x. inl (omega arith)) (λ x. inr x) o) r.stands;
-    })
-shaped_put t code at ws row body next o (inr r) =
-    inr (record {
-      mini = r.mini;
-      len = r.len;
-      harmless = r.harmless;
-      jump = r.jump;
-      hops = r.hops;
-      stands = stands_put at ws code row.at (body ++ tool r.jump ∷ []) (let l = r.len in let e = mini_len body (tool r.jump) in ⊎_elim (λ x. inl (omega arith)) (λ x. inr x) o) r.stands;
-    })
+shaped_put t code at ws row body next o =
+    shaped_still t code (put_words at ws code) row body next (λ vs e. stands_put at ws code row.at vs (⊎_elim (λ x. inl (omega arith)) (λ x. inr x) o))
 
 -- a new block, which isn't linked
 module _ (c : Core) (s : Plain) (v : Inv c s) (b : Block) (low : tool_at c.program ≤ b.at) (high : b.at + 4 * length b.words ≤ tool_at c.program + TOOL_TEXT_LEN) (aligned : b.at % 4 ≡ 0)

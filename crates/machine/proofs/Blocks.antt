@@ -31,9 +31,10 @@ pub mini_len : (body : List MarkedWord) (w : MarkedWord) → length (body ++ w �
 mini_len [] w = refl
 mini_len (v ∷ vs) w = let e = mini_len vs w in omega (arith, e)
 
--- a write outside of a block
-pub shaped_other : (t : Words) (code : Code) (row : Row) (body : List MarkedWord) (next a : ℕ) (w : MarkedWord) → (a < row.at) ⊎ (row.at + 4 * row.len ≤ a) → ShapedAs t code row body next → ShapedAs t (insert code a w) row body next
-shaped_other t code row body next a w o (inl r) =
+-- a block whose words stand as before
+pub shaped_still : (t : Words) (code new : Code) (row : Row) (body : List MarkedWord) (next : ℕ) → ((ws : List MarkedWord) → length ws ≡ row.len → Stands code row.at ws → Stands new row.at ws)
+    → ShapedAs t code row body next → ShapedAs t new row body next
+shaped_still t code new row body next still (inl r) =
     inl (record {
       base = r.base;
       word = r.word;
@@ -43,17 +44,22 @@ shaped_other t code row body next a w o (inl r) =
       len = r.len;
       jump = r.jump;
       hops = r.hops;
-      stands = stands_other code a w row.at (base_with r.jump r.moved) (let l = r.len in ⊎_elim (λ x. inl x) (λ x. inr (omega arith)) o) r.stands;
+      stands = still (base_with r.jump r.moved) (let l = r.len in omega arith) r.stands;
     })
-shaped_other t code row body next a w o (inr r) =
+shaped_still t code new row body next still (inr r) =
     inr (record {
       mini = r.mini;
       len = r.len;
       harmless = r.harmless;
       jump = r.jump;
       hops = r.hops;
-      stands = stands_other code a w row.at (body ++ tool r.jump ∷ []) (let l = r.len in let m = mini_len body (tool r.jump) in ⊎_elim (λ x. inl x) (λ x. inr (omega arith)) o) r.stands;
+      stands = still (body ++ tool r.jump ∷ []) (mini_len body (tool r.jump) ∙ sym r.len) r.stands;
     })
+
+-- a write outside of a block
+pub shaped_other : (t : Words) (code : Code) (row : Row) (body : List MarkedWord) (next a : ℕ) (w : MarkedWord) → (a < row.at) ⊎ (row.at + 4 * row.len ≤ a) → ShapedAs t code row body next → ShapedAs t (insert code a w) row body next
+shaped_other t code row body next a w o =
+    shaped_still t code (insert code a w) row body next (λ ws e. stands_other code a w row.at ws (⊎_elim (λ x. inl x) (λ x. inr (omega arith)) o))
 
 link_base : (row : Row) → row.base ≡ true → link_at row ≡ row.at + 4
 link_base row e = cond-true row.base _ _ e
