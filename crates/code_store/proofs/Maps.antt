@@ -1,5 +1,5 @@
 -- What the arrays of a store stand for, and what their writes do to it.
-use Rattle.std.proofs.Common.{◌≡◌, ℕ, zero, suc, ◌+◌, ◌-◌, ◌*◌, ◌/◌, ◌%◌, ◌<◌, ◌≤◌, List, [], ◌∷◌, ◌++◌, length, get_or, drop, drop-cons, add-one, Option, Some, None, refl, sym, ap, ◌∙◌, arith, replicate}
+use Rattle.std.proofs.Common.{◌≡◌, ℕ, zero, suc, ◌+◌, ◌-◌, ◌*◌, ◌/◌, ◌%◌, ◌<◌, ◌≤◌, List, [], ◌∷◌, ◌++◌, length, get_or, drop, drop-cons, add-one, Option, Some, None, refl, sym, ap, subst, ◌∙◌, arith, replicate}
 use Rattle.std.specs.Prelude.{Bool, true, false, cond, nat_eq, map, slice_get, slice_set, unwrap_or}
 use Rattle.std.specs.FinMap.{from_entries, insert, remove, empty, get, get-insert, get-remove, same_map, nat_cmp-IsAntisymmetric}
 use Rattle.std.specs.Ordering.{nat_cmp}
@@ -283,3 +283,13 @@ pub put_to-written : (u : WordUse) → put_to u ≡ Unwritten → ⊥
 put_to-written Unwritten e = cc
 put_to-written Free e = cc
 put_to-written (Block point) e = cc
+
+-- ---- the first
+
+-- a program's words, before anything is put
+abbrev pub stored_first : ℕ → List ℕ → StoredCode
+stored_first at words = record { program = record { at = at; words = words }; code = text_code (record { at = at; words = words }); owners = empty }
+
+-- an element that was read is read again, whatever is given where there is none
+pub read_same : {A : Type 0} (xs ys : List A) (i : ℕ) (d : A) → xs ≡ ys → i < length ys → get_or xs i d ≡ get_or ys i (get_or xs i d)
+read_same {A} xs ys i d e l = subst (λ (zs : List A). get_or zs i d ≡ get_or ys i (get_or zs i d)) (sym e) (get_or-same ys i d l)

@@ -1,0 +1,74 @@
+use Rattle.std.proofs.Common.{◌≡◌, ◌+◌, ◌*◌, ◌/◌, ◌<◌, ◌≤◌, ◌^◌, ◌∙◌, sym, ap, subst, length, replicate, map, arith, refl, List, ℕ}
+use Rattle.std.proofs.lemmas.List.{length-replicate, length-map}
+use Rattle.pn_types.specs.declared.limits.TheConstants.{SEGMENTS_TO, TOOL_TEXT_LEN}
+use Rattle.pn_types.specs.Images.{text_of}
+use Rattle.rv_word.specs.Names.{words_of}
+use Rattle.tramp_spec.specs.declared.mark.MarkedWord.{MarkedWord}
+use Rattle.tramp_spec.specs.Marks.{own, tool}
+use Rattle.code_store.specs.declared.word_use.WordUse.{WordUse}
+use Rattle.code_store.specs.declared.word_use.WordUse.TheVariants.{Unwritten}
+use Rattle.code_store.specs.Views.{AreBlank, code_of, owners_of}
+use Rattle.code_store.proofs.Beginnings.{words_end}
+use Rattle.code_store.proofs.Maps.{blank-first, code-first, owners-first, same_stored, stored_first}
+use Rattle.code_store.proofs.store.Store.with_room.Goals as goal
+
+pub overflow_add-end : goal.overflow_add-end
+overflow_add-end c =
+    let read = c.in_ok-words.ensures ∙ ap words_of c.text_bytes.ensures in
+    let end = subst (λ ws. c.args.image.now.text_at + 4 * length ws ≤ SEGMENTS_TO) (sym read) (words_end c.args.image.now c.requires.image) in
+    omega arith
+
+pub overflow_add-tool : goal.overflow_add-tool
+overflow_add-tool c =
+    let read = c.in_ok-words.ensures ∙ ap words_of c.text_bytes.ensures in
+    let end = subst (λ ws. c.args.image.now.text_at + 4 * length ws ≤ SEGMENTS_TO) (sym read) (words_end c.args.image.now c.requires.image) in
+    omega arith
+
+pub overflow_mul-tool : goal.overflow_mul-tool
+overflow_mul-tool c =
+    let read = c.in_ok-words.ensures ∙ ap words_of c.text_bytes.ensures in
+    let end = subst (λ ws. c.args.image.now.text_at + 4 * length ws ≤ SEGMENTS_TO) (sym read) (words_end c.args.image.now c.requires.image) in
+    omega arith
+
+pub invariant_of-text : goal.invariant_of-text
+invariant_of-text c =
+    let read = c.in_ok-words.ensures ∙ ap words_of c.text_bytes.ensures in
+    let end = subst (λ ws. c.args.image.now.text_at + 4 * length ws ≤ SEGMENTS_TO) (sym read) (words_end c.args.image.now c.requires.image) in
+    let slots = ap length c.in_ok-own_slots.ensures ∙ length-map c.deref.result.now own ∙ ap length c.deref.ensures.value in
+    record { ends = omega arith }
+
+pub invariant_of-tool : goal.invariant_of-tool
+invariant_of-tool c =
+    let read = c.in_ok-words.ensures ∙ ap words_of c.text_bytes.ensures in
+    let end = subst (λ ws. c.args.image.now.text_at + 4 * length ws ≤ SEGMENTS_TO) (sym read) (words_end c.args.image.now c.requires.image) in
+    let room = ap length c.in_ok-blank_slots.ensures ∙ length-replicate {A = MarkedWord} c.args.room (tool 0) in
+    let all = c.requires.room in
+    record { ends = omega arith }
+
+pub invariant_of-result : goal.invariant_of-result
+invariant_of-result c =
+    let blank = ap length c.in_ok-blank_slots.ensures ∙ length-replicate {A = MarkedWord} c.args.room (tool 0) in
+    let count : c.len.result ≡ length c.in_ok-words.words.items = omega arith in
+    let uses = ap length c.in_ok-uses.ensures ∙ length-replicate {A = WordUse} c.args.room Unwritten in
+    record {
+      slots = ap length c.in_ok-own_slots.ensures ∙ length-map c.deref.result.now own ∙ ap length c.deref.ensures.value;
+      behind = ap (λ n. (c.args.image.now.text_at + 4 * n + 4095) / 4096 * 4096) count;
+      room = ap (λ n. 4 * n) blank ∙ c.requires.room;
+      used = uses ∙ sym blank;
+      blank = subst (λ (ws : List MarkedWord). AreBlank ws c.in_ok-uses.uses.items) (sym c.in_ok-blank_slots.ensures) (subst (λ (us : List WordUse). AreBlank (replicate c.args.room (tool 0)) us) (sym c.in_ok-uses.ensures) (blank-first c.args.room));
+    }
+
+pub returns : goal.returns
+returns c =
+    let image = c.args.image.now in
+    let ws = c.in_ok-words.words.items in
+    let at = (image.text_at + 4 * c.len.result + 4095) / 4096 * 4096 in
+    let own_words = c.in_ok-own_slots.ensures ∙ ap (map own) c.deref.ensures.value in
+    let read = c.in_ok-words.ensures ∙ ap words_of c.text_bytes.ensures in
+    same_stored (record { at = image.text_at; words = ws }) _ _ _ _
+    (ap (λ (t : List MarkedWord). code_of image.text_at t at c.in_ok-blank_slots.field-0.items c.in_ok-uses.uses.items) own_words
+    ∙ ap (λ (t : List MarkedWord). code_of image.text_at (map own ws) at t c.in_ok-uses.uses.items) c.in_ok-blank_slots.ensures
+    ∙ ap (λ (u : List WordUse). code_of image.text_at (map own ws) at (replicate c.args.room (tool 0)) u) c.in_ok-uses.ensures
+    ∙ code-first ws image.text_at at c.args.room)
+    (ap (λ (u : List WordUse). owners_of at u) c.in_ok-uses.ensures ∙ owners-first c.args.room at)
+    ∙ ap (λ (words : List ℕ). stored_first image.text_at words) read
