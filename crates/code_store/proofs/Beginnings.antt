@@ -1,5 +1,5 @@
 -- The words of an image, one by one, and where they end.
-use Rattle.std.proofs.Common.{◌≡◌, ℕ, zero, suc, ◌+◌, ◌*◌, ◌/◌, ◌<◌, ◌≤◌, ◌^◌, List, [], ◌∷◌, ◌++◌, length, drop, refl, ap, sym, ◌∙◌, arith, append_assoc}
+use Rattle.std.proofs.Common.{◌≡◌, ℕ, zero, suc, ◌+◌, ◌*◌, ◌/◌, ◌≤◌, List, [], ◌∷◌, ◌++◌, length, drop, refl, ap, sym, ◌∙◌, arith, append_assoc}
 use Rattle.pn_types.specs.declared.image.Image.{Image}
 use Rattle.pn_types.specs.declared.limits.TheConstants.{SEGMENTS_TO}
 use Rattle.pn_types.specs.Images.{IsImage, text_of}

@@ -19,7 +19,7 @@ use Rattle.code_store.specs.Owners.{Owners, owners_with, owners_without}
 use Rattle.code_store.specs.Stores.{StoredCode}
 use Rattle.rv_word.specs.Plain.{Words, program_word}
 use Rattle.code_store.specs.Views.{point_of, freed, put_to, if_put, at_place, entries_from, put_among, AreBlank, code_of, owners_of}
-use Rattle.code_store.proofs.Entries.{read, read_apart, read_past, read_outside, read-set, or_else, get_both, get_one}
+use Rattle.code_store.proofs.Entries.{read, read_past, read-set, or_else, get_both, get_one}
 
 -- ---- maps that agree
 

@@ -1,5 +1,5 @@
 -- For proofs alone: the maps for which the arrays of a store stand.
-use Rattle.std.specs.Prelude.{◌≡◌, ℕ, ◌+◌, ◌-◌, ◌*◌, ◌/◌, if◌then◌else◌, Bool, true, false, Option, Some, None, List, [], ◌∷◌, ◌++◌, length, map, slice_get}
+use Rattle.std.specs.Prelude.{◌≡◌, ℕ, ◌+◌, ◌-◌, ◌*◌, ◌/◌, if◌then◌else◌, Option, Some, None, List, [], ◌∷◌, ◌++◌, length, map, slice_get}
 use Rattle.std.specs.FinMap.{from_entries}
 use Rattle.pn_types.specs.declared.limits.TheConstants.{TOOL_TEXT_LEN}
 use Rattle.tramp_spec.specs.Codes.{Code, is_word_of, tool_at}
@@ -60,7 +60,7 @@ AreBlank (w ∷ ws) (u ∷ us) = (u ≡ Unwritten → w ≡ tool 0) × AreBlank 
 
 -- The arrays fit each other: a slot for each word of the program, and a slot and a use for each word of the tool text, which
 -- begins where it must.
-pub record AreOneStore (words : List ℕ) (text_at : ℕ) (text : List MarkedWord) (tools_at : ℕ) (tools : List MarkedWord) (uses : List WordUse) : Type 0 where
+pub record FitTogether (words : List ℕ) (text_at : ℕ) (text : List MarkedWord) (tools_at : ℕ) (tools : List MarkedWord) (uses : List WordUse) : Type 0 where
   pub slots : length text ≡ length words
   pub behind : tools_at ≡ tool_at (record { at = text_at; words = words })
   pub room : 4 * length tools ≡ TOOL_TEXT_LEN

@@ -30,17 +30,18 @@ pub struct Store {
 }
 
 impl Model for Store {
-    ghost use Rattle.code_store.specs.Stores.{StoredCode, stored_coded};
+    ghost use Rattle.code_store.specs.Stores.{StoredCode};
+    ghost use Rattle.code_store.specs.Codes.{stored_coded};
 
     ghost Value = { StoredCode };
 
     ghost coded = { stored_coded };
 
-    ghost use Rattle.code_store.specs.Views.{code_of, owners_of, AreOneStore};
+    ghost use Rattle.code_store.specs.Views.{code_of, owners_of, FitTogether};
 
     ghost view = { λ s. record { program = record { at = s.text.at; words = s.words.items }; code = code_of s.text.at s.text.slots.items s.tool.at s.tool.slots.items s.uses.items; owners = owners_of s.tool.at s.uses.items } };
 
-    ghost invariant = { λ s. AreOneStore s.words.items s.text.at s.text.slots.items s.tool.at s.tool.slots.items s.uses.items };
+    ghost invariant = { λ s. FitTogether s.words.items s.text.at s.text.slots.items s.tool.at s.tool.slots.items s.uses.items };
 }
 
 impl Store {
@@ -93,11 +94,15 @@ impl Store {
     pub fn slot(&self, pc: u64, inside: bool) -> Option<&Slot>
         ensures { option_copied result ≡ fetched_at self.now.program self.now.code pc inside }
     {
-        if inside {
-            self.tool.get(pc)
-        } else {
-            self.text.get(pc)
-        }
+        let span = if inside { &self.tool } else { &self.text };
+        span.get(pc)
+    }
+
+    /// The first address of the tool text.
+    pub fn tool_at(&self) -> u64
+        ensures { result ≡ tool_at self.now.program }
+    {
+        self.tool.at
     }
 
     /// The program's word at an address, whatever stands there now.

@@ -1,4 +1,4 @@
-use Rattle.std.proofs.Common.{◌≡◌, ◌+◌, ◌-◌, ◌*◌, ◌∙◌, ap, length}
+use Rattle.std.proofs.Common.{◌+◌, ◌-◌, ◌*◌, ◌∙◌, ap, length}
 use Rattle.std.specs.FinMap.{remove}
 use Rattle.rv_word.specs.Plain.{Words}
 use Rattle.tramp_spec.specs.Codes.{tool_at}
@@ -17,7 +17,7 @@ loop-i-preserved c =
       program = ap (λ (z : StoredCode). z.program) c.free_word.ensures ∙ inv.program;
       code = ap (λ (z : StoredCode). z.code) c.free_word.ensures ∙ inv.code;
       owners = ap (λ (z : StoredCode). owners_without (c.args.at + 4 * (i + 1)) (c.args.len - (i + 1)) z.owners) c.free_word.ensures
-        ∙ ap (λ a. owners_without (c.args.at + 4 * (i + 1)) (c.args.len - (i + 1)) (remove c.loop-i.self.owners a)) placed
-        ∙ without_step c.args.len c.args.at i c.loop-i.self.owners c.loop-i-test.true
-        ∙ inv.owners;
+          ∙ ap (λ a. owners_without (c.args.at + 4 * (i + 1)) (c.args.len - (i + 1)) (remove c.loop-i.self.owners a)) placed
+          ∙ without_step c.args.len c.args.at i c.loop-i.self.owners c.loop-i-test.true
+          ∙ inv.owners;
     }

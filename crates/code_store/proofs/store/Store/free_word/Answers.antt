@@ -1,4 +1,4 @@
-use Rattle.std.proofs.Common.{◌≡◌, ◌+◌, ◌*◌, ◌<◌, ◌∙◌, sym, ap, subst, length, get_or, arith, refl}
+use Rattle.std.proofs.Common.{◌≡◌, ◌+◌, ◌*◌, ◌<◌, ◌∙◌, sym, ap, subst, length, arith}
 use Rattle.std.specs.Prelude.{slice_set}
 use Rattle.std.specs.FinMap.{remove}
 use Rattle.std.proofs.lemmas.List.{length-set}

@@ -1,4 +1,4 @@
-use Rattle.std.proofs.Common.{◌≡◌, ◌+◌, ◌*◌, ◌<◌, ◌≤◌, ◌^◌, ◌∙◌, sym, ap, None, length, map, arith}
+use Rattle.std.proofs.Common.{◌<◌, ◌∙◌, sym, ap, length, map, arith}
 use Rattle.std.specs.FinMap.{get}
 use Rattle.std.proofs.lemmas.List.{length-map}
 use Rattle.code_store.specs.Stores.{StoredCode}

@@ -1,4 +1,4 @@
-use Rattle.std.proofs.Common.{◌≡◌, ◌+◌, ◌*◌, ◌≤◌, ◌^◌, ◌∙◌, sym, ap, length, arith}
+use Rattle.std.proofs.Common.{◌∙◌, sym, ap, length, arith}
 use Rattle.rv_word.specs.Plain.{program_word}
 use Rattle.code_store.specs.Stores.{StoredCode}
 use Rattle.code_store.proofs.Maps.{no_program_word}

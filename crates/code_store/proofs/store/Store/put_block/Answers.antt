@@ -1,4 +1,4 @@
-use Rattle.std.proofs.Common.{◌≡◌, ◌+◌, ◌-◌, ◌*◌, ◌/◌, ◌<◌, ◌∙◌, sym, ap, subst, length, drop, get_or, refl}
+use Rattle.std.proofs.Common.{◌+◌, ◌-◌, ◌*◌, ◌<◌, ◌∙◌, ap, subst, length, drop, get_or}
 use Rattle.std.specs.FinMap.{insert}
 use Rattle.rv_word.specs.Plain.{Words}
 use Rattle.tramp_spec.specs.Codes.{put_words, tool_at}
@@ -20,11 +20,11 @@ loop-i-preserved c =
     record {
       program = ap (λ (z : StoredCode). z.program) c.put_word.ensures ∙ inv.program;
       code = ap (λ (z : StoredCode). put_words (b.at + 4 * (i + 1)) (drop (i + 1) b.words) z.code) c.put_word.ensures
-        ∙ ap (λ a. put_words (b.at + 4 * (i + 1)) (drop (i + 1) b.words) (insert c.loop-i.self.code a word)) placed
-        ∙ words_step b.words b.at i word c.loop-i.self.code below (read_same c.as_slice-word-items.result.now b.words i (own 0) c.as_slice-word-items.ensures below)
-        ∙ inv.code;
+          ∙ ap (λ a. put_words (b.at + 4 * (i + 1)) (drop (i + 1) b.words) (insert c.loop-i.self.code a word)) placed
+          ∙ words_step b.words b.at i word c.loop-i.self.code below (read_same c.as_slice-word-items.result.now b.words i (own 0) c.as_slice-word-items.ensures below)
+          ∙ inv.code;
       owners = ap (λ (z : StoredCode). owners_with (b.at + 4 * (i + 1)) (length b.words - (i + 1)) b.point z.owners) c.put_word.ensures
-        ∙ ap (λ a. owners_with (b.at + 4 * (i + 1)) (length b.words - (i + 1)) b.point (insert c.loop-i.self.owners a b.point)) placed
-        ∙ owners_step (length b.words) b.at i b.point c.loop-i.self.owners below
-        ∙ inv.owners;
+          ∙ ap (λ a. owners_with (b.at + 4 * (i + 1)) (length b.words - (i + 1)) b.point (insert c.loop-i.self.owners a b.point)) placed
+          ∙ owners_step (length b.words) b.at i b.point c.loop-i.self.owners below
+          ∙ inv.owners;
     }

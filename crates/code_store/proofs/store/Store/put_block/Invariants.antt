@@ -1,5 +1,5 @@
 use Rattle.std.proofs.Common.{◌≡◌, ◌+◌, ◌-◌, ◌*◌, length, drop}
-use Rattle.tramp_spec.specs.Codes.{put_words, tool_at}
+use Rattle.tramp_spec.specs.Codes.{put_words}
 use Rattle.code_store.specs.Owners.{owners_with}
 use Rattle.code_store.proofs.store.Store.put_block.Given as goal
 

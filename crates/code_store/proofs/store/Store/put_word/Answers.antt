@@ -1,11 +1,11 @@
-use Rattle.std.proofs.Common.{◌≡◌, ◌+◌, ◌*◌, ◌<◌, ◌≤◌, ◌∙◌, sym, ap, subst, length, arith, refl}
+use Rattle.std.proofs.Common.{◌+◌, ◌*◌, ◌<◌, ◌≤◌, ◌∙◌, sym, ap, subst, length, arith, refl}
 use Rattle.std.specs.Prelude.{slice_set}
 use Rattle.std.specs.FinMap.{insert}
 use Rattle.std.proofs.lemmas.List.{length-set}
 use Rattle.tramp_spec.specs.Codes.{tool_at}
 use Rattle.code_store.specs.declared.word_use.WordUse.TheVariants.{Block}
 use Rattle.code_store.specs.Stores.{StoredCode}
-use Rattle.code_store.specs.Views.{AreBlank, code_of, owners_of}
+use Rattle.code_store.specs.Views.{code_of}
 use Rattle.code_store.proofs.Maps.{blank-put, code-tool, owners-owned, same_stored, behind_text}
 use Rattle.code_store.proofs.store.Store.put_word.Goals as goal
 

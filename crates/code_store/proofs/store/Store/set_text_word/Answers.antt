@@ -1,4 +1,4 @@
-use Rattle.std.proofs.Common.{◌≡◌, ◌+◌, ◌*◌, ◌<◌, ◌∙◌, sym, ap, subst, length, refl}
+use Rattle.std.proofs.Common.{◌+◌, ◌*◌, ◌<◌, ◌∙◌, sym, ap, subst, length, refl}
 use Rattle.std.specs.Prelude.{slice_set}
 use Rattle.std.specs.FinMap.{insert}
 use Rattle.code_store.specs.Stores.{StoredCode}

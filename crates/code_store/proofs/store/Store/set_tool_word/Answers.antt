@@ -1,11 +1,10 @@
-use Rattle.std.proofs.Common.{◌≡◌, ◌+◌, ◌*◌, ◌<◌, ◌≤◌, ◌∙◌, sym, ap, subst, length, arith, refl}
+use Rattle.std.proofs.Common.{◌+◌, ◌*◌, ◌<◌, ◌≤◌, ◌∙◌, sym, ap, subst, length, arith}
 use Rattle.std.specs.Prelude.{slice_set}
 use Rattle.std.specs.FinMap.{insert}
 use Rattle.std.proofs.lemmas.List.{length-set}
 use Rattle.tramp_spec.specs.Codes.{tool_at}
-use Rattle.code_store.specs.declared.word_use.WordUse.TheVariants.{Unwritten}
 use Rattle.code_store.specs.Stores.{StoredCode}
-use Rattle.code_store.specs.Views.{AreBlank, code_of, owners_of, put_to}
+use Rattle.code_store.specs.Views.{code_of, owners_of, put_to}
 use Rattle.code_store.proofs.Maps.{blank-put, code-tool, owners-same, same_stored, behind_text, if_put-put_to, point_of-put_to, put_to-written}
 use Rattle.code_store.proofs.store.Store.set_tool_word.Goals as goal
 

@@ -1,7 +1,6 @@
-use Rattle.std.proofs.Common.{◌≡◌, ◌+◌, ◌*◌, ◌/◌, ◌<◌, ◌≤◌, ◌^◌, ◌∙◌, sym, ap, subst, length, replicate, map, arith, refl, List, ℕ}
+use Rattle.std.proofs.Common.{◌≡◌, ◌+◌, ◌*◌, ◌/◌, ◌≤◌, ◌∙◌, sym, ap, subst, length, replicate, map, arith, List, ℕ}
 use Rattle.std.proofs.lemmas.List.{length-replicate, length-map}
-use Rattle.pn_types.specs.declared.limits.TheConstants.{SEGMENTS_TO, TOOL_TEXT_LEN}
-use Rattle.pn_types.specs.Images.{text_of}
+use Rattle.pn_types.specs.declared.limits.TheConstants.{SEGMENTS_TO}
 use Rattle.rv_word.specs.Names.{words_of}
 use Rattle.tramp_spec.specs.declared.mark.MarkedWord.{MarkedWord}
 use Rattle.tramp_spec.specs.Marks.{own, tool}
