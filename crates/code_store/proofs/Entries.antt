@@ -1,5 +1,5 @@
 -- What the entries of an array say at an address.
-use Rattle.std.proofs.Common.{◌≡◌, ℕ, zero, suc, ◌+◌, ◌*◌, ◌<◌, ◌≤◌, List, [], ◌∷◌, ◌++◌, length, Option, Some, None, refl, sym, ap, ◌∙◌, arith}
+use Rattle.std.proofs.Common.{◌≡◌, ℕ, zero, suc, ◌+◌, ◌*◌, ◌<◌, ◌≤◌, List, [], ◌∷◌, ◌++◌, length, Option, Some, None, refl, sym, ap, subst, ◌∙◌, arith, get_or}
 use Rattle.std.specs.Prelude.{Bool, true, false, cond, nat_eq, slice_get, slice_set}
 use Rattle.std.specs.FinMap.{from_entries, get, get-from_entries, find}
 use Rattle.std.specs.Ordering.{nat_cmp, eq_by_cmp}
@@ -29,13 +29,6 @@ read_past xs at q l = read_apart xs at q (λ i k e. omega arith)
 
 pub read_outside : {A : Type 0} (xs : List (Option A)) (at q : ℕ) → is_word_of at (4 * length xs) q ≡ false → read at xs q ≡ None
 read_outside xs at q o = read_apart xs at q (λ i l e. grind arith)
-
--- the element of a number
-pub read_at : {A : Type 0} (xs : List (Option A)) (at i q : ℕ) → i < length xs → q ≡ at + 4 * i → slice_get xs i ≡ Some (read at xs q)
-read_at [] at i q l e = absurd (omega arith)
-read_at (x ∷ xs) at zero q l e = ap (λ o. Some o) (sym (cond-true (nat_eq q at) _ _ (eq-eqb q at (omega arith))))
-read_at (x ∷ xs) at (suc i) q l e =
-    read_at xs (at + 4) i q (omega arith) (omega arith) ∙ ap (λ o. Some o) (sym (cond-false (nat_eq q at) _ _ (ne_eqb q at (λ z. omega arith))))
 
 -- a read finds what the list of entries has
 find_none : {A : Type 0} (xs : List (Option A)) (at q : ℕ) (b : Bool) → nat_eq q at ≡ b → read (at + 4) xs q ≡ cond b None (read (at + 4) xs q)
@@ -91,3 +84,12 @@ get_both xs ys at other q =
 -- a map of one array
 pub get_one : {A : Type 0} (xs : List (Option A)) (at q : ℕ) → get (from_entries {R = nat_cmp} (entries_from at xs)) q ≡ read at xs q
 get_one xs at q = get-from_entries nat_cmp_total (entries_from at xs) q ∙ find_entries xs at q
+
+-- an element that was read is read again, whatever is given where there is none
+pub get_or-same : {A : Type 0} (xs : List A) (i : ℕ) (d : A) → i < length xs → get_or xs i d ≡ get_or xs i (get_or xs i d)
+get_or-same [] i d l = absurd (omega arith)
+get_or-same (x ∷ xs) zero d l = refl
+get_or-same (x ∷ xs) (suc i) d l = get_or-same xs i d (omega arith)
+
+pub read_same : {A : Type 0} (xs ys : List A) (i : ℕ) (d : A) → xs ≡ ys → i < length ys → get_or xs i d ≡ get_or ys i (get_or xs i d)
+read_same {A} xs ys i d e l = subst (λ (zs : List A). get_or zs i d ≡ get_or ys i (get_or zs i d)) (sym e) (get_or-same ys i d l)

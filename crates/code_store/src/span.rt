@@ -1,10 +1,9 @@
-ghost use Rattle.std.specs.Prelude.{◌≡◌, ℕ, ◌<◌, ◌≤◌, ◌+◌, ◌*◌, ◌^◌, ◌==◌, if◌then◌else◌, Some, None, false, length, slice_set};
+ghost use Rattle.std.specs.Prelude.{◌≡◌, ℕ, ◌<◌, ◌≤◌, ◌+◌, ◌*◌, ◌^◌, false, length};
 ghost use Rattle.std.specs.Option.{option_copied};
 ghost use Rattle.tramp_spec.specs.Codes.{is_word_of};
 ghost use Rattle.code_store.specs.Views.{at_place};
 
 use crate::slot::Slot;
-use tramp_spec::MarkedWord;
 
 /// The number of the word at an address in a run of words that begins at `first`, if the run has one there, and else a
 /// number that is too great. The distance is turned by two bits, so that one that is no multiple of 4, or is below 0, is

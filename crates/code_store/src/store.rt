@@ -78,8 +78,8 @@ impl Store {
         })
     }
 
-    /// The word that a hart fetches at the pc: inside a trampoline one of the tool text, outside one of the text, and none
-    /// where that text has no word there.
+    /// The word that a hart fetches at the pc: inside a trampoline one of the tool text, which is 0 where nothing was put;
+    /// outside one of the text; and none where that text has no word there.
     pub fn fetch(&self, pc: u64, inside: bool) -> Option<MarkedWord>
         ensures { result ≡ fetched_at self.now.program self.now.code pc inside }
     {
@@ -89,7 +89,7 @@ impl Store {
         }
     }
 
-    /// The slot of the word that a hart fetches.
+    /// The slot of the word that a hart fetches, by one index.
     #[inline(always)]
     pub fn slot(&self, pc: u64, inside: bool) -> Option<&Slot>
         ensures { option_copied result ≡ fetched_at self.now.program self.now.code pc inside }
@@ -117,7 +117,7 @@ impl Store {
         }
     }
 
-    /// The point of the block to which the word at an address belongs.
+    /// The point of the block to which the word at an address belongs; none where no such word is.
     pub fn owner(&self, at: u64) -> Option<u64>
         ensures { result ≡ get self.now.owners at }
     {

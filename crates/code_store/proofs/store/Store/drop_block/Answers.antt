@@ -4,7 +4,7 @@ use Rattle.rv_word.specs.Plain.{Words}
 use Rattle.tramp_spec.specs.Codes.{tool_at}
 use Rattle.code_store.specs.Owners.{owners_without}
 use Rattle.code_store.specs.Stores.{StoredCode}
-use Rattle.code_store.proofs.Maps.{block_place, without_step}
+use Rattle.code_store.proofs.Blocks.{block_place, without_step}
 use Rattle.code_store.proofs.store.Store.drop_block.Goals as goal
 
 pub loop-i-preserved : goal.loop-i-preserved

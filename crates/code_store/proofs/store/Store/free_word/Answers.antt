@@ -5,7 +5,8 @@ use Rattle.std.proofs.lemmas.List.{length-set}
 use Rattle.tramp_spec.specs.Codes.{tool_at}
 use Rattle.code_store.specs.Stores.{StoredCode}
 use Rattle.code_store.specs.Views.{freed, AreBlank, code_of, owners_of}
-use Rattle.code_store.proofs.Maps.{blank-freed, code-freed, owners-freed, point_of-freed, same_stored}
+use Rattle.code_store.proofs.Maps.{code-freed, owners-freed, same_stored}
+use Rattle.code_store.proofs.Uses.{blank-freed, point_of-freed}
 use Rattle.code_store.proofs.store.Store.free_word.Goals as goal
 
 pub invariant_of-self : goal.invariant_of-self

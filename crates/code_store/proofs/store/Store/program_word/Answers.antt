@@ -1,7 +1,7 @@
 use Rattle.std.proofs.Common.{◌∙◌, sym, ap, length, arith}
 use Rattle.rv_word.specs.Plain.{program_word}
 use Rattle.code_store.specs.Stores.{StoredCode}
-use Rattle.code_store.proofs.Maps.{no_program_word}
+use Rattle.code_store.proofs.Fetches.{no_program_word}
 use Rattle.code_store.proofs.store.Store.program_word.Goals as goal
 
 pub returns-else-i-len : goal.returns-else-i-len

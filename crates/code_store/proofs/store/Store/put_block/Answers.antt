@@ -5,7 +5,8 @@ use Rattle.tramp_spec.specs.Codes.{put_words, tool_at}
 use Rattle.tramp_spec.specs.Marks.{own}
 use Rattle.code_store.specs.Owners.{owners_with}
 use Rattle.code_store.specs.Stores.{StoredCode}
-use Rattle.code_store.proofs.Maps.{block_place, words_step, owners_step, read_same}
+use Rattle.code_store.proofs.Blocks.{block_place, words_step, owners_step}
+use Rattle.code_store.proofs.Entries.{read_same}
 use Rattle.code_store.proofs.store.Store.put_block.Goals as goal
 
 pub loop-i-preserved : goal.loop-i-preserved

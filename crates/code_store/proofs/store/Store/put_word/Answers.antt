@@ -6,7 +6,8 @@ use Rattle.tramp_spec.specs.Codes.{tool_at}
 use Rattle.code_store.specs.declared.word_use.WordUse.TheVariants.{Block}
 use Rattle.code_store.specs.Stores.{StoredCode}
 use Rattle.code_store.specs.Views.{code_of}
-use Rattle.code_store.proofs.Maps.{blank-put, code-tool, owners-owned, same_stored, behind_text}
+use Rattle.code_store.proofs.Maps.{code-tool, owners-owned, same_stored, behind_text}
+use Rattle.code_store.proofs.Uses.{blank-put}
 use Rattle.code_store.proofs.store.Store.put_word.Goals as goal
 
 pub invariant_of-self : goal.invariant_of-self

@@ -5,7 +5,8 @@ use Rattle.std.proofs.lemmas.List.{length-set}
 use Rattle.tramp_spec.specs.Codes.{tool_at}
 use Rattle.code_store.specs.Stores.{StoredCode}
 use Rattle.code_store.specs.Views.{code_of, owners_of, put_to}
-use Rattle.code_store.proofs.Maps.{blank-put, code-tool, owners-same, same_stored, behind_text, if_put-put_to, point_of-put_to, put_to-written}
+use Rattle.code_store.proofs.Maps.{code-tool, owners-same, same_stored, behind_text}
+use Rattle.code_store.proofs.Uses.{blank-put, if_put-put_to, point_of-put_to, put_to-written}
 use Rattle.code_store.proofs.store.Store.set_tool_word.Goals as goal
 
 pub invariant_of-self : goal.invariant_of-self

@@ -7,7 +7,8 @@ use Rattle.tramp_spec.specs.Marks.{tool}
 use Rattle.code_store.specs.declared.span.Span.{Span}
 use Rattle.code_store.specs.Stores.{StoredCode}
 use Rattle.code_store.specs.Views.{code_of, at_place}
-use Rattle.code_store.proofs.Maps.{text_fetch, tool_fetch, behind_text}
+use Rattle.code_store.proofs.Fetches.{text_fetch, tool_fetch}
+use Rattle.code_store.proofs.Maps.{behind_text}
 use Rattle.code_store.proofs.store.Store.slot.Goals as goal
 use Rattle.code_store.proofs.store.Store.slot.Goals.{then-inside, else-inside}
 

@@ -7,39 +7,34 @@ use Rattle.tramp_spec.specs.Marks.{own, tool}
 use Rattle.code_store.specs.declared.word_use.WordUse.{WordUse}
 use Rattle.code_store.specs.declared.word_use.WordUse.TheVariants.{Unwritten}
 use Rattle.code_store.specs.Views.{AreBlank, code_of, owners_of}
-use Rattle.code_store.proofs.Beginnings.{words_end}
-use Rattle.code_store.proofs.Maps.{blank-first, code-first, owners-first, same_stored, stored_first}
+use Rattle.code_store.proofs.Beginnings.{words_end, blank-first, code-first, owners-first, stored_first}
+use Rattle.code_store.proofs.Maps.{same_stored}
 use Rattle.code_store.proofs.store.Store.with_room.Goals as goal
 
 pub overflow_add-end : goal.overflow_add-end
 overflow_add-end c =
-    let read = c.in_ok-words.ensures ∙ ap words_of c.text_bytes.ensures in
-    let end = subst (λ ws. c.args.image.now.text_at + 4 * length ws ≤ SEGMENTS_TO) (sym read) (words_end c.args.image.now c.requires.image) in
+    let end = words_end c.args.image.now c.in_ok-words.words.items c.requires.image (c.in_ok-words.ensures ∙ ap words_of c.text_bytes.ensures) in
     omega arith
 
 pub overflow_add-tool : goal.overflow_add-tool
 overflow_add-tool c =
-    let read = c.in_ok-words.ensures ∙ ap words_of c.text_bytes.ensures in
-    let end = subst (λ ws. c.args.image.now.text_at + 4 * length ws ≤ SEGMENTS_TO) (sym read) (words_end c.args.image.now c.requires.image) in
+    let end = words_end c.args.image.now c.in_ok-words.words.items c.requires.image (c.in_ok-words.ensures ∙ ap words_of c.text_bytes.ensures) in
     omega arith
 
 pub overflow_mul-tool : goal.overflow_mul-tool
 overflow_mul-tool c =
-    let read = c.in_ok-words.ensures ∙ ap words_of c.text_bytes.ensures in
-    let end = subst (λ ws. c.args.image.now.text_at + 4 * length ws ≤ SEGMENTS_TO) (sym read) (words_end c.args.image.now c.requires.image) in
+    let end = words_end c.args.image.now c.in_ok-words.words.items c.requires.image (c.in_ok-words.ensures ∙ ap words_of c.text_bytes.ensures) in
     omega arith
 
 pub invariant_of-text : goal.invariant_of-text
 invariant_of-text c =
-    let read = c.in_ok-words.ensures ∙ ap words_of c.text_bytes.ensures in
-    let end = subst (λ ws. c.args.image.now.text_at + 4 * length ws ≤ SEGMENTS_TO) (sym read) (words_end c.args.image.now c.requires.image) in
+    let end = words_end c.args.image.now c.in_ok-words.words.items c.requires.image (c.in_ok-words.ensures ∙ ap words_of c.text_bytes.ensures) in
     let slots = ap length c.in_ok-own_slots.ensures ∙ length-map c.deref.result.now own ∙ ap length c.deref.ensures.value in
     record { ends = omega arith }
 
 pub invariant_of-tool : goal.invariant_of-tool
 invariant_of-tool c =
-    let read = c.in_ok-words.ensures ∙ ap words_of c.text_bytes.ensures in
-    let end = subst (λ ws. c.args.image.now.text_at + 4 * length ws ≤ SEGMENTS_TO) (sym read) (words_end c.args.image.now c.requires.image) in
+    let end = words_end c.args.image.now c.in_ok-words.words.items c.requires.image (c.in_ok-words.ensures ∙ ap words_of c.text_bytes.ensures) in
     let room = ap length c.in_ok-blank_slots.ensures ∙ length-replicate {A = MarkedWord} c.args.room (tool 0) in
     let all = c.requires.room in
     record { ends = omega arith }
