@@ -1,30 +1,19 @@
 -- What a store begins with.
-use Rattle.std.proofs.Common.{◌≡◌, ℕ, zero, suc, ◌+◌, ◌*◌, ◌/◌, ◌≤◌, List, [], ◌∷◌, ◌++◌, length, drop, refl, ap, sym, ◌∙◌, arith, append_assoc, ◌-◌, ◌%◌, ◌<◌, get_or, drop-cons, add-one, Option, Some, None, subst, replicate}
+use Rattle.std.proofs.Common.{◌≡◌, ℕ, zero, suc, ◌+◌, ◌*◌, ◌/◌, ◌≤◌, List, [], ◌∷◌, ◌++◌, length, drop, refl, ap, sym, ◌∙◌, arith, append_assoc, Some, replicate}
 use Rattle.pn_types.specs.declared.image.Image.{Image}
 use Rattle.pn_types.specs.declared.limits.TheConstants.{SEGMENTS_TO}
 use Rattle.pn_types.specs.Images.{IsImage, text_of}
 use Rattle.pn_types.proofs.ImageLemmas.{text_range}
 use Rattle.rv_word.specs.Names.{word_at, words_in, words_of}
-use Rattle.std.specs.Prelude.{Bool, true, false, cond, nat_eq, map, slice_get, slice_set, unwrap_or}
-use Rattle.std.specs.FinMap.{from_entries, insert, remove, empty, get, get-insert, get-remove, same_map, nat_cmp-IsAntisymmetric}
-use Rattle.std.specs.Ordering.{nat_cmp}
-use Rattle.std.proofs.lemmas.Bool.{cond-true, cond-false, eq-eqb, eqb-true, ne_eqb}
-use Rattle.std.proofs.lemmas.Cmp.{nat_cmp_total}
-use Rattle.std.proofs.lemmas.List.{map-set, length-map, append-nil}
-use Rattle.std.proofs.lemmas.Grind.{common_steps}
-use Rattle.std.proofs.lemmas.Option.{slice_get-get_or, slice_get_past}
-use Rattle.std.proofs.Math.Seq.{map-set_same}
-use Rattle.std.specs.Cmp.{unsigned_tied}
-use Rattle.tramp_spec.specs.Codes.{Code, is_word_of, text_entries, text_code, put_words}
+use Rattle.std.specs.Prelude.{map}
+use Rattle.std.specs.FinMap.{from_entries, empty}
+use Rattle.std.proofs.lemmas.List.{append-nil}
+use Rattle.tramp_spec.specs.Codes.{text_entries, text_code}
 use Rattle.tramp_spec.specs.Marks.{own, tool}
-use Rattle.tramp_spec.specs.declared.mark.MarkedWord.{MarkedWord}
-use Rattle.code_store.specs.declared.word_use.WordUse.{WordUse}
-use Rattle.code_store.specs.declared.word_use.WordUse.TheVariants.{Unwritten, Free, Block}
-use Rattle.code_store.specs.Owners.{Owners, owners_with, owners_without}
+use Rattle.code_store.specs.declared.word_use.WordUse.TheVariants.{Unwritten}
 use Rattle.code_store.specs.Stores.{StoredCode}
-use Rattle.rv_word.specs.Plain.{Words, program_word}
-use Rattle.code_store.specs.Views.{point_of, freed, put_to, if_put, at_place, entries_from, put_among, AreBlank, code_of, owners_of}
-use Rattle.code_store.proofs.Entries.{read, read_past, read-set, or_else, get_both, get_one}
+use Rattle.code_store.specs.Views.{point_of, entries_from, put_among, AreBlank, code_of, owners_of}
+use Rattle.code_store.proofs.Entries.{read}
 
 -- ---- the words of an image
 

@@ -1,9 +1,9 @@
 -- What the entries of an array say at an address.
 use Rattle.std.proofs.Common.{◌≡◌, ℕ, zero, suc, ◌+◌, ◌*◌, ◌<◌, ◌≤◌, List, [], ◌∷◌, ◌++◌, length, Option, Some, None, refl, sym, ap, subst, ◌∙◌, arith, get_or}
-use Rattle.std.specs.Prelude.{Bool, true, false, cond, nat_eq, slice_get, slice_set}
+use Rattle.std.specs.Prelude.{Bool, true, false, cond, nat_eq, slice_set}
 use Rattle.std.specs.FinMap.{from_entries, get, get-from_entries, find}
 use Rattle.std.specs.Ordering.{nat_cmp, eq_by_cmp}
-use Rattle.std.proofs.lemmas.Bool.{cond-true, cond-false, eq-eqb, eqb-true, ne_eqb}
+use Rattle.std.proofs.lemmas.Bool.{cond-false, eqb-true, ne_eqb}
 use Rattle.std.proofs.lemmas.Cmp.{nat_cmp_total}
 use Rattle.std.specs.Cmp.{unsigned_tied}
 use Rattle.tramp_spec.specs.Codes.{is_word_of}

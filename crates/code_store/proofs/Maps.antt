@@ -1,26 +1,22 @@
 -- The maps for which the arrays of a store stand, and what their writes do to them.
-use Rattle.std.proofs.Common.{◌≡◌, ℕ, zero, suc, ◌+◌, ◌-◌, ◌*◌, ◌/◌, ◌%◌, ◌<◌, ◌≤◌, List, [], ◌∷◌, ◌++◌, length, get_or, drop, drop-cons, add-one, Option, Some, None, refl, sym, ap, subst, ◌∙◌, arith, replicate}
-use Rattle.std.specs.Prelude.{Bool, true, false, cond, nat_eq, map, slice_get, slice_set, unwrap_or}
-use Rattle.std.specs.FinMap.{from_entries, insert, remove, empty, get, get-insert, get-remove, same_map, nat_cmp-IsAntisymmetric}
+use Rattle.std.proofs.Common.{◌≡◌, ℕ, zero, suc, ◌+◌, ◌*◌, ◌/◌, ◌<◌, ◌≤◌, List, [], ◌∷◌, ◌++◌, length, get_or, Option, Some, None, refl, sym, ap, ◌∙◌, arith}
+use Rattle.std.specs.Prelude.{Bool, true, false, cond, nat_eq, map, slice_set}
+use Rattle.std.specs.FinMap.{from_entries, insert, remove, get, get-insert, get-remove, same_map, nat_cmp-IsAntisymmetric}
 use Rattle.std.specs.Ordering.{nat_cmp}
 use Rattle.std.proofs.lemmas.Bool.{cond-true, cond-false, eq-eqb, eqb-true, ne_eqb}
 use Rattle.std.proofs.lemmas.Cmp.{nat_cmp_total}
-use Rattle.std.proofs.lemmas.List.{map-set, length-map, append-nil}
-use Rattle.std.proofs.lemmas.Grind.{common_steps}
-use Rattle.std.proofs.lemmas.Option.{slice_get-get_or, slice_get_past}
+use Rattle.std.proofs.lemmas.List.{map-set, length-map}
 use Rattle.std.proofs.Math.Seq.{map-set_same}
 use Rattle.std.specs.Cmp.{unsigned_tied}
-use Rattle.tramp_spec.specs.Codes.{Code, is_word_of, text_entries, text_code, put_words}
-use Rattle.tramp_spec.specs.Marks.{own, tool}
+use Rattle.tramp_spec.specs.Codes.{Code}
 use Rattle.tramp_spec.specs.declared.mark.MarkedWord.{MarkedWord}
 use Rattle.code_store.specs.declared.word_use.WordUse.{WordUse}
-use Rattle.code_store.specs.declared.word_use.WordUse.TheVariants.{Unwritten, Free, Block}
-use Rattle.code_store.specs.Owners.{Owners, owners_with, owners_without}
+use Rattle.code_store.specs.declared.word_use.WordUse.TheVariants.{Block}
+use Rattle.code_store.specs.Owners.{Owners}
 use Rattle.code_store.specs.Stores.{StoredCode}
-use Rattle.rv_word.specs.Plain.{Words, program_word}
-use Rattle.code_store.specs.Views.{point_of, freed, put_to, if_put, at_place, entries_from, put_among, AreBlank, code_of, owners_of}
+use Rattle.rv_word.specs.Plain.{Words}
+use Rattle.code_store.specs.Views.{point_of, freed, if_put, entries_from, put_among, code_of, owners_of}
 use Rattle.code_store.proofs.Entries.{read, read_past, read-set, or_else, get_both, get_one}
-use Rattle.code_store.proofs.Entries.{get_or-same}
 use Rattle.code_store.proofs.Uses.{put_among-set, length-put_among, put_among-freed}
 
 -- ---- maps that agree

@@ -66,7 +66,7 @@ impl Store {
         };
         let end = image.text_at + 4 * words.len() as u64;
         let tool = Span {
-            at: (end + 4095) / 4096 * 4096,
+            at: end.next_multiple_of(4096),
             slots: blank_slots(alloc, room)?,
         };
         let uses = blank_uses(alloc, room)?;

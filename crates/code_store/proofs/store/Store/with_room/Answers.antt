@@ -1,6 +1,5 @@
-use Rattle.std.proofs.Common.{◌≡◌, ◌+◌, ◌*◌, ◌/◌, ◌≤◌, ◌∙◌, sym, ap, subst, length, replicate, map, arith, List, ℕ}
+use Rattle.std.proofs.Common.{◌≡◌, ◌+◌, ◌*◌, ◌/◌, ◌∙◌, sym, ap, subst, length, replicate, map, arith, List, ℕ}
 use Rattle.std.proofs.lemmas.List.{length-replicate, length-map}
-use Rattle.pn_types.specs.declared.limits.TheConstants.{SEGMENTS_TO}
 use Rattle.rv_word.specs.Names.{words_of}
 use Rattle.tramp_spec.specs.declared.mark.MarkedWord.{MarkedWord}
 use Rattle.tramp_spec.specs.Marks.{own, tool}
@@ -16,13 +15,8 @@ overflow_add-end c =
     let end = words_end c.args.image.now c.in_ok-words.words.items c.requires.image (c.in_ok-words.ensures ∙ ap words_of c.text_bytes.ensures) in
     omega arith
 
-pub overflow_add-tool : goal.overflow_add-tool
-overflow_add-tool c =
-    let end = words_end c.args.image.now c.in_ok-words.words.items c.requires.image (c.in_ok-words.ensures ∙ ap words_of c.text_bytes.ensures) in
-    omega arith
-
-pub overflow_mul-tool : goal.overflow_mul-tool
-overflow_mul-tool c =
+pub next_multiple_of-requires-clause-fits : goal.next_multiple_of-requires-clause-fits
+next_multiple_of-requires-clause-fits c =
     let end = words_end c.args.image.now c.in_ok-words.words.items c.requires.image (c.in_ok-words.ensures ∙ ap words_of c.text_bytes.ensures) in
     omega arith
 
@@ -43,10 +37,14 @@ pub invariant_of-result : goal.invariant_of-result
 invariant_of-result c =
     let blank = ap length c.in_ok-blank_slots.ensures ∙ length-replicate {A = MarkedWord} c.args.room (tool 0) in
     let count : c.len.result ≡ length c.in_ok-words.words.items = omega arith in
+    let low = c.next_multiple_of.ensures.lower_bound in
+    let high = c.next_multiple_of.ensures.upper_bound in
+    let multiple = c.next_multiple_of.ensures.multiple in
+    let behind : c.next_multiple_of.result ≡ (c.args.image.now.text_at + 4 * length c.in_ok-words.words.items + 4095) / 4096 * 4096 = omega arith in
     let uses = ap length c.in_ok-uses.ensures ∙ length-replicate {A = WordUse} c.args.room Unwritten in
     record {
       slots = ap length c.in_ok-own_slots.ensures ∙ length-map c.deref.result.now own ∙ ap length c.deref.ensures.value;
-      behind = ap (λ n. (c.args.image.now.text_at + 4 * n + 4095) / 4096 * 4096) count;
+      behind = behind;
       room = ap (λ n. 4 * n) blank ∙ c.requires.room;
       used = uses ∙ sym blank;
       blank = subst (λ (ws : List MarkedWord). AreBlank ws c.in_ok-uses.uses.items) (sym c.in_ok-blank_slots.ensures) (subst (λ (us : List WordUse). AreBlank (replicate c.args.room (tool 0)) us) (sym c.in_ok-uses.ensures) (blank-first c.args.room));
@@ -56,7 +54,7 @@ pub returns : goal.returns
 returns c =
     let image = c.args.image.now in
     let ws = c.in_ok-words.words.items in
-    let at = (image.text_at + 4 * c.len.result + 4095) / 4096 * 4096 in
+    let at = c.next_multiple_of.result in
     let own_words = c.in_ok-own_slots.ensures ∙ ap (map own) c.deref.ensures.value in
     let read = c.in_ok-words.ensures ∙ ap words_of c.text_bytes.ensures in
     same_stored (record { at = image.text_at; words = ws }) _ _ _ _
