@@ -1,0 +1,6 @@
+pub mod Entries
+pub mod Uses
+pub mod Maps
+pub mod Fetches
+pub mod Blocks
+pub mod Beginnings

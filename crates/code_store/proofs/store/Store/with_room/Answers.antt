@@ -1,0 +1,66 @@
+use Rattle.std.proofs.Common.{◌≡◌, ◌+◌, ◌*◌, ◌/◌, ◌∙◌, sym, ap, subst, length, replicate, map, arith, List, ℕ}
+use Rattle.std.proofs.lemmas.List.{length-replicate, length-map}
+use Rattle.rv_word.specs.Names.{words_of}
+use Rattle.tramp_spec.specs.declared.mark.MarkedWord.{MarkedWord}
+use Rattle.tramp_spec.specs.Marks.{own, tool}
+use Rattle.code_store.specs.declared.word_use.WordUse.{WordUse}
+use Rattle.code_store.specs.declared.word_use.WordUse.TheVariants.{Unwritten}
+use Rattle.code_store.specs.Views.{AreBlank, code_of, owners_of}
+use Rattle.code_store.proofs.Beginnings.{words_end, blank-first, code-first, owners-first, stored_first}
+use Rattle.code_store.proofs.Maps.{same_stored}
+use Rattle.code_store.proofs.store.Store.with_room.Goals as goal
+
+pub overflow_add-end : goal.overflow_add-end
+overflow_add-end c =
+    let end = words_end c.args.image.now c.in_ok-words.words.items c.requires.image (c.in_ok-words.ensures ∙ ap words_of c.text_bytes.ensures) in
+    omega arith
+
+pub next_multiple_of-requires-clause-fits : goal.next_multiple_of-requires-clause-fits
+next_multiple_of-requires-clause-fits c =
+    let end = words_end c.args.image.now c.in_ok-words.words.items c.requires.image (c.in_ok-words.ensures ∙ ap words_of c.text_bytes.ensures) in
+    omega arith
+
+pub invariant_of-text : goal.invariant_of-text
+invariant_of-text c =
+    let end = words_end c.args.image.now c.in_ok-words.words.items c.requires.image (c.in_ok-words.ensures ∙ ap words_of c.text_bytes.ensures) in
+    let slots = ap length c.in_ok-own_slots.ensures ∙ length-map c.deref.result.now own ∙ ap length c.deref.ensures.value in
+    record { ends = omega arith }
+
+pub invariant_of-tool : goal.invariant_of-tool
+invariant_of-tool c =
+    let end = words_end c.args.image.now c.in_ok-words.words.items c.requires.image (c.in_ok-words.ensures ∙ ap words_of c.text_bytes.ensures) in
+    let room = ap length c.in_ok-blank_slots.ensures ∙ length-replicate {A = MarkedWord} c.args.room (tool 0) in
+    let all = c.requires.room in
+    record { ends = omega arith }
+
+pub invariant_of-result : goal.invariant_of-result
+invariant_of-result c =
+    let blank = ap length c.in_ok-blank_slots.ensures ∙ length-replicate {A = MarkedWord} c.args.room (tool 0) in
+    let count : c.len.result ≡ length c.in_ok-words.words.items = omega arith in
+    let low = c.next_multiple_of.ensures.lower_bound in
+    let high = c.next_multiple_of.ensures.upper_bound in
+    let multiple = c.next_multiple_of.ensures.multiple in
+    let behind : c.next_multiple_of.result ≡ (c.args.image.now.text_at + 4 * length c.in_ok-words.words.items + 4095) / 4096 * 4096 = omega arith in
+    let uses = ap length c.in_ok-uses.ensures ∙ length-replicate {A = WordUse} c.args.room Unwritten in
+    record {
+      slots = ap length c.in_ok-own_slots.ensures ∙ length-map c.deref.result.now own ∙ ap length c.deref.ensures.value;
+      behind = behind;
+      room = ap (λ n. 4 * n) blank ∙ c.requires.room;
+      used = uses ∙ sym blank;
+      blank = subst (λ (ws : List MarkedWord). AreBlank ws c.in_ok-uses.uses.items) (sym c.in_ok-blank_slots.ensures) (subst (λ (us : List WordUse). AreBlank (replicate c.args.room (tool 0)) us) (sym c.in_ok-uses.ensures) (blank-first c.args.room));
+    }
+
+pub returns : goal.returns
+returns c =
+    let image = c.args.image.now in
+    let ws = c.in_ok-words.words.items in
+    let at = c.next_multiple_of.result in
+    let own_words = c.in_ok-own_slots.ensures ∙ ap (map own) c.deref.ensures.value in
+    let read = c.in_ok-words.ensures ∙ ap words_of c.text_bytes.ensures in
+    same_stored (record { at = image.text_at; words = ws }) _ _ _ _
+    (ap (λ (t : List MarkedWord). code_of image.text_at t at c.in_ok-blank_slots.field-0.items c.in_ok-uses.uses.items) own_words
+    ∙ ap (λ (t : List MarkedWord). code_of image.text_at (map own ws) at t c.in_ok-uses.uses.items) c.in_ok-blank_slots.ensures
+    ∙ ap (λ (u : List WordUse). code_of image.text_at (map own ws) at (replicate c.args.room (tool 0)) u) c.in_ok-uses.ensures
+    ∙ code-first ws image.text_at at c.args.room)
+    (ap (λ (u : List WordUse). owners_of at u) c.in_ok-uses.ensures ∙ owners-first c.args.room at)
+    ∙ ap (λ (words : List ℕ). stored_first image.text_at words) read

@@ -1,0 +1,4 @@
+pub mod Owners
+pub mod Stores
+pub mod Codes
+pub mod Views

@@ -1,0 +1,60 @@
+//! What a store begins with.
+
+ghost use Rattle.std.specs.Prelude.{◌≡◌, IfOk, map, replicate};
+ghost use Rattle.rv_word.specs.Names.{words_of};
+ghost use Rattle.tramp_spec.specs.Marks.{own, tool};
+ghost use Rattle.code_store.specs.declared.word_use.WordUse.TheVariants.{Unwritten};
+
+use crate::slot::Slot;
+use crate::word_use::WordUse;
+use pn_types::NoMemory;
+use rv_word::split_word;
+use std::alloc::Global;
+use tramp_spec::MarkedWord;
+
+/// The words of a text.
+pub fn words(alloc: Global, text: &[u8]) -> Result<Vec<u32>, NoMemory>
+    ensures { IfOk result (λ words. words.items ≡ words_of text.now) }
+{
+    let mut words = Vec::with_capacity(alloc, text.len() / 4)?;
+    let mut rest = text;
+    for _ in 0..text.len() / 4 {
+        let (word, others) = split_word(rest);
+        words.push(word)?;
+        rest = others;
+    }
+    Ok(words)
+}
+
+/// A slot for each word, as the program's own.
+pub fn own_slots(alloc: Global, words: &[u32]) -> Result<Vec<Slot>, NoMemory>
+    ensures { IfOk result (λ slots. slots.items ≡ map own words.now) }
+{
+    let mut slots = Vec::with_capacity(alloc, words.len())?;
+    for word in words {
+        slots.push(Slot::new(MarkedWord::own(*word)))?;
+    }
+    Ok(slots)
+}
+
+/// Slots for words of the tool text at which nothing was put.
+pub fn blank_slots(alloc: Global, count: usize) -> Result<Vec<Slot>, NoMemory>
+    ensures { IfOk result (λ slots. slots.items ≡ replicate count (tool 0)) }
+{
+    let mut slots = Vec::with_capacity(alloc, count)?;
+    for _ in 0..count {
+        slots.push(Slot::new(MarkedWord::tool(0)))?;
+    }
+    Ok(slots)
+}
+
+/// What such words are for.
+pub fn blank_uses(alloc: Global, count: usize) -> Result<Vec<WordUse>, NoMemory>
+    ensures { IfOk result (λ uses. uses.items ≡ replicate count Unwritten) }
+{
+    let mut uses = Vec::with_capacity(alloc, count)?;
+    for _ in 0..count {
+        uses.push(WordUse::Unwritten)?;
+    }
+    Ok(uses)
+}

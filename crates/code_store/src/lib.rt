@@ -1,0 +1,12 @@
+//! The words that harts fetch: a program's text and the tool text behind it, each word decoded, and the points of the
+//! blocks that stand in the tool text.
+#![tactic(auto)]
+
+mod building;
+mod slot;
+mod span;
+mod store;
+mod word_use;
+
+pub use slot::Slot;
+pub use store::Store;
