@@ -1,0 +1,12 @@
+//! The tool's code of statements: the words that count and time in a hart's bank, and what they do to the values that its
+//! slots stand for.
+#![tactic(auto)]
+
+mod acts;
+mod compiling;
+mod conditions;
+mod counting;
+mod numbers;
+
+pub use compiling::compile;
+pub use counting::words_of;
