@@ -1,2 +1,5 @@
 pub mod Counts
 pub mod Named
+pub mod Fitting
+pub mod Standing
+pub mod Laws

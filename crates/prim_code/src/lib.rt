@@ -6,7 +6,9 @@ mod acts;
 mod compiling;
 mod conditions;
 mod counting;
+mod laws;
 mod numbers;
 
 pub use compiling::compile;
 pub use counting::words_of;
+pub use laws::statements_work;
