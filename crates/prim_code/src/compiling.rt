@@ -85,9 +85,11 @@ fn append_stmt(stmt: &Stmt, slots: &[u32], out: &mut Vec<MarkedWord>)
     ensures capacity { vec_capacity out.new ≡ vec_capacity out.old }
 {
     let mut rest = stmt_words(stmt);
-    for cond in stmt.conds.as_slice() {
+    let mut conds = stmt.conds.as_slice();
+    while let Some((cond, inner)) = conds.split_first() {
         rest -= cond_words(cond);
         append_cond(cond, slots, rest, out);
+        conds = inner;
     }
     append_act(stmt.act, slots, out);
 }

@@ -1,7 +1,8 @@
-use Rattle.std.proofs.Common.{◌≡◌, ◌+◌, ◌-◌, drop, arith, length, ◌∙◌}
+use Rattle.std.proofs.Common.{◌≡◌, ◌-◌, length, ◌∙◌, arith}
 use Rattle.std.proofs.lemmas.Grind.{common_steps}
 use Rattle.tramp_spec.specs.Statements.{act_code, under}
-use Rattle.prim_code.proofs.Appending.{cond_appended}
+use Rattle.prim_code.specs.Named.{IsLeftBelow}
+use Rattle.prim_code.proofs.Appending.{All-rest, cond_appended}
 use Rattle.prim_code.proofs.Lengths.{length_act, length_under}
 use Rattle.prim_code.proofs.compiling.append_stmt.Goals as goal
 
@@ -10,10 +11,13 @@ loop-cond-preserved c =
     let slots = c.args.slots.now in
     let stmt = c.args.stmt.now in
     let code = act_code slots stmt.act in
-    let left : length (under slots (drop (c.loop-cond.cond-index + 1) stmt.conds) code) ≡ c.loop-cond.rest - c.cond_words-rest.result =
-    length_under slots (drop (c.loop-cond.cond-index + 1) stmt.conds) code ∙ grind (arith, common_steps, length_act slots stmt.act) in
+    let inner = c.in-Some.inner.now in
+    let here = c.in-Some.ensures.cases.0 in
+    let left : length (under slots inner code) ≡ c.loop-cond.rest - c.cond_words-rest.result =
+    length_under slots inner code ∙ grind (arith, common_steps, length_act slots stmt.act) in
     record {
-      words = cond_appended slots code stmt.conds _ _ _ _ _ _ _ c.as_slice-cond-items.ensures c.loop-cond-test.true left c.append_cond.ensures.words c.loop-cond.invariant.words;
+      words = cond_appended slots code _ inner _ _ _ _ _ here left c.append_cond.ensures.words c.loop-cond.invariant.words;
+      named = All-rest (λ k. IsLeftBelow (length slots) k.left) _ inner _ here c.loop-cond.invariant.named;
       rest = grind (arith, common_steps);
       len = grind (arith, common_steps);
       capacity = grind (arith, common_steps);
