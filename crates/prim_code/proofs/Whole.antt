@@ -1,8 +1,8 @@
 -- The body of statements, whole.
 use Rattle.std.proofs.Common.{◌≡◌, ℕ, ◌+◌, ◌^◌, ◌<◌, ◌≤◌, Bool, true, false, List, [], ◌∷◌, length, Option, Some, None, sym, ap, ◌∙◌, subst, arith, inl, inr, ⊎_elim}
-use Rattle.std.specs.Prelude.{slice_get, slice_index, if◌then◌else◌}
+use Rattle.std.specs.Prelude.{slice_get, slice_index, ◌==◌, if◌then◌else◌}
 use Rattle.std.specs.List.{AllByRecursion}
-use Rattle.std.proofs.lemmas.Bool.{cases_lt}
+use Rattle.std.proofs.lemmas.Bool.{cases_lt, cond-true, eq-eqb}
 use Rattle.pn_types.specs.declared.plan.Act.{Act}
 use Rattle.pn_types.specs.declared.plan.Act.TheVariants.{Up, Down, Put, Start, Stop}
 use Rattle.pn_types.specs.declared.plan.Cond.{Cond}
@@ -13,18 +13,22 @@ use Rattle.pn_types.specs.declared.plan.Var.{Var}
 use Rattle.rv_word.specs.Registers.{arguments_of}
 use Rattle.rv_word.specs.Values.{wrap}
 use Rattle.tramp_spec.specs.Banks.{bank_len}
+use Rattle.tramp_spec.specs.Bodies.{Stands, finished}
 use Rattle.tramp_spec.specs.Routes.{Does}
 use Rattle.tramp_spec.specs.Slots.{Place, width, places, ArePlaces, IsSlotOf, running, read_place}
 use Rattle.tramp_spec.specs.Statements.{body_of, slot_of}
 use Rattle.tramp_spec.specs.Values.{values_after}
 use Rattle.tramp_spec.proofs.Routes.{harmless, leaves}
+use Rattle.tramp_spec.specs.Steps.{Bench}
 use Rattle.prim_code.specs.Fitting.{Names, IsLeftOf, IsActOf, IsCondOf, AreStmtsOf}
 use Rattle.prim_code.specs.Laws.{StatementsWork}
+use Rattle.prim_code.specs.Rows.{always}
 use Rattle.prim_code.specs.Standing.{HasValue, StandFor, SameReadings}
 use Rattle.prim_code.proofs.ActRuns.{IsInBank}
 use Rattle.prim_code.proofs.Effects.{stmts_bank}
 use Rattle.prim_code.proofs.Fits.{FitsPlace}
 use Rattle.prim_code.proofs.GuardRuns.{IsLeftInBank, IsCondInBank, IsStmtInBank, code_does}
+use Rattle.prim_code.proofs.Reaching.{bank_size}
 use Rattle.prim_code.proofs.Listing.{Fits, IsBeside, place, place_is, length_places, fits, leaves_others}
 
 module _ (slots : List ℕ) (vars : List Var) (same : length slots ≡ length vars) (pl : ArePlaces (places slots vars)) where
@@ -116,3 +120,15 @@ statements_work slots vars stmts same pl u =
           (stand_on slots vars stmts same pl u ticks spare (arguments_of x.regs) values x.bank st.bank lt lv h);
       others = λ at ticks q x st n. ap (λ k. slice_index k q) (leaves body f d at ticks x st) ∙ leaves_others slots vars stmts ticks q (arguments_of x.regs) x.bank same u (beside ps q n);
     }
+
+-- a stop of a timer that has no start
+abbrev stop_alone : List Stmt
+stop_alone = always (Stop 0) ∷ []
+
+stop_alone_fits : AllByRecursion (IsStmtInBank (2 ∷ [])) stop_alone
+stop_alone_fits = (record { short = omega arith; conds = tt; act = (omega arith, let n = bank_size in omega arith) }, tt)
+
+pub idle_stop : (at ticks : ℕ) (x : Bench) → Stands (body_of (2 ∷ []) stop_alone) at x → slice_index x.bank 3 ≡ 0 → finished (body_of (2 ∷ []) stop_alone) at x ticks ≡ x.bank
+idle_stop at ticks x st e =
+    leaves (body_of (2 ∷ []) stop_alone) (stmts_bank (2 ∷ []) stop_alone) (body_does (2 ∷ []) stop_alone stop_alone_fits) at ticks x st
+    ∙ cond-true (slice_index x.bank 3 == 0) x.bank _ (eq-eqb (slice_index x.bank 3) 0 e)

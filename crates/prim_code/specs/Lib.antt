@@ -3,3 +3,4 @@ pub mod Named
 pub mod Fitting
 pub mod Standing
 pub mod Laws
+pub mod Rows

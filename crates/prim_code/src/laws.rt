@@ -1,6 +1,12 @@
 //! What holds of the tool's code of statements.
 
 ghost use Rattle.prim_code.specs.Laws.{StatementsWork};
+ghost use Rattle.prim_code.specs.Rows.{StatementRows};
+
+/// The words of each kind of statement and condition.
+pub fn statement_rows()
+    ensures { StatementRows }
+{}
 
 /// The body of statements that fit a plan's variables is harmless, brings slots that stand for values to slots that stand for
 /// those behind the statements, keeps what timers read, and leaves every other doubleword of the bank.
