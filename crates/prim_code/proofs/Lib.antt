@@ -8,3 +8,4 @@ pub mod GuardRuns
 pub mod Fits
 pub mod Listing
 pub mod Whole
+pub mod Keeping

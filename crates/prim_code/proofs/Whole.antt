@@ -18,7 +18,7 @@ use Rattle.tramp_spec.specs.Routes.{Does}
 use Rattle.tramp_spec.specs.Slots.{Place, width, places, ArePlaces, IsSlotOf, running, read_place}
 use Rattle.tramp_spec.specs.Statements.{body_of, slot_of}
 use Rattle.tramp_spec.specs.Values.{values_after}
-use Rattle.tramp_spec.proofs.Routes.{harmless, leaves}
+use Rattle.tramp_spec.proofs.Routes.{keeps, finish_of, harmless, leaves}
 use Rattle.tramp_spec.specs.Steps.{Bench}
 use Rattle.prim_code.specs.Fitting.{Names, IsLeftOf, IsActOf, IsCondOf, AreStmtsOf}
 use Rattle.prim_code.specs.Laws.{StatementsWork}
@@ -115,6 +115,9 @@ statements_work slots vars stmts same pl u =
     let ps = places slots vars in
     record {
       harmless = harmless body f d;
+      ends = λ at ticks x st.
+          let r = d at ticks x st in
+          (r.0, r.1, keeps body at ticks 0 (length body) x r.0 r.1, sym (finish_of body at ticks x r.0 r.1));
       values = λ at ticks spare x values st lt lv h.
           subst (λ k. StandFor ps spare (values_after stmts (arguments_of x.regs) values) k × SameReadings ps ticks x.bank k) (sym (leaves body f d at ticks x st))
           (stand_on slots vars stmts same pl u ticks spare (arguments_of x.regs) values x.bank st.bank lt lv h);

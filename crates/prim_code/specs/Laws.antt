@@ -3,7 +3,8 @@ use Rattle.std.specs.Prelude.{◌≡◌, ℕ, ◌+◌, ◌^◌, ◌<◌, List, l
 use Rattle.pn_types.specs.declared.plan.Stmt.{Stmt}
 use Rattle.pn_types.specs.declared.plan.Var.{Var}
 use Rattle.rv_word.specs.Registers.{arguments_of}
-use Rattle.tramp_spec.specs.Bodies.{Harmless, Stands, finished}
+use Rattle.tramp_spec.specs.Bodies.{Keeps, Harmless, Stands, finished}
+use Rattle.tramp_spec.specs.Routes.{Route}
 use Rattle.tramp_spec.specs.Slots.{places, ArePlaces, IsSlotOf}
 use Rattle.tramp_spec.specs.Statements.{body_of}
 use Rattle.tramp_spec.specs.Steps.{Bench}
@@ -13,8 +14,11 @@ use Rattle.prim_code.specs.Standing.{StandFor, SameReadings}
 
 -- The body of statements on the slots of a plan's variables.
 pub record DoesStatements (slots : List ℕ) (vars : List Var) (stmts : List Stmt) : Type 0 where
-  -- it stops no hart, and changes x5, x31 and slots alone
+  -- it stops no hart, and reads and writes the bank alone
   pub harmless : Harmless (body_of slots stmts)
+  -- a run comes to its end, with all registers but x5 and x31 as they were
+  pub ends : (at ticks : ℕ) (x : Bench) → Stands (body_of slots stmts) at x
+      → (y : Bench) × Route (body_of slots stmts) at ticks 0 (length (body_of slots stmts)) x y × Keeps x y × (y.bank ≡ finished (body_of slots stmts) at x ticks)
   -- slots that stand for values stand for those behind the statements; each statement may take a start of those to spare
   pub values : (at ticks spare : ℕ) (x : Bench) (values : List ℕ) → Stands (body_of slots stmts) at x → ticks < 2 ^ 64 → length values ≡ length vars
       → StandFor (places slots vars) (length stmts + spare) values x.bank

@@ -2,6 +2,7 @@
 
 ghost use Rattle.prim_code.specs.Laws.{StatementsWork};
 ghost use Rattle.prim_code.specs.Rows.{StatementRows};
+ghost use Rattle.prim_code.specs.Standing.{StandingKept};
 
 /// The words of each kind of statement and condition.
 pub fn statement_rows()
@@ -12,4 +13,10 @@ pub fn statement_rows()
 /// those behind the statements, keeps what timers read, and leaves every other doubleword of the bank.
 pub fn statements_work()
     ensures { StatementsWork }
+{}
+
+/// Slots go on standing for values where they stay, and where fewer starts are to be spared; a timer that runs reads one more behind
+/// each tick.
+pub fn standing_kept()
+    ensures { StandingKept }
 {}
