@@ -9,3 +9,4 @@ pub mod Fits
 pub mod Listing
 pub mod Whole
 pub mod Keeping
+pub mod Naming

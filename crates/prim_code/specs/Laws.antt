@@ -1,5 +1,5 @@
 -- What the tool's code of statements does, for the law functions of this crate.
-use Rattle.std.specs.Prelude.{◌≡◌, ℕ, ◌+◌, ◌^◌, ◌<◌, List, length, slice_index}
+use Rattle.std.specs.Prelude.{◌≡◌, ℕ, ◌+◌, ◌*◌, ◌^◌, ◌<◌, ◌≤◌, List, length, slice_index}
 use Rattle.pn_types.specs.declared.plan.Stmt.{Stmt}
 use Rattle.pn_types.specs.declared.plan.Var.{Var}
 use Rattle.rv_word.specs.Registers.{arguments_of}
@@ -9,7 +9,9 @@ use Rattle.tramp_spec.specs.Slots.{places, ArePlaces, IsSlotOf}
 use Rattle.tramp_spec.specs.Statements.{body_of}
 use Rattle.tramp_spec.specs.Steps.{Bench}
 use Rattle.tramp_spec.specs.Values.{values_after}
+use Rattle.prim_code.specs.Counts.{word_count}
 use Rattle.prim_code.specs.Fitting.{AreStmtsOf}
+use Rattle.prim_code.specs.Named.{AreBelow}
 use Rattle.prim_code.specs.Standing.{StandFor, SameReadings}
 
 -- The body of statements on the slots of a plan's variables.
@@ -33,3 +35,7 @@ abbrev pub StatementsWork : Type 0
 StatementsWork =
     (slots : List ℕ) (vars : List Var) (stmts : List Stmt) → length slots ≡ length vars → ArePlaces (places slots vars) → AreStmtsOf vars stmts
     → DoesStatements slots vars stmts
+
+-- Statements that fit a plan's variables can be compiled, and each of them has fewer than 1,024 words.
+abbrev pub StatementsCompile : Type 0
+StatementsCompile = (vars : List Var) (stmts : List Stmt) → AreStmtsOf vars stmts → AreBelow (length vars) stmts × (word_count stmts ≤ 1023 * length stmts)

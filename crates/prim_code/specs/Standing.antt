@@ -2,7 +2,8 @@
 use Rattle.std.specs.Prelude.{◌≡◌, ℕ, ◌+◌, ◌%◌, ◌^◌, ◌<◌, ◌≤◌, ◌==◌, if◌then◌else◌, Bool, true, false, Some, List, slice_get, slice_index}
 use Rattle.tramp_spec.specs.Slots.{Place, read_place, IsSlotOf}
 
--- a counter's slot has its value; a timer's second slot has its number of starts, and so many more don't wrap it
+-- a counter's slot has its value; a timer's second slot has its number of starts, and so many more don't wrap it: a number below 2^63
+-- has 2^63 to spare
 abbrev pub HasValue : Bool → (slot spare value : ℕ) → List ℕ → Type 0
 HasValue false s spare v bank = (slice_index bank s ≡ v) × (v < 2 ^ 64)
 HasValue true s spare v bank = (slice_index bank (s + 1) ≡ v) × (v + spare < 2 ^ 64)

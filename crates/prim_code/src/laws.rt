@@ -1,12 +1,17 @@
 //! What holds of the tool's code of statements.
 
-ghost use Rattle.prim_code.specs.Laws.{StatementsWork};
+ghost use Rattle.prim_code.specs.Laws.{StatementsCompile, StatementsWork};
 ghost use Rattle.prim_code.specs.Rows.{StatementRows};
 ghost use Rattle.prim_code.specs.Standing.{StandingKept};
 
 /// The words of each kind of statement and condition.
 pub fn statement_rows()
     ensures { StatementRows }
+{}
+
+/// Statements that fit a plan's variables name these alone, as `compile` asks, and each has fewer than 1,024 words.
+pub fn statements_compile()
+    ensures { StatementsCompile }
 {}
 
 /// The body of statements that fit a plan's variables is harmless, brings slots that stand for values to slots that stand for

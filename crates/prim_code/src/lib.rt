@@ -11,4 +11,4 @@ mod numbers;
 
 pub use compiling::compile;
 pub use counting::words_of;
-pub use laws::{standing_kept, statement_rows, statements_work};
+pub use laws::{standing_kept, statement_rows, statements_compile, statements_work};
