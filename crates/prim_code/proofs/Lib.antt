@@ -1,0 +1,12 @@
+pub mod Lengths
+pub mod Appending
+pub mod WordsRead
+pub mod Reaching
+pub mod Effects
+pub mod ActRuns
+pub mod GuardRuns
+pub mod Fits
+pub mod Listing
+pub mod Whole
+pub mod Keeping
+pub mod Naming

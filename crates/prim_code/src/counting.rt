@@ -1,0 +1,52 @@
+//! How many words statements have.
+
+ghost use Rattle.std.specs.Prelude.{◌≡◌, ◌+◌, ◌<◌, ◌≤◌, ◌^◌, ℕ, List, length, sum_by};
+ghost use Rattle.tramp_spec.specs.Statements.{body_of};
+ghost use Rattle.prim_code.specs.Counts as counts;
+
+use pn_types::{Act, Cond, Left, Stmt};
+
+fn act_words(act: Act) -> u32
+    ensures { result ≡ counts.act_words act }
+{
+    match act {
+        Act::Up(_) | Act::Put(_, _) => 4,
+        Act::Down(_) => 5,
+        Act::Start(_) | Act::Stop(_) => 12,
+    }
+}
+
+pub fn cond_words(cond: &Cond) -> u32
+    ensures { result ≡ counts.cond_words cond.now }
+{
+    match cond.left {
+        Left::Counter(_) => 5,
+        Left::Argument(_) => 3,
+    }
+}
+
+pub fn stmt_words(stmt: &Stmt) -> u32
+    requires { counts.stmt_words stmt.now < 2 ^ 32 }
+    ensures { result ≡ counts.stmt_words stmt.now }
+{
+    let conds: u32 = stmt
+        .conds
+        .as_slice()
+        .iter()
+        .map(|cond| cond_words(cond))
+        .sum();
+    conds + act_words(stmt.act)
+}
+
+/// How many words the statements have, whatever the slots of their variables.
+pub fn words_of(stmts: &[Stmt]) -> u32
+    requires { counts.word_count stmts.now < 2 ^ 32 }
+    ensures count { result ≡ counts.word_count stmts.now }
+    ensures body { (slots : List ℕ) → length (body_of slots stmts.now) ≡ result }
+{
+    let mut words = 0;
+    for stmt in stmts {
+        words += stmt_words(stmt);
+    }
+    words
+}
