@@ -27,7 +27,7 @@ use Rattle.tramp_spec.specs.Statements.{high_part, low_part}
 use Rattle.tramp_spec.specs.Steps.{Bench, Stood, stand, perform_on, step_decoded, step_on, with_value, with_doubleword}
 use Rattle.tramp_spec.specs.declared.mark.MarkedWord.{MarkedWord}
 use Rattle.tramp_spec.proofs.Encodings.{lui_reads, addiw_reads, addi_reads, ld_reads, sd_reads}
-use Rattle.tramp_spec.proofs.Moving.{upper_fits, upper_even, lower_fits, parts}
+use Rattle.tramp_spec.proofs.NumberWords.{upper_fits, upper_even, lower_fits, parts}
 use Rattle.tramp_spec.proofs.Registers.{length_with, read_back, read_other, read_but, zero_reg}
 use Rattle.tramp_spec.proofs.Routes.{none, leap, and_on, keeps, keeps_all}
 use Rattle.prim_code.proofs.WordsRead.{add_reads, sub_reads, high_fits, high_even, low_fits, at_slot}

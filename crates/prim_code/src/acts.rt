@@ -6,11 +6,10 @@ ghost use Rattle.rv_word.specs.declared.instr.LoadOp.TheVariants as loads;
 ghost use Rattle.rv_word.specs.declared.instr.ImmOp.TheVariants as immediates;
 ghost use Rattle.rv_word.specs.declared.instr.BranchOp.TheVariants as branches;
 ghost use Rattle.rv_word.specs.declared.instr.RegOp.TheVariants as operations;
-ghost use Rattle.tramp_spec.specs.Jumps.{put_number};
 ghost use Rattle.tramp_spec.specs.Statements as table;
 
-use crate::numbers::{lower, rounded, upper};
 use rv_word::{BranchOp, ImmOp, Instr, LoadOp, RegOp, StoreOp};
+use tramp_spec::{lower, put_number, rounded};
 
 /// The high part of a slot's address, into x31.
 pub fn high(slot: u64) -> Instr
@@ -109,20 +108,6 @@ fn combine(op: RegOp) -> Instr
     }
 }
 
-/// A number into a register.
-pub fn number(rd: u32, n: u32) -> [Instr; 2]
-    ensures { result ≡ put_number rd n }
-{
-    [
-        Instr::Lui { rd, imm: upper(n) },
-        Instr::Addiw {
-            rd,
-            rs1: rd,
-            imm: lower(u64::from(n)),
-        },
-    ]
-}
-
 /// A counter becomes one more.
 pub fn up(slot: u64) -> [Instr; 4]
     requires { slot < 2 ^ 32 }
@@ -150,7 +135,7 @@ pub fn put(slot: u64, n: u32) -> [Instr; 4]
     requires { slot < 2 ^ 32 }
     ensures { result ≡ table.put_code slot n }
 {
-    let [upper, lower] = number(5, n);
+    let [upper, lower] = put_number(5, u64::from(n));
     [upper, lower, high(slot), keep(slot)]
 }
 

@@ -4,9 +4,10 @@ ghost use Rattle.std.specs.Prelude.{◌≡◌, ◌+◌, ◌*◌, ◌<◌, ◌^�
 ghost use Rattle.rv_word.specs.declared.instr.Instr.{Instr};
 ghost use Rattle.tramp_spec.specs.Statements as table;
 
-use crate::acts::{high, load, number};
+use crate::acts::{high, load};
 use pn_types::Cmp;
 use rv_word::{BranchOp, Instr};
+use tramp_spec::put_number;
 
 /// The branch so many bytes on, where the comparison of a register with x31 fails.
 fn unless(cmp: Cmp, register: u32, over: u64) -> Instr
@@ -34,7 +35,7 @@ pub fn counter_words(slot: u64, cmp: Cmp, right: u32, rest: u32) -> [Instr; 5]
     ensures { (after : List Instr) → length after ≡ rest
         → result ++ after ≡ table.load_slot slot ++ table.compared cmp 5 right after }
 {
-    let [upper, lower] = number(31, right);
+    let [upper, lower] = put_number(31, u64::from(right));
     let over = 4 * (u64::from(rest) + 1);
     [
         high(slot),
@@ -50,7 +51,7 @@ pub fn argument_words(argument: u8, cmp: Cmp, right: u32, rest: u32) -> [Instr; 
     ensures { (after : List Instr) → length after ≡ rest
         → result ++ after ≡ table.compared cmp (10 + argument) right after }
 {
-    let [upper, lower] = number(31, right);
+    let [upper, lower] = put_number(31, u64::from(right));
     let over = 4 * (u64::from(rest) + 1);
     [upper, lower, unless(cmp, 10 + u32::from(argument), over)]
 }

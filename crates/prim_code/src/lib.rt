@@ -7,7 +7,6 @@ mod compiling;
 mod conditions;
 mod counting;
 mod laws;
-mod numbers;
 
 pub use compiling::compile;
 pub use counting::words_of;
