@@ -22,7 +22,8 @@ fn mark_name(mark: Mark) -> &'static str {
     }
 }
 
-fn print_word(rt: &impl Print, marked: MarkedWord) -> io::Result<()> {
+/// Prints a word with its mark.
+pub fn print_word(rt: &impl Print, marked: MarkedWord) -> io::Result<()> {
     let word = marked.word;
     let name = mark_name(marked.mark);
     println!(rt; "{word:08x} {name}")
@@ -84,7 +85,7 @@ pub fn print_base(rt: &impl Print, alloc: Global, numbers: Numbers) -> io::Resul
 }
 
 /// The mini block of one counter in slot 2.
-fn counter(alloc: Global, at: u64, next: u64) -> Result<Block, NoMemory>
+pub fn counter(alloc: Global, at: u64, next: u64) -> Result<Block, NoMemory>
     requires low { at < 2 ^ 30 }
     ensures { IfOk result (λ b. (length b.words ≡ 5) × (b.at ≡ at)) }
 {

@@ -5,10 +5,13 @@
 //! - `base POINT AT WORD`: the base block of the point whose word this is, with the word moved there.
 //! - `mini AT NEXT`: the mini block at an address of one counter in slot 2, which leads to the next. `relinked AT NEXT OTHER`: the
 //!   same, made to lead elsewhere.
+//! - of a store with three such blocks, `owner AT`: whose the word is; `dropped AT`: the same once the second block was dropped;
+//!   `fetch AT INSIDE`: what a hart fetches.
 #![tactic(auto)]
 
 mod blocks;
 mod numbers;
+mod stores;
 
 use numbers::Numbers;
 use std::alloc::Global;
@@ -24,6 +27,9 @@ fn answer(rt: &impl Print, alloc: Global, line: &str) -> io::Result<()> {
         "base" => blocks::print_base(rt, alloc, numbers),
         "mini" => blocks::print_mini(rt, alloc, numbers),
         "relinked" => blocks::print_relinked(rt, alloc, numbers),
+        "owner" => stores::print_owner(rt, alloc, numbers),
+        "dropped" => stores::print_dropped(rt, alloc, numbers),
+        "fetch" => stores::print_fetched(rt, alloc, numbers),
         _ => println!(rt; "no call"),
     }
 }
