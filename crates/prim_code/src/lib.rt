@@ -8,6 +8,7 @@ mod conditions;
 mod counting;
 mod laws;
 mod numbers;
+mod words;
 
 pub use compiling::compile;
 pub use counting::words_of;
