@@ -1,10 +1,10 @@
 //! The words of conditions, each of which leads over the rest of its statement where it does not hold.
 
-ghost use Rattle.std.specs.Prelude.{◌≡◌, ◌+◌, ◌*◌, ◌<◌, ◌^◌, ◌++◌, List, length};
+ghost use Rattle.std.specs.Prelude.{◌≡◌, ◌+◌, ◌<◌, ◌^◌, ◌++◌, List, length};
 ghost use Rattle.rv_word.specs.declared.instr.Instr.{Instr};
 ghost use Rattle.tramp_spec.specs.Statements as table;
 
-use crate::acts::{high, load};
+use crate::words::{high, load};
 use pn_types::Cmp;
 use rv_word::{BranchOp, Instr};
 use tramp_spec::put_number;

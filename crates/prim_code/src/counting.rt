@@ -1,11 +1,12 @@
 //! How many words statements have.
 
-ghost use Rattle.std.specs.Prelude.{◌≡◌, ◌+◌, ◌<◌, ◌≤◌, ◌^◌, ℕ, List, length, sum_by};
+ghost use Rattle.std.specs.Prelude.{◌≡◌, ◌<◌, ◌^◌, ℕ, List, length};
 ghost use Rattle.tramp_spec.specs.Statements.{body_of};
 ghost use Rattle.prim_code.specs.Counts as counts;
 
 use pn_types::{Act, Cond, Left, Stmt};
 
+/// How many words an act has.
 fn act_words(act: Act) -> u32
     ensures { result ≡ counts.act_words act }
 {
@@ -16,6 +17,7 @@ fn act_words(act: Act) -> u32
     }
 }
 
+/// How many words a condition puts before the rest of its statement.
 pub fn cond_words(cond: &Cond) -> u32
     ensures { result ≡ counts.cond_words cond.now }
 {
@@ -25,6 +27,7 @@ pub fn cond_words(cond: &Cond) -> u32
     }
 }
 
+/// How many words a statement has.
 pub fn stmt_words(stmt: &Stmt) -> u32
     requires { counts.stmt_words stmt.now < 2 ^ 32 }
     ensures { result ≡ counts.stmt_words stmt.now }

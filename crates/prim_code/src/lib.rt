@@ -7,6 +7,7 @@ mod compiling;
 mod conditions;
 mod counting;
 mod laws;
+mod words;
 
 pub use compiling::compile;
 pub use counting::words_of;

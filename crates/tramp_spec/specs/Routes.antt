@@ -1,4 +1,4 @@
--- For proofs alone: runs of a body from one word to another.
+-- Runs of a body from one word to another, and what bodies do as a whole.
 use Rattle.std.specs.Prelude.{◌≡◌, ℕ, zero, suc, ◌⊎◌, ◌++◌, List, length}
 use Rattle.rv_word.specs.Registers.{arguments_of}
 use Rattle.tramp_spec.specs.Steps.{Bench}
