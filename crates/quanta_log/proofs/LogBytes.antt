@@ -113,3 +113,8 @@ pub writable : (b : List ℕ) (v : Version) (s : Settings) (qs : List Quantum) �
 writable b v s qs bytes is meant =
     let can = (log_spelled b v s qs bytes is meant).0 in
     record { settings = can.settings; harts = can.settings.harts.1; plain = tt; few = can.few; quanta = can.quanta }
+
+pub one_log : (b c : List ℕ) (v : Version) (s : Settings) (qs : List Quantum) → IsBytes b → IsBytes c → version_of b ≡ Some v → version_of c ≡ Some v
+    → meaning_of b ≡ Ok (s, qs) → meaning_of c ≡ Ok (s, qs) → b ≡ c
+one_log b c v s qs bytes_b bytes_c is_b is_c meant_b meant_c =
+    (log_spelled b v s qs bytes_b is_b meant_b).1 ∙ sym (log_spelled c v s qs bytes_c is_c meant_c).1
