@@ -4,14 +4,13 @@ ghost use Rattle.std.specs.Prelude.{◌<◌, ◌^◌, IfOk, IsTrue};
 ghost use Rattle.pn_types.specs.Images.{IsImage};
 ghost use Rattle.code_store.specs.Stores.{IsInToolText};
 
+use crate::blocks::{counter, print_word};
+use crate::numbers::Numbers;
 use code_store::Store;
 use pn_types::{Image, NoMemory, Segment, Seq, TOOL_TEXT_LEN};
 use std::alloc::Global;
 use std::io;
 use tramp_spec::Block;
-
-use crate::blocks::{counter, print_word};
-use crate::numbers::Numbers;
 
 /// A text of one word, `ret`.
 fn image(alloc: Global) -> Result<Image, NoMemory>
