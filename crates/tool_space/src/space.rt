@@ -111,6 +111,8 @@ impl Space {
             at,
             len: len as u64,
         };
+        prove!(self.from <= at);
+        prove!(at + hole.len <= self.end);
         let place = first_above(&self.holes, at);
         put(&mut self.holes, place, hole);
         self.spare -= 1;
