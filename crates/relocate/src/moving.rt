@@ -24,6 +24,14 @@ fn tool(instr: Instr) -> MarkedWord
     MarkedWord::tool(encode(&instr))
 }
 
+/// The address so many bytes behind another.
+fn behind(at: u64, bytes: u64) -> u64
+    requires { bytes < 2 ^ 63 }
+    ensures { at < 2 ^ 63 → result ≡ at + bytes }
+{
+    at.wrapping_add(bytes)
+}
+
 /// The jump back from the moved word at an address.
 fn leave(at: u64, target: u64) -> MarkedWord
     ensures { result ≡ marks.leave (jumps.jump_word at target) }
@@ -60,9 +68,7 @@ fn number_words(rd: u32, number: u64) -> [MarkedWord; 2]
 
 /// An auipc: its value is put into the register by two words.
 fn move_auipc(rd: u32, imm: u64, from: u64, to: u64) -> Result<Moved, Unmovable>
-    requires from { from < 2 ^ 31 }
-    requires to { to < 2 ^ 31 }
-    ensures { Answers result (table.moved_decoded (Some (instr.Auipc rd imm)) 0 from to) }
+    ensures { from < 2 ^ 63 → to < 2 ^ 63 → Answers result (table.moved_decoded (Some (instr.Auipc rd imm)) 0 from to) }
 {
     let value = from.wrapping_add(imm);
     if !is_signed_word(value) {
@@ -70,32 +76,42 @@ fn move_auipc(rd: u32, imm: u64, from: u64, to: u64) -> Result<Moved, Unmovable>
     }
     let [high, low] = put_number(rd, value);
     let own = MarkedWord::own(encode(&low));
-    let back = leave(to + 8, from + 4);
+    let back = leave(behind(to, 8), behind(from, 4));
     Ok(Moved {
         words: [tool(high), own, back, back],
         len: 3,
     })
 }
 
-/// A jal: the address of the next word is put into the register by two words, where it has one.
-fn move_jal(rd: u32, offset: u64, from: u64, to: u64) -> Result<Moved, Unmovable>
-    requires from { from < 2 ^ 31 }
-    requires to { to < 2 ^ 31 }
-    ensures { Answers result (table.moved_decoded (Some (instr.Jal rd offset)) 0 from to) }
+/// A jal that keeps no address.
+fn move_jump(offset: u64, from: u64, to: u64) -> Result<Moved, Unmovable>
+    ensures { Answers result (table.moved_decoded (Some (instr.Jal 0 offset)) 0 from to) }
 {
     let target = from.wrapping_add(offset);
-    let at = if rd == 0 { to } else { to + 8 };
+    if !is_target(to, target) {
+        return Err(Unmovable);
+    }
+    let jump = MarkedWord::own(jump_word(to, target));
+    Ok(Moved {
+        words: [jump; 4],
+        len: 1,
+    })
+}
+
+/// A jal: the address of the next word is put into the register by two words, where it has one.
+fn move_jal(rd: u32, offset: u64, from: u64, to: u64) -> Result<Moved, Unmovable>
+    ensures { from < 2 ^ 63 → to < 2 ^ 63 → Answers result (table.moved_decoded (Some (instr.Jal rd offset)) 0 from to) }
+{
+    if rd == 0 {
+        return move_jump(offset, from, to);
+    }
+    let target = from.wrapping_add(offset);
+    let at = behind(to, 8);
     if !is_target(at, target) {
         return Err(Unmovable);
     }
     let jump = MarkedWord::own(jump_word(at, target));
-    if rd == 0 {
-        return Ok(Moved {
-            words: [jump; 4],
-            len: 1,
-        });
-    }
-    let link = number_words(rd, from + 4);
+    let link = number_words(rd, behind(from, 4));
     Ok(Moved {
         words: [link[0], link[1], jump, jump],
         len: 3,
@@ -104,8 +120,7 @@ fn move_jal(rd: u32, offset: u64, from: u64, to: u64) -> Result<Moved, Unmovable
 
 /// A jalr. The target is computed first, since the link register may be its base.
 fn move_jalr(word: u32, rd: u32, rs1: u32, offset: u64, from: u64) -> Moved
-    requires from { from < 2 ^ 31 }
-    ensures { Some (table.words_of result) ≡ table.moved_decoded (Some (instr.Jalr rd rs1 offset)) word from 0 }
+    ensures { from < 2 ^ 63 → Some (table.words_of result) ≡ table.moved_decoded (Some (instr.Jalr rd rs1 offset)) word from 0 }
 {
     if rd == 0 {
         return Moved {
@@ -119,7 +134,7 @@ fn move_jalr(word: u32, rd: u32, rs1: u32, offset: u64, from: u64) -> Moved
         rs1,
         imm: offset,
     });
-    let [high, low] = number_words(rd, from + 4);
+    let [high, low] = number_words(rd, behind(from, 4));
     let jump = MarkedWord::own(encode(&Instr::Jalr {
         rd: 0,
         rs1: 31,
@@ -140,12 +155,10 @@ fn move_branch(
     from: u64,
     to: u64,
 ) -> Result<Moved, Unmovable>
-    requires from { from < 2 ^ 31 }
-    requires to { to < 2 ^ 31 }
-    ensures { Answers result (table.moved_decoded (Some (instr.Branch op rs1 rs2 offset)) 0 from to) }
+    ensures { from < 2 ^ 63 → to < 2 ^ 63 → Answers result (table.moved_decoded (Some (instr.Branch op rs1 rs2 offset)) 0 from to) }
 {
     let target = from.wrapping_add(offset);
-    if !is_target(to + 8, target) {
+    if !is_target(behind(to, 8), target) {
         return Err(Unmovable);
     }
     let branch = MarkedWord::own(encode(&Instr::Branch {
@@ -154,33 +167,29 @@ fn move_branch(
         rs2,
         offset: 8,
     }));
-    let there = leave(to + 8, target);
+    let there = leave(behind(to, 8), target);
     Ok(Moved {
-        words: [branch, leave(to + 4, from + 4), there, there],
+        words: [branch, leave(behind(to, 4), behind(from, 4)), there, there],
         len: 3,
     })
 }
 
 /// Any other word: itself, and the jump to the next.
 fn move_plain(word: u32, from: u64, to: u64) -> Moved
-    requires from { from < 2 ^ 31 }
-    requires to { to < 2 ^ 31 }
-    ensures { table.words_of result ≡ table.moved_plain word from to }
+    ensures { from < 2 ^ 63 → to < 2 ^ 63 → table.words_of result ≡ table.moved_plain word from to }
 {
-    let back = leave(to + 4, from + 4);
+    let back = leave(behind(to, 4), behind(from, 4));
     Moved {
         words: [MarkedWord::own(word), back, back, back],
         len: 2,
     }
 }
 
-/// The words that do at `to` what the word does at `from`, both below 2,147,483,648. Whatever they are, they never name x31 where
-/// the word doesn't, but for the target of a jalr that keeps an address.
+/// The words that do at `to` what the word does at `from`, or that it can't be moved there. They are those of the table where
+/// both addresses are below 2^63.
 #[tactic(auto, unfolding(tramp_spec::specs::MovedWords::moved_of))]
 pub fn move_word(word: u32, from: u64, to: u64) -> Result<Moved, Unmovable>
-    requires from { from < 2 ^ 31 }
-    requires to { to < 2 ^ 31 }
-    ensures { Answers result (table.moved_of word from to) }
+    ensures { from < 2 ^ 63 → to < 2 ^ 63 → Answers result (table.moved_of word from to) }
 {
     match decode(word) {
         Some(Instr::Auipc { rd, imm }) => move_auipc(rd, imm, from, to),

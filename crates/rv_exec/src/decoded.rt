@@ -6,7 +6,6 @@ use crate::flat::{Flat, flattened};
 use crate::output::Output;
 use crate::regs::Regs;
 use crate::reservations::Reservations;
-use crate::running::run;
 use pn_types::HartNo;
 use rv_mem::Mem;
 use rv_word::{Cause, decode};
@@ -69,6 +68,6 @@ impl Decoded {
         ensures goes { result ≡ is_none stop.new }
         ensures state { Gives (exec_of self.now pc.old hart regs.old (prog_of mem.old resv.old out.old)) regs.old (prog_of mem.old resv.old out.old) (next_after stop.new pc.new) regs.new (prog_of mem.new resv.new out.new) }
     {
-        run(&self.flat, hart, pc, stop, regs, mem, resv, out)
+        self.flat.run(hart, pc, stop, regs, mem, resv, out)
     }
 }

@@ -15,7 +15,7 @@ use tramp_spec::{Block, MarkedWord, Moved, jump_word};
 /// The words of a base block: `sd x5, 8(x0)`, the head, which leads to the tail, and there `ld x5, 8(x0)`; then the moved
 /// words.
 fn words_of_base(at: u64, moved: &Moved) -> [MarkedWord; 7]
-    requires low { at < 2 ^ 31 }
+    requires low { at < 2 ^ 63 }
     ensures { result ≡ base_words at (tail_of at) moved.now.words }
 {
     let [first, second, third, fourth] = moved.words;
@@ -47,7 +47,7 @@ fn words_of_base(at: u64, moved: &Moved) -> [MarkedWord; 7]
 pub fn base_block(point: u64, at: u64, moved: &Moved, words: Vec<MarkedWord>) -> Block
     requires empty { words.items ≡ [] }
     requires room { 7 ≤ vec_capacity words }
-    requires low { at < 2 ^ 31 }
+    requires low { at < 2 ^ 63 }
     requires few { moved.now.len ≤ 4 }
     ensures point { result.point ≡ point }
     ensures at { result.at ≡ at }
@@ -69,7 +69,7 @@ pub fn base_block(point: u64, at: u64, moved: &Moved, words: Vec<MarkedWord>) ->
 /// The mini block of a point at an address, out of the words of its body, which have room for one more. It leads to `next`.
 pub fn mini_block(point: u64, at: u64, words: Vec<MarkedWord>, next: u64) -> Block
     requires room { vec_len words < vec_capacity words }
-    requires low { at + 4 * length words.items < 2 ^ 31 }
+    requires low { at + 4 * length words.items < 2 ^ 63 }
     ensures point { result.point ≡ point }
     ensures at { result.at ≡ at }
     ensures base { result.base ≡ false }
@@ -90,7 +90,7 @@ pub fn mini_block(point: u64, at: u64, words: Vec<MarkedWord>, next: u64) -> Blo
 /// Lets a mini block lead to another address.
 pub fn set_next(block: &mut Block, next: u64)
     requires some { 0 < length block.old.words }
-    requires low { block.old.at + 4 * length block.old.words < 2 ^ 31 }
+    requires low { block.old.at + 4 * length block.old.words < 2 ^ 63 }
     ensures point { block.new.point ≡ block.old.point }
     ensures at { block.new.at ≡ block.old.at }
     ensures base { block.new.base ≡ block.old.base }
