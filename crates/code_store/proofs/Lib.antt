@@ -4,3 +4,4 @@ pub mod Maps
 pub mod Fetches
 pub mod Blocks
 pub mod Beginnings
+pub mod Operations

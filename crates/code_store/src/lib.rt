@@ -3,10 +3,12 @@
 #![tactic(auto)]
 
 mod building;
+mod operation;
 mod slot;
 mod span;
 mod store;
 mod word_use;
 
+pub use operation::Operation;
 pub use slot::Slot;
 pub use store::Store;

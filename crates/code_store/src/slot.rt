@@ -1,33 +1,44 @@
-ghost use Rattle.std.specs.Prelude.{◌≡◌, IfSome};
-ghost use Rattle.rv_word.specs.Table.{decode_of};
-ghost use Rattle.rv_word.specs.Words.{HasWord};
-ghost use Rattle.rv_exec.specs.Flat.{instr_of};
+ghost use Rattle.std.specs.Prelude.{◌≡◌};
+ghost use Rattle.tramp_spec.specs.Marks.{inside_after, is_jump, is_own};
+ghost use Rattle.code_store.specs.Operations.{IsOperationOf};
 
-use rv_exec::{Flat, flattened};
-use rv_word::decode;
+use crate::operation::Operation;
+use rv_word::{Instr, decode};
 use std::marker::Model;
-use tramp_spec::MarkedWord;
+use tramp_spec::{Mark, MarkedWord};
 
-/// A marked word with its instruction beside it, so that it is decoded once however often it is executed. Contracts see
-/// the marked word.
+/// A marked word with what it does beside it, so that it is decoded once however often it is executed. Contracts see the
+/// marked word.
 #[derive(Drop)]
 pub struct Slot {
-    flat: Flat,
+    operation: Operation,
     marked: MarkedWord,
+    /// The word is a tick of the program.
+    is_tick: bool,
+    /// A hart that is inside stays so behind the word.
+    keeps_inside: bool,
+    /// A hart is inside behind the word.
+    enters: bool,
 }
 
 impl Model for Slot {
-    ghost use Rattle.std.specs.Prelude.{◌≡◌, IfSome};
-    ghost use Rattle.rv_word.specs.Table.{decode_of};
-    ghost use Rattle.rv_word.specs.Words.{HasWord};
-    ghost use Rattle.rv_exec.specs.Flat.{instr_of};
+    ghost use Rattle.std.specs.Prelude.{◌≡◌};
+    ghost use Rattle.tramp_spec.specs.Marks.{is_own};
     ghost use Rattle.tramp_spec.specs.declared.mark.MarkedWord.{MarkedWord};
+    ghost use Rattle.code_store.specs.Operations.{IsOperationOf, enters_by, keeps_by};
 
     ghost Value = { MarkedWord };
 
     ghost view = { λ s. s.marked };
 
-    ghost invariant = { λ s. (instr_of s.flat ≡ decode_of s.marked.word) × IfSome (instr_of s.flat) HasWord };
+    ghost invariant = { λ s. IsOperationOf s.marked s.operation × (s.is_tick ≡ is_own s.marked.mark) × (s.keeps_inside ≡ keeps_by s.marked.mark s.marked.word) × (s.enters ≡ enters_by s.marked.mark) };
+}
+
+/// Whether a word is a jump: jal or jalr.
+fn is_jump(word: u32) -> bool
+    ensures { result ≡ is_jump word }
+{
+    matches!(decode(word), Some(Instr::Jal { .. } | Instr::Jalr { .. }))
 }
 
 impl Slot {
@@ -36,8 +47,15 @@ impl Slot {
         ensures { result ≡ marked }
     {
         Slot {
-            flat: flattened(decode(marked.word)),
+            operation: Operation::new(marked),
             marked,
+            is_tick: marked.mark == Mark::Own,
+            keeps_inside: match marked.mark {
+                Mark::Own => !is_jump(marked.word),
+                Mark::Enter | Mark::Tool => true,
+                Mark::Leave => false,
+            },
+            enters: marked.mark == Mark::Enter,
         }
     }
 
@@ -49,12 +67,27 @@ impl Slot {
         self.marked
     }
 
-    /// The word's instruction, or that it is illegal.
+    /// What the word does.
     #[inline(always)]
-    pub fn flat(&self) -> &Flat
-        ensures instruction { instr_of result.now ≡ decode_of self.now.word }
-        ensures fits { IfSome (instr_of result.now) HasWord }
+    pub fn operation(&self) -> &Operation
+        ensures { IsOperationOf self.now result.now }
     {
-        &self.flat
+        &self.operation
+    }
+
+    /// Whether the word is a tick of the program.
+    #[inline(always)]
+    pub fn is_tick(&self) -> bool
+        ensures { result ≡ is_own self.now.mark }
+    {
+        self.is_tick
+    }
+
+    /// Whether a hart that goes on is inside behind the word.
+    #[inline(always)]
+    pub fn inside_after(&self, inside: bool) -> bool
+        ensures { result ≡ inside_after self.now.mark self.now.word inside }
+    {
+        inside & self.keeps_inside | self.enters
     }
 }
