@@ -11,3 +11,7 @@ pub mod Instruments
 pub mod Laws
 pub mod FirstTurns
 pub mod Leaving
+pub mod States
+pub mod Reached
+pub mod Codes
+pub mod Views

@@ -1,5 +1,5 @@
 -- A quantum of one turn is a turn.
-use Rattle.std.proofs.Common.{◌≡◌, ℕ, zero, suc, ◌≤◌, ap, subst, sym, ◌∙◌, arith, false, ⊎_elim}
+use Rattle.std.proofs.Common.{◌≡◌, ℕ, zero, suc, ◌≤◌, arith, false, ⊎_elim}
 use Rattle.std.specs.Prelude.{IsTrue}
 use Rattle.rv_word.specs.Plain.{can}
 use Rattle.plain_run.specs.Machines.{Machine, turned}

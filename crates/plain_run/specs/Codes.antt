@@ -2,24 +2,16 @@
 use Rattle.std.specs.Prelude.{ℕ, List, Option}
 use mathlib.Core.Path.{refl}
 use Rattle.std.specs.Coded.{Coded, code_by, coded×, coded_ℕ, coded_list, coded_option}
-use Rattle.rv_word.specs.Memory.{Memory, memory_code}
 use Rattle.rv_word.specs.declared.outcome.Cause.{Cause}
 use Rattle.rv_word.specs.contracts.outcome.Cause as cause_type
 use Rattle.rv_word.specs.Exec.{Prog}
 use Rattle.rv_word.specs.Plain.{Words, PlainHart, Plain}
+use Rattle.rv_exec.specs.Codes.{prog_code, words_code}
 use Rattle.plain_run.specs.Machines.{Machine}
-
-abbrev pub prog_code : Coded Prog
-prog_code =
-    code_by (Memory × (List (Option ℕ) × List ℕ)) (coded× memory_code (coded× (coded_list (coded_option coded_ℕ)) (coded_list coded_ℕ))) (λ p. (p.mem, (p.resv, p.out))) (λ t. record { mem = t.0; resv = t.1.0; out = t.1.1 }) (λ _. refl)
 
 abbrev pub hart_code : Coded PlainHart
 hart_code =
     code_by (ℕ × (List ℕ × (ℕ × Option Cause))) (coded× coded_ℕ (coded× (coded_list coded_ℕ) (coded× coded_ℕ (coded_option cause_type.the_row.coded)))) (λ h. (h.pc, (h.regs, (h.ticks, h.stop)))) (λ t. record { pc = t.0; regs = t.1.0; ticks = t.1.1.0; stop = t.1.1.1 }) (λ _. refl)
-
-abbrev pub words_code : Coded Words
-words_code =
-    code_by (ℕ × List ℕ) (coded× coded_ℕ (coded_list coded_ℕ)) (λ w. (w.at, w.words)) (λ t. record { at = t.0; words = t.1 }) (λ _. refl)
 
 abbrev pub plain_code : Coded Plain
 plain_code =

@@ -3,3 +3,4 @@ pub mod Run
 pub mod Gives
 pub mod Unreserved
 pub mod Flat
+pub mod Codes
