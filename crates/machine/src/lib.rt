@@ -2,6 +2,10 @@
 //! written, linked, unlinked and freed.
 #![tactic(auto)]
 
+mod block_list;
+mod hart;
 mod laws;
+mod machine;
 
 pub use laws::{erasure, first_turns, leaves_soon, levels_go_on, measures_add, replays_go_on};
+pub use machine::Machine;
