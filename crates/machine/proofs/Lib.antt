@@ -22,3 +22,5 @@ pub mod Sames
 pub mod Beginning
 pub mod Erasing
 pub mod Leaving
+pub mod Banked
+pub mod Performed

@@ -1,6 +1,17 @@
-use rv_exec::Regs;
-use rv_word::Cause;
+ghost use Rattle.std.specs.Prelude.{◌≡◌, ◌<◌, ◌+◌, ◌^◌, true, None, length};
+ghost use Rattle.rv_word.specs.Exec.{prog_of};
+ghost use Rattle.tramp_spec.specs.Codes.{fetched_at, is_tool_word};
+ghost use Rattle.tramp_spec.specs.Harts.{is_tick, step_of};
+ghost use Rattle.machine.specs.Performing.{home_in_store, solo_of};
+
+use crate::performing::perform;
+use code_store::Store;
+use pn_types::HartNo;
+use rv_exec::{Output, Regs, Reservations};
+use rv_mem::Mem;
+use rv_word::{Cause, jump_target};
 use std::marker::Model;
+use tramp_spec::Mark;
 
 /// What one hart has. Contracts see the definitions' record of it.
 #[derive(Drop)]
@@ -26,4 +37,75 @@ impl Model for HartState {
     ghost view = { λ h. record { pc = h.pc; regs = h.regs; ticks = h.ticks; stop = h.stop; inside = h.inside; bank = h.bank.items } };
 
     ghost invariant = { λ h. length h.bank.items ≡ bank_len };
+}
+
+/// The home of a pc: the point of the block in which a hart stands that is inside, but behind the program's word the address
+/// to which it leaves.
+#[inline(never)]
+fn home(store: &Store, pc: u64, inside: bool) -> u64
+    requires { inside ≡ true → is_tool_word store.now.program pc ≡ true }
+    ensures { result ≡ home_in_store store.now pc inside }
+{
+    if !inside {
+        return pc;
+    }
+    let Some(point) = store.owner(pc) else {
+        return pc;
+    };
+    match store.fetch(pc, true) {
+        Some(word) if word.mark == Mark::Leave => jump_target(word.word, pc).unwrap_or(point),
+        _ => point,
+    }
+}
+
+impl HartState {
+    /// One turn of a hart that isn't stopped. It answers whether the turn is a tick, and takes no memory.
+    #[inline(always)]
+    pub fn take_turn(
+        &mut self,
+        number: HartNo,
+        store: &Store,
+        mem: &mut Mem,
+        resv: &mut Reservations,
+        out: &mut Output,
+    ) -> bool
+        requires number { number < length resv.old }
+        requires running { self.old.stop ≡ None }
+        requires placed { self.old.inside ≡ true → is_tool_word store.now.program self.old.pc ≡ true }
+        requires countable { is_tick (fetched_at store.now.program store.now.code self.old.pc self.old.inside) ≡ true → self.old.ticks + 1 < 2 ^ 64 }
+        ensures tick { result ≡ is_tick (fetched_at store.now.program store.now.code self.old.pc self.old.inside) }
+        ensures turned { solo_of self.new (prog_of mem.new resv.new out.new) ≡ step_of (fetched_at store.now.program store.now.code self.old.pc self.old.inside) number (home_in_store store.now self.old.pc self.old.inside) (solo_of self.old (prog_of mem.old resv.old out.old)) }
+        ensures harts { length resv.new ≡ length resv.old }
+    {
+        let at = self.pc;
+        let Some(slot) = store.slot(at, self.inside) else {
+            self.pc = home(store, at, self.inside);
+            self.stop = Some(Cause::FetchOutside);
+            self.inside = false;
+            self.ticks += 1;
+            return true;
+        };
+        let ticks = self.ticks;
+        let goes = perform(
+            slot,
+            number,
+            ticks,
+            &mut self.pc,
+            &mut self.stop,
+            &mut self.regs,
+            self.bank.as_mut_slice(),
+            mem,
+            resv,
+            out,
+        );
+        let is_tick = slot.is_tick();
+        self.ticks = ticks + is_tick as u64;
+        if goes {
+            self.inside = slot.inside_after(self.inside);
+        } else {
+            self.pc = home(store, at, self.inside);
+            self.inside = false;
+        }
+        is_tick
+    }
 }
