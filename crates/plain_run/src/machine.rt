@@ -3,8 +3,8 @@ ghost use Rattle.std.specs.List.{filter};
 ghost use Rattle.std.specs.Option.{option_map};
 ghost use Rattle.pn_types.specs.Images.{IsImage};
 ghost use Rattle.rv_word.specs.Plain.{can, may_go};
-ghost use Rattle.rv_mem.specs.Start.{program_of, heap_len, stack_len};
-ghost use Rattle.rv_exec.specs.Start.{start, start_regs, harts_from};
+ghost use Rattle.rv_mem.specs.Start.{program_of};
+ghost use Rattle.rv_exec.specs.Start.{start, harts_from};
 ghost use Rattle.turn_order.specs.Orders.{ready_of};
 ghost use Rattle.plain_run.specs.Views.{hart_of, harts_of, ready_harts};
 ghost use Rattle.plain_run.specs.Machines.{turned};
@@ -14,7 +14,7 @@ use crate::hart::{HartState, take_turns};
 use crate::program::words;
 use pn_types::{HartNo, Image, MAX_HARTS, NoMemory};
 use rv_exec::{Decoded, Output, Regs, Reservations};
-use rv_mem::{FIRST_STACK_AT, HEAP_AT, HEAP_LEN, Mem, STACK_DISTANCE, STACK_LEN};
+use rv_mem::Mem;
 use rv_word::Cause;
 use std::alloc::Global;
 use std::marker::Model;
@@ -51,34 +51,9 @@ impl Model for PlainMachine {
     ghost invariant = { λ m. (length m.resv ≡ length m.harts.items) × (m.text_at + 4 * length m.words.items < 2 ^ 64) × (m.ready ≡ ready_harts m.budget m.harts.items) };
 }
 
-/// The registers with which a hart starts.
-fn first_regs(number: u32, harts: u32, heap: u32, stack: u32) -> Regs
-    requires number { number < MAX_HARTS }
-    requires heap { heap ≡ heap_len }
-    requires stack { stack ≡ stack_len }
-    ensures { result ≡ start_regs number harts }
-{
-    let mut regs = Regs::new();
-    regs.set(10, number as u64);
-    regs.set(11, harts as u64);
-    regs.set(12, HEAP_AT);
-    regs.set(13, heap as u64);
-    let stack_at = FIRST_STACK_AT + number as u64 * STACK_DISTANCE;
-    regs.set(2, stack_at + stack as u64);
-    regs
-}
-
 /// The harts as they start.
-fn first_harts(
-    alloc: Global,
-    image: &Image,
-    harts: u32,
-    heap: u32,
-    stack: u32,
-) -> Result<Vec<HartState>, NoMemory>
-    requires harts { harts ≤ MAX_HARTS }
-    requires heap { heap ≡ heap_len }
-    requires stack { stack ≡ stack_len }
+fn first_harts(alloc: Global, image: &Image, harts: u32) -> Result<Vec<HartState>, NoMemory>
+    requires { harts ≤ MAX_HARTS }
     ensures states { IfOk result (λ states. harts_of states.items ≡ harts_from harts 0 image.now harts) }
     ensures len { IfOk result (λ states. length states.items ≡ harts) }
 {
@@ -86,7 +61,7 @@ fn first_harts(
     for number in 0..harts {
         states.push(HartState {
             pc: image.entry,
-            regs: first_regs(number, harts, heap, stack),
+            regs: Regs::first(number, harts),
             ticks: 0,
             stop: None,
         })?;
@@ -131,7 +106,7 @@ impl PlainMachine {
         ensures { IfOk result (λ m. m ≡ record { program = program_of image.now; budget = budget; state = start image.now harts }) }
     {
         let words = words(alloc, image.text_bytes())?;
-        let states = first_harts(alloc, image, harts, HEAP_LEN as u32, STACK_LEN as u32)?;
+        let states = first_harts(alloc, image, harts)?;
         let ready = ready(alloc, &states, budget)?;
         Ok(PlainMachine {
             harts: states,

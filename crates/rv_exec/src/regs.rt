@@ -1,6 +1,10 @@
 ghost use Rattle.std.specs.Prelude.{◌≡◌, ◌<◌, replicate};
 ghost use Rattle.rv_word.specs.Registers.{reg, with_reg};
+ghost use Rattle.rv_mem.specs.Start.{heap_len, stack_len};
+ghost use Rattle.rv_exec.specs.Start.{start_regs};
 
+use pn_types::MAX_HARTS;
+use rv_mem::{FIRST_STACK_AT, HEAP_AT, HEAP_LEN, STACK_DISTANCE, STACK_LEN};
 use std::marker::Model;
 
 /// The registers x0 to x31 of a hart, of which x0 reads as 0. Contracts see the list of the 32 numbers.
@@ -27,6 +31,14 @@ impl Regs {
         Regs { x: [0; 32] }
     }
 
+    /// The registers with which a hart of so many starts.
+    pub fn first(number: u32, harts: u32) -> Regs
+        requires { number < MAX_HARTS }
+        ensures { result ≡ start_regs number harts }
+    {
+        first_regs(number, harts, HEAP_LEN as u32, STACK_LEN as u32)
+    }
+
     /// What register r holds; x0 holds 0.
     #[tactic(auto, unfolding(rv_word::specs::Registers::reg))]
     pub fn get(&self, r: u32) -> u64
@@ -46,4 +58,21 @@ impl Regs {
             self.x[r as usize] = v;
         }
     }
+}
+
+/// The same, by the lengths of the heap and of a stack.
+fn first_regs(number: u32, harts: u32, heap: u32, stack: u32) -> Regs
+    requires number { number < MAX_HARTS }
+    requires heap { heap ≡ heap_len }
+    requires stack { stack ≡ stack_len }
+    ensures { result ≡ start_regs number harts }
+{
+    let mut regs = Regs::new();
+    regs.set(10, number as u64);
+    regs.set(11, harts as u64);
+    regs.set(12, HEAP_AT);
+    regs.set(13, heap as u64);
+    let stack_at = FIRST_STACK_AT + number as u64 * STACK_DISTANCE;
+    regs.set(2, stack_at + stack as u64);
+    regs
 }

@@ -8,5 +8,5 @@ loop-number-preserved c =
     let here : c.loop-number.number < c.args.harts = c.loop-number-test.true in
     record {
       len = grind (arith, common_steps);
-      states = hart_step c.loop-number.states.items c.push.new.self.items _ c.args.image.now c.args.harts c.loop-number.number here c.in_ok-push.ensures.items (ap (λ regs. record { pc = c.args.image.now.entry; regs = regs; ticks = 0; stop = _ }) c.first_regs.ensures) ∙ c.loop-number.invariant.states;
+      states = hart_step c.loop-number.states.items c.push.new.self.items _ c.args.image.now c.args.harts c.loop-number.number here c.in_ok-push.ensures.items (ap (λ regs. record { pc = c.args.image.now.entry; regs = regs; ticks = 0; stop = _ }) c.first.ensures) ∙ c.loop-number.invariant.states;
     }

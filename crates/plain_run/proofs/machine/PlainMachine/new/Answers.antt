@@ -1,17 +1,8 @@
-use Rattle.std.proofs.Common.{refl, ◌∙◌, ap, sym, subst, length, ℕ, Option, ◌+◌, ◌*◌, ◌<◌, ◌^◌}
+use Rattle.std.proofs.Common.{◌∙◌, ap, sym, subst, length, ℕ, Option, ◌+◌, ◌*◌, ◌<◌, ◌^◌}
 use Rattle.rv_word.specs.Names.{words_of}
 use Rattle.plain_run.proofs.Programs.{words_end}
 use Rattle.std.proofs.lemmas.List.{length-replicate}
-use Rattle.rv_mem.specs.Start.{heap_len, stack_len}
 use Rattle.plain_run.proofs.machine.PlainMachine.new.Goals as goal
-
-pub first_harts-requires-clause-heap : goal.first_harts-requires-clause-heap
-unfolding heap_len
-first_harts-requires-clause-heap c = refl
-
-pub first_harts-requires-clause-stack : goal.first_harts-requires-clause-stack
-unfolding stack_len
-first_harts-requires-clause-stack c = refl
 
 pub invariant_of-result : goal.invariant_of-result
 invariant_of-result c = (
