@@ -24,3 +24,5 @@ pub mod Erasing
 pub mod Leaving
 pub mod Banked
 pub mod Performed
+pub mod Reaches
+pub mod Taking

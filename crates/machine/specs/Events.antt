@@ -78,9 +78,13 @@ Apart at len other more = (at + 4 * len ≤ other) ⊎ (other + 4 * more ≤ at)
 abbrev pub StandsIn : Core → Row → Type 0
 StandsIn c r = (h : ℕ) × (x : Hart) × (slice_get c.harts h ≡ Some x) × (x.inside ≡ true) × IsTrue (holds r x.pc)
 
+-- no hart of these is inside
+abbrev pub AreOutside : List Hart → Type 0
+AreOutside harts = (h : ℕ) (x : Hart) → slice_get harts h ≡ Some x → x.inside ≡ false
+
 -- no hart is inside
 abbrev pub IsQuiet : Core → Type 0
-IsQuiet c = (h : ℕ) (x : Hart) → slice_get c.harts h ≡ Some x → x.inside ≡ false
+IsQuiet c = AreOutside c.harts
 
 -- a base block's point has no other that isn't retired, and its head is its own tail; a mini block may have any next
 abbrev pub HasShape : Core → Block → Bool → Type 0

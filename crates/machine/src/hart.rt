@@ -1,8 +1,9 @@
-ghost use Rattle.std.specs.Prelude.{◌≡◌, ◌<◌, ◌+◌, ◌^◌, true, None, length};
+ghost use Rattle.std.specs.Prelude.{◌≡◌, ◌<◌, ◌+◌, ◌^◌, true, None, Some, length};
 ghost use Rattle.rv_word.specs.Exec.{prog_of};
 ghost use Rattle.tramp_spec.specs.Codes.{fetched_at, is_tool_word};
 ghost use Rattle.tramp_spec.specs.Harts.{is_tick, step_of};
 ghost use Rattle.machine.specs.Performing.{home_in_store, solo_of};
+ghost use Rattle.machine.specs.Turns.{may_turn};
 
 use crate::performing::perform;
 use code_store::Store;
@@ -59,6 +60,42 @@ fn home(store: &Store, pc: u64, inside: bool) -> u64
 }
 
 impl HartState {
+    /// How many of the program's words the hart executed.
+    pub fn ticks(&self) -> u64
+        ensures { result ≡ self.now.ticks }
+    {
+        self.ticks
+    }
+
+    /// Why the hart stopped.
+    pub fn stop(&self) -> Option<Cause>
+        ensures { result ≡ self.now.stop }
+    {
+        self.stop
+    }
+
+    /// Whether the hart is inside a trampoline.
+    pub fn is_inside(&self) -> bool
+        ensures { result ≡ self.now.inside }
+    {
+        self.inside
+    }
+
+    /// Whether the hart isn't stopped, and is inside or has fewer ticks than the budget.
+    pub fn may_turn(&self, budget: u64) -> bool
+        ensures { result ≡ may_turn (Some self.now) budget }
+    {
+        self.stop.is_none() && (self.inside || self.ticks < budget)
+    }
+
+    /// The home of the hart's pc.
+    pub fn home(&self, store: &Store) -> u64
+        requires { self.now.inside ≡ true → is_tool_word store.now.program self.now.pc ≡ true }
+        ensures { result ≡ home_in_store store.now self.now.pc self.now.inside }
+    {
+        home(store, self.pc, self.inside)
+    }
+
     /// One turn of a hart that isn't stopped. It answers whether the turn is a tick, and takes no memory.
     #[inline(always)]
     pub fn take_turn(

@@ -1,8 +1,18 @@
+ghost use Rattle.std.specs.Prelude.{◌≡◌, ◌<◌, Some, IsTrue, length, slice_get, ◌↔◌};
+ghost use Rattle.std.specs.Option.{option_map};
+ghost use Rattle.machine.specs.Effects.{after};
+ghost use Rattle.machine.specs.Events.{AreOutside, IsQuiet, Turn};
+ghost use Rattle.machine.specs.Places.{program_pc};
+ghost use Rattle.machine.specs.States.{with_core};
+ghost use Rattle.machine.specs.Turns.{is_runnable, ticks_next};
+
 use crate::block_list::Blocks;
 use crate::hart::HartState;
 use code_store::Store;
+use pn_types::HartNo;
 use rv_exec::{Output, Reservations};
 use rv_mem::Mem;
+use rv_word::Cause;
 use std::marker::Model;
 
 /// The patched machine: a program on its harts, each with a budget of ticks and a bank for the tool, and the blocks in its
@@ -31,4 +41,81 @@ impl Model for Machine {
     ghost view = { λ m. record { core = core_of m.harts.items (prog_of m.mem m.resv m.out) m.store m.blocks.rows m.budget; room = m.blocks.room } };
 
     ghost invariant = { λ m. IsSound m.harts.items (prog_of m.mem m.resv m.out) m.store m.blocks.rows m.budget };
+}
+
+/// Whether no hart is inside a trampoline.
+fn none_inside(harts: &[HartState]) -> bool
+    ensures { IsTrue result ↔ AreOutside harts.now }
+{
+    for hart in harts {
+        if hart.is_inside() {
+            return false;
+        }
+    }
+    true
+}
+
+impl Machine {
+    /// How many of its words the hart executed.
+    pub fn ticks(&self, hart: HartNo) -> u64
+        requires { hart < length self.now.core.harts }
+        ensures { option_map (λ x. x.ticks) (slice_get self.now.core.harts hart) ≡ Some result }
+    {
+        self.harts[hart.get() as usize].ticks()
+    }
+
+    /// Why the hart stopped, or none where it isn't stopped.
+    pub fn stop(&self, hart: HartNo) -> Option<Cause>
+        requires { hart < length self.now.core.harts }
+        ensures { option_map (λ x. x.stop) (slice_get self.now.core.harts hart) ≡ Some result }
+    {
+        self.harts[hart.get() as usize].stop()
+    }
+
+    /// Where the program's hart is: the hart's pc, and inside a trampoline the home of that. Of a stopped hart it is the pc of its
+    /// last word.
+    pub fn at(&self, hart: HartNo) -> u64
+        requires { hart < length self.now.core.harts }
+        ensures { option_map (program_pc self.now.core.code self.now.core.rows) (slice_get self.now.core.harts hart) ≡ Some result }
+    {
+        self.harts[hart.get() as usize].home(&self.store)
+    }
+
+    /// What the program wrote.
+    pub fn output(&self) -> &[u8]
+        ensures { result.now ≡ self.now.core.prog.out }
+    {
+        self.out.bytes()
+    }
+
+    /// Whether the hart isn't stopped, and is inside a trampoline or has fewer ticks than the budget.
+    pub fn runnable(&self, hart: HartNo) -> bool
+        requires { hart < length self.now.core.harts }
+        ensures { result ≡ is_runnable self.now.core hart }
+    {
+        self.harts[hart.get() as usize].may_turn(self.budget)
+    }
+
+    /// Whether no hart is inside a trampoline.
+    pub fn quiet(&self) -> bool
+        ensures { IsTrue result ↔ IsQuiet self.now.core }
+    {
+        none_inside(&self.harts)
+    }
+
+    /// One turn of the hart, which is runnable. It answers whether the turn is a tick, and takes no memory.
+    pub fn turn(&mut self, hart: HartNo) -> bool
+        requires hart { hart < length self.old.core.harts }
+        requires runnable { IsTrue (is_runnable self.old.core hart) }
+        ensures turned { self.new ≡ with_core self.old (after self.old.core (Turn hart)) }
+        ensures tick { result ≡ ticks_next self.old.core hart }
+    {
+        self.harts[hart.get() as usize].take_turn(
+            hart,
+            &self.store,
+            &mut self.mem,
+            &mut self.resv,
+            &mut self.out,
+        )
+    }
 }
