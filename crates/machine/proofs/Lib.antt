@@ -26,3 +26,4 @@ pub mod Banked
 pub mod Performed
 pub mod Reaches
 pub mod Taking
+pub mod Firsts

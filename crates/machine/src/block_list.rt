@@ -1,5 +1,6 @@
-ghost use Rattle.std.specs.Prelude.{◌≡◌};
+ghost use Rattle.std.specs.Prelude.{◌≡◌, []};
 
+use std::alloc::Global;
 use std::marker::Model;
 
 /// How far a block is.
@@ -44,4 +45,16 @@ impl Model for Blocks {
     ghost view = { λ b. record { rows = map row_of b.rows.items; room = b.room } };
 
     ghost invariant = { λ b. length b.rows.items + b.room ≤ vec_capacity b.rows };
+}
+
+impl Blocks {
+    /// No block, and no room.
+    pub fn new(alloc: Global) -> Blocks
+        ensures { result ≡ record { rows = []; room = 0 } }
+    {
+        Blocks {
+            rows: Vec::new(alloc),
+            room: 0,
+        }
+    }
 }

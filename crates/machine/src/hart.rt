@@ -1,16 +1,19 @@
-ghost use Rattle.std.specs.Prelude.{◌≡◌, ◌<◌, ◌+◌, ◌^◌, true, None, Some, length};
+ghost use Rattle.std.specs.Prelude.{◌≡◌, ◌<◌, ◌+◌, ◌^◌, true, None, Some, IfOk, length};
 ghost use Rattle.rv_word.specs.Exec.{prog_of};
+ghost use Rattle.tramp_spec.specs.Banks.{bank_len};
 ghost use Rattle.tramp_spec.specs.Codes.{fetched_at, is_tool_word};
 ghost use Rattle.tramp_spec.specs.Harts.{is_tick, step_of};
+ghost use Rattle.machine.specs.Cores.{first_hart};
 ghost use Rattle.machine.specs.Performing.{home_in_store, solo_of};
 ghost use Rattle.machine.specs.Turns.{may_turn};
 
 use crate::performing::perform;
 use code_store::Store;
-use pn_types::HartNo;
+use pn_types::{BANK_LEN, HartNo, NoMemory};
 use rv_exec::{Output, Regs, Reservations};
 use rv_mem::Mem;
 use rv_word::{Cause, jump_target};
+use std::alloc::Global;
 use std::marker::Model;
 use tramp_spec::Mark;
 
@@ -60,6 +63,33 @@ fn home(store: &Store, pc: u64, inside: bool) -> u64
 }
 
 impl HartState {
+    /// A hart that starts outside, with nothing in its bank.
+    pub fn first(alloc: Global, pc: u64, regs: Regs) -> Result<HartState, NoMemory>
+        ensures { IfOk result (λ hart. hart ≡ first_hart (record { pc = pc; regs = regs; ticks = 0; stop = None })) }
+    {
+        HartState::with_bank(alloc, pc, regs, BANK_LEN as usize)
+    }
+
+    /// The same, with so many doublewords in its bank.
+    fn with_bank(
+        alloc: Global,
+        pc: u64,
+        regs: Regs,
+        len: usize,
+    ) -> Result<HartState, NoMemory>
+        requires { len ≡ bank_len }
+        ensures { IfOk result (λ hart. hart ≡ first_hart (record { pc = pc; regs = regs; ticks = 0; stop = None })) }
+    {
+        Ok(HartState {
+            pc,
+            regs,
+            ticks: 0,
+            stop: None,
+            inside: false,
+            bank: vec![in alloc; 0; len]?,
+        })
+    }
+
     /// How many of the program's words the hart executed.
     pub fn ticks(&self) -> u64
         ensures { result ≡ self.now.ticks }

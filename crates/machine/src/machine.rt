@@ -1,5 +1,9 @@
-ghost use Rattle.std.specs.Prelude.{◌≡◌, ◌<◌, Some, IsTrue, length, slice_get, ◌↔◌};
+ghost use Rattle.std.specs.Prelude.{◌≡◌, ◌<◌, ◌≤◌, ◌↔◌, None, Some, IfOk, IsTrue, length, map, slice_get};
 ghost use Rattle.std.specs.Option.{option_map};
+ghost use Rattle.pn_types.specs.Images.{IsImage, text_of};
+ghost use Rattle.rv_word.specs.Names.{scratch_in, words_of};
+ghost use Rattle.rv_exec.specs.Start.{harts_from};
+ghost use Rattle.machine.specs.Cores.{first_hart, start_core};
 ghost use Rattle.machine.specs.Effects.{after};
 ghost use Rattle.machine.specs.Events.{AreOutside, IsQuiet, Turn};
 ghost use Rattle.machine.specs.Places.{program_pc};
@@ -9,10 +13,11 @@ ghost use Rattle.machine.specs.Turns.{is_runnable, ticks_next};
 use crate::block_list::Blocks;
 use crate::hart::HartState;
 use code_store::Store;
-use pn_types::HartNo;
-use rv_exec::{Output, Reservations};
+use pn_types::{HartNo, Image, MAX_HARTS, NoMemory};
+use rv_exec::{Output, Regs, Reservations};
 use rv_mem::Mem;
 use rv_word::Cause;
+use std::alloc::Global;
 use std::marker::Model;
 
 /// The patched machine: a program on its harts, each with a budget of ticks and a bank for the tool, and the blocks in its
@@ -55,7 +60,45 @@ fn none_inside(harts: &[HartState]) -> bool
     true
 }
 
+/// The harts as they start.
+fn first_harts(alloc: Global, image: &Image, harts: u32) -> Result<Vec<HartState>, NoMemory>
+    requires { harts ≤ MAX_HARTS }
+    ensures first { IfOk result (λ states. states.items ≡ map first_hart (harts_from harts 0 image.now harts)) }
+    ensures len { IfOk result (λ states. length states.items ≡ harts) }
+{
+    let mut states = Vec::with_capacity(alloc, harts as usize)?;
+    for number in 0..harts {
+        let regs = Regs::first(number, harts);
+        states.push(HartState::first(alloc, image.entry, regs)?)?;
+    }
+    Ok(states)
+}
+
 impl Machine {
+    /// The machine in which an image starts, on so many harts and with so many ticks for each. It has no block, and no room for
+    /// one. No word of the text may name x31, which is the tool's.
+    pub fn new(
+        alloc: Global,
+        image: &Image,
+        harts: u32,
+        budget: u64,
+    ) -> Result<Machine, NoMemory>
+        requires image { IsImage image.now }
+        requires unscratched { scratch_in (words_of (text_of image.now)) image.now.text_at ≡ None }
+        requires harts { harts ≤ MAX_HARTS }
+        ensures { IfOk result (λ m. m ≡ record { core = start_core image.now harts budget; room = 0 }) }
+    {
+        Ok(Machine {
+            harts: first_harts(alloc, image, harts)?,
+            mem: Mem::new(alloc, image, harts)?,
+            resv: Reservations::new(alloc, harts)?,
+            out: Output::new(alloc)?,
+            store: Store::new(alloc, image)?,
+            blocks: Blocks::new(alloc),
+            budget,
+        })
+    }
+
     /// How many of its words the hart executed.
     pub fn ticks(&self, hart: HartNo) -> u64
         requires { hart < length self.now.core.harts }
