@@ -1,10 +1,11 @@
 -- What a machine begins with.
-use Rattle.std.proofs.Common.{◌≡◌, ℕ, zero, suc, ◌+◌, ◌-◌, ◌^◌, ◌<◌, List, [], ◌∷◌, ◌++◌, length, replicate, Option, None, refl, sym, ap, ◌∙◌, subst, arith, append_assoc}
+use Rattle.std.proofs.Common.{◌≡◌, ℕ, zero, suc, ◌+◌, ◌-◌, ◌^◌, ◌<◌, ◌≤◌, List, [], ◌∷◌, ◌++◌, length, replicate, Option, None, refl, sym, ap, ◌∙◌, subst, arith, append_assoc}
 use Rattle.std.specs.Prelude.{map}
 use Rattle.std.specs.FinMap.{get-empty}
 use Rattle.std.specs.Ordering.{nat_cmp}
 use Rattle.std.proofs.lemmas.List.{length-map, length-replicate}
 use Rattle.pn_types.specs.Images.{IsImage, text_of}
+use Rattle.pn_types.specs.declared.limits.TheConstants.{MAX_HARTS}
 use Rattle.pn_types.specs.declared.image.Image.{Image}
 use Rattle.rv_word.specs.Names.{scratch_in, words_of}
 use Rattle.rv_exec.specs.Start.{start, start_hart, harts_from}
@@ -27,11 +28,12 @@ length_harts : (more h n : ℕ) (image : Image) → length (harts_from more h im
 length_harts zero h n image = refl
 length_harts (suc more) h n image = ap suc (length_harts more (h + 1) n image)
 
-pub first_sound : (image : Image) (n budget : ℕ) → IsProgram image → budget < 2 ^ 64 → IsSound (map first_hart (harts_from n 0 image n)) (start image n).prog (first_code image) [] budget
-first_sound image n budget p low =
+pub first_sound : (image : Image) (n budget : ℕ) → IsProgram image → n ≤ MAX_HARTS → budget < 2 ^ 64 → IsSound (map first_hart (harts_from n 0 image n)) (start image n).prog (first_code image) [] budget
+first_sound image n budget p few low =
     record {
       reached = record { image = image; many = n; events = []; program = p; legal = tt; is = refl };
       owners = λ a. get-empty nat_cmp a;
       reservations = length-replicate {A = Option ℕ} n None ∙ sym (length-map (harts_from n 0 image n) first_hart ∙ length_harts n 0 n image);
+      few = subst (λ m. m ≤ MAX_HARTS) (sym (length-map (harts_from n 0 image n) first_hart ∙ length_harts n 0 n image)) few;
       countable = low;
     }

@@ -27,3 +27,5 @@ pub mod Performed
 pub mod Reaches
 pub mod Taking
 pub mod Firsts
+pub mod Packing
+pub mod Settled

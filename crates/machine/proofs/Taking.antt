@@ -3,6 +3,7 @@ use Rattle.std.proofs.Common.{◌≡◌, ℕ, ◌+◌, ◌^◌, ◌<◌, ◌≤�
 use Rattle.std.specs.Prelude.{Bool, true, false, IsTrue, map, slice_get, slice_set}
 use Rattle.std.specs.Option.{option_map}
 use Rattle.std.proofs.lemmas.Option.{slice_get-get_or}
+use Rattle.pn_types.specs.declared.limits.TheConstants.{MAX_HARTS}
 use Rattle.rv_word.specs.Exec.{Prog}
 use Rattle.tramp_spec.specs.Codes.{fetched_at, is_tool_word}
 use Rattle.tramp_spec.specs.Harts.{Hart, Solo, step_of, is_tick}
@@ -47,5 +48,6 @@ module _ (harts : List Hart) (p : Prog) (s : StoredCode) (rows : List Row) (budg
           reached = subst IsReached (sym turned_is) (reaches_more core (Turn h) sound.reached may);
           owners = sound.owners;
           reservations = e ∙ (sound.reservations ∙ sym (length_slice_set harts h z));
+          few = subst (λ n. n ≤ MAX_HARTS) (sym (length_slice_set harts h z)) sound.few;
           countable = sound.countable;
         }

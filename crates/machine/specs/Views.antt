@@ -1,5 +1,6 @@
 -- For proofs alone: the parts of a machine as the definitions have them.
-use Rattle.std.specs.Prelude.{◌≡◌, ℕ, ◌<◌, ◌^◌, List, length, map}
+use Rattle.std.specs.Prelude.{◌≡◌, ℕ, ◌<◌, ◌≤◌, ◌^◌, List, length, map}
+use Rattle.pn_types.specs.declared.limits.TheConstants.{MAX_HARTS}
 use Rattle.rv_word.specs.Memory.{Memory}
 use Rattle.rv_word.specs.Exec.{Prog, prog_of}
 use Rattle.tramp_spec.specs.Harts.{Hart}
@@ -32,4 +33,5 @@ pub record IsSound (harts : List Hart) (prog : Prog) (store : StoredCode) (rows 
   pub reached : IsReached (core_of harts prog store rows budget)
   pub owners : AreOwners store.owners rows
   pub reservations : length prog.resv ≡ length harts
+  pub few : length harts ≤ MAX_HARTS
   pub countable : budget < 2 ^ 64
