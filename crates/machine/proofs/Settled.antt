@@ -1,7 +1,7 @@
 -- Settling: every hart is outside behind it.
 use Rattle.std.proofs.Common.{◌≡◌, ℕ, zero, suc, ◌+◌, ◌<◌, ◌≤◌, List, [], ◌∷◌, ◌++◌, length, Option, Some, None, refl, sym, ap, ◌∙◌, subst, arith, ⊎_elim, inl, inr}
 use Rattle.std.specs.Prelude.{Bool, true, false, cond, not, is_none, IsTrue, slice_get, slice_set, ◌⊎◌, ◌||◌, ◌==◌}
-use Rattle.std.proofs.lemmas.Bool.{true≢false, cases_eq}
+use Rattle.std.proofs.lemmas.Bool.{true≢false, cases_eq, cond-true, cond-false}
 use Rattle.std.proofs.lemmas.Grind.{common_steps}
 use Rattle.std.proofs.lemmas.Option.{slice_get_within}
 use Rattle.rv_word.specs.Plain.{Words}
@@ -12,9 +12,9 @@ use Rattle.machine.specs.Effects.{after}
 use Rattle.machine.specs.Events.{Event, Turn, IsQuiet}
 use Rattle.machine.specs.Leaving.{words_at, is_out, is_out_now, OutWithin, OutSoon}
 use Rattle.machine.specs.Reached.{IsReached}
-use Rattle.machine.specs.Replays.{replay, Legal}
+use Rattle.machine.specs.Replays.{replay, owns, Legal}
 use Rattle.machine.specs.States.{words_in, leaving, settling_from, settling}
-use Rattle.machine.specs.Turns.{turn, turn_by, may_turn, is_runnable}
+use Rattle.machine.specs.Turns.{turn, ticks_next, turn_by, may_turn, is_runnable}
 use Rattle.machine.proofs.Leaving.{leaves_soon}
 use Rattle.machine.proofs.Lists.{get_set_other, length_slice_set}
 use Rattle.machine.proofs.Reaches.{good, reaches_more}
@@ -140,3 +140,35 @@ settled_quiet c r h x e =
     let len = k.len in
     let out : (not (is_none x.stop) || not x.inside) ≡ true = subst (λ o. is_out_now o ≡ true) e (k.out h (omega arith)) in
     stopped_outside d (reaches_all (settling c) c r k.legal) h x e x.stop refl out
+
+-- ---- turn by turn
+
+one_left : (k h : ℕ) (c : Core) → is_out c h ≡ false → leaving (suc k) h c ≡ Turn h ∷ leaving k h (turn c h)
+one_left k h c e = cond-false (is_out c h) [] (Turn h ∷ leaving k h (turn c h)) e
+
+pub none_left : (n h : ℕ) (c : Core) → is_out c h ≡ true → leaving n h c ≡ []
+none_left zero h c e = refl
+none_left (suc n) h c e = cond-true (is_out c h) [] (Turn h ∷ leaving n h (turn c h)) e
+
+pub rest_left : (n k h : ℕ) (c : Core) → n ≡ suc k → is_out c h ≡ false → replay (leaving k h (turn c h)) (turn c h) ≡ replay (leaving n h c) c
+rest_left n k h c s e = sym (ap (λ m. replay (leaving m h c) c) s ∙ ap (λ es. replay es c) (one_left k h c e))
+
+-- a turn counts among all turns, and as a tick or as none
+abbrev Counts : ℕ → ℕ → ℕ → List Event → Core → Type 0
+Counts count owned total es c = count + owned + length es ≡ total + length (owns es c)
+
+counts_turn : (tick : Bool) (h count owned total : ℕ) (es : List Event) (d : Core) → count + owned + suc (length es) ≡ total + length (cond tick (h ∷ []) [] ++ owns es d) → Counts (count + cond (not tick) 1 0) owned total es d
+counts_turn true h count owned total es d e = let f : count + owned + suc (length es) ≡ total + suc (length (owns es d)) = e in omega arith
+counts_turn false h count owned total es d e = omega arith
+
+pub counts_left : (n k h count owned total : ℕ) (c : Core) (tick : Bool) → n ≡ suc k → is_out c h ≡ false → tick ≡ ticks_next c h → Counts count owned total (leaving n h c) c → Counts (count + cond (not tick) 1 0) owned total (leaving k h (turn c h)) (turn c h)
+counts_left n k h count owned total c tick s e t counted =
+    let first : Counts count owned total (Turn h ∷ leaving k h (turn c h)) c = subst (λ es. Counts count owned total es c) (ap (λ m. leaving m h c) s ∙ one_left k h c e) counted in
+    counts_turn tick h count owned total (leaving k h (turn c h)) (turn c h) (subst (λ b. count + owned + suc (length (leaving k h (turn c h))) ≡ total + length (cond b (h ∷ []) [] ++ owns (leaving k h (turn c h)) (turn c h))) (sym t) first)
+
+pub turn_len : (c : Core) (h : ℕ) → length (turn c h).harts ≡ length c.harts
+turn_len c h = (turn_same (slice_get c.harts h) c h).len
+
+pub one_more : (count turns : ℕ) (tick : Bool) → count ≤ turns → count + cond (not tick) 1 0 ≤ turns + 1
+one_more count turns true l = omega arith
+one_more count turns false l = omega arith

@@ -1,4 +1,7 @@
-ghost use Rattle.std.specs.Prelude.{◌≡◌, []};
+ghost use Rattle.std.specs.Prelude.{◌≡◌, ◌*◌, ◌≤◌, [], map};
+ghost use Rattle.pn_types.specs.declared.limits.TheConstants.{TOOL_TEXT_LEN};
+ghost use Rattle.machine.specs.States.{words_in};
+ghost use Rattle.machine.specs.Views.{row_of};
 
 use std::alloc::Global;
 use std::marker::Model;
@@ -47,6 +50,18 @@ impl Model for Blocks {
     ghost invariant = { λ b. length b.rows.items + b.room ≤ vec_capacity b.rows };
 }
 
+/// How many words the blocks have.
+fn words_of(rows: &[BlockRow]) -> u32
+    requires { 4 * words_in (map row_of rows.now) ≤ TOOL_TEXT_LEN }
+    ensures { result ≡ words_in (map row_of rows.now) }
+{
+    let mut words = 0;
+    for row in rows {
+        words += row.len;
+    }
+    words
+}
+
 impl Blocks {
     /// No block, and no room.
     pub fn new(alloc: Global) -> Blocks
@@ -56,5 +71,13 @@ impl Blocks {
             rows: Vec::new(alloc),
             room: 0,
         }
+    }
+
+    /// How many words the blocks have.
+    pub fn words(&self) -> u32
+        requires { 4 * words_in self.now.rows ≤ TOOL_TEXT_LEN }
+        ensures { result ≡ words_in self.now.rows }
+    {
+        words_of(&self.rows)
     }
 }

@@ -4,6 +4,7 @@ ghost use Rattle.tramp_spec.specs.Banks.{bank_len};
 ghost use Rattle.tramp_spec.specs.Codes.{fetched_at, is_tool_word};
 ghost use Rattle.tramp_spec.specs.Harts.{is_tick, step_of};
 ghost use Rattle.machine.specs.Cores.{first_hart};
+ghost use Rattle.machine.specs.Leaving.{is_out_now};
 ghost use Rattle.machine.specs.Performing.{home_in_store, solo_of};
 ghost use Rattle.machine.specs.Turns.{may_turn};
 
@@ -109,6 +110,13 @@ impl HartState {
         ensures { result ≡ self.now.inside }
     {
         self.inside
+    }
+
+    /// Whether the hart is stopped or outside.
+    pub fn is_out(&self) -> bool
+        ensures { result ≡ is_out_now (Some self.now) }
+    {
+        self.stop.is_some() || !self.inside
     }
 
     /// Whether the hart isn't stopped, and is inside or has fewer ticks than the budget.

@@ -7,6 +7,7 @@ mod hart;
 mod laws;
 mod machine;
 mod performing;
+mod settling;
 
 pub use laws::{erasure, first_turns, leaves_soon, levels_go_on, measures_add, replays_go_on};
 pub use machine::Machine;
