@@ -22,7 +22,7 @@ use Rattle.rv_word.specs.declared.instr.StoreOp.TheVariants.{Sd}
 use Rattle.tramp_spec.specs.Codes.{Code, tool_at, is_text_word, is_tool_word}
 use Rattle.tramp_spec.specs.Banks.{bank_len, saved_x5, set_bank}
 use Rattle.tramp_spec.specs.Blocks.{tail_of, moved_at}
-use Rattle.tramp_spec.specs.Bodies.{Safe, Harmless, Leap}
+use Rattle.tramp_spec.specs.Bodies.{Safe, Harmless, Leap, Keeps}
 use Rattle.tramp_spec.specs.Harts.{own_hart, Hart, Solo, bench_of, stopped, ticked, own_step, other_hart, step_of, is_tick}
 use Rattle.tramp_spec.specs.Marks.{own, enter, tool, leave, is_jump}
 use Rattle.tramp_spec.specs.MovedWords.{own_place}
@@ -132,19 +132,38 @@ module _ (t : Words) (g : Ground t) (budget : ℕ) (code : Code) (rows : List Ro
 
   -- ---- words that are no ticks
 
-  tool_to : (bound : Option ℕ) (w to : ℕ) (b : Bench) → step_on bank_len w x.ticks x.pc (bench_of x) ≡ Ok (stand to b) → Soon t budget ps clock bound (record x { pc = to; regs = b.regs; bank = b.bank }) y → Owes bound (Some (tool w))
-  tool_to bound w to b e k = (subst (λ r. Soon t budget ps clock bound (other_hart r Tool w (program_pc code rows x) x) y) (sym e) k, refl)
+  -- the turn is no tick, and makes this of the hart
+  abbrev pub Brings : Hart → Type 0
+  Brings z = (o : Option MarkedWord) × (fetched t code x ≡ o) × (is_tick o ≡ false) × (step_of o h (program_pc code rows x) (record { hart = x; prog = p }) ≡ record { hart = z; prog = p })
 
-  leave_to : (bound : Option ℕ) (w to : ℕ) (b : Bench) → step_on 0 w x.ticks x.pc (bench_of x) ≡ Ok (stand to b) → Soon t budget ps clock bound (record x { pc = to; regs = b.regs; bank = b.bank; inside = false }) y → Owes bound (Some (leave w))
-  leave_to bound w to b e k = (subst (λ r. Soon t budget ps clock bound (other_hart r Leave w (program_pc code rows x) x) y) (sym e) k, refl)
+  brought : (bound : Option ℕ) (z : Hart) → Brings z → Soon t budget ps clock bound z y → Owes bound (fetched t code x)
+  brought bound z b k =
+      owes bound b.0 b.1
+      (subst (λ c. OwesBy c t budget ps clock bound h (step_of b.0 h (program_pc code rows x) (record { hart = x; prog = p })) y p) (sym b.2)
+      (subst (λ (s : Solo). OwesBy false t budget ps clock bound h s y p) (sym b.3) (k, refl)))
 
-  enter_to : (bound : Option ℕ) (w to : ℕ) (b : Bench) → step_on 0 w x.ticks x.pc (bench_of x) ≡ Ok (stand to b) → Soon t budget ps clock bound (record x { pc = to; regs = b.regs; bank = b.bank; inside = true }) y → Owes bound (Some (enter w))
-  enter_to bound w to b e k = (subst (λ r. Soon t budget ps clock bound (other_hart r Enter w (program_pc code rows x) x) y) (sym e) k, refl)
+  tool_brings : (w to : ℕ) (b : Bench) → fetched t code x ≡ Some (tool w) → step_on bank_len w x.ticks x.pc (bench_of x) ≡ Ok (stand to b) → Brings (record x { pc = to; regs = b.regs; bank = b.bank })
+  tool_brings w to b f e = (Some (tool w), f, refl, ap (λ r. record { hart = other_hart r Tool w (program_pc code rows x) x; prog = p }) e)
 
-  enters : (b : Piece) → In b ps → IsBase b → b.row.point ≡ x.pc → b.row.status ≡ Live → (door : Door code b) → Outside x y → x.ticks < budget → Owes None (Some (enter door.jump))
-  enters b hb bs e live door o l =
-      let hop : Hops x.pc b.row.at door.jump = subst (λ a. Hops a b.row.at door.jump) e door.hops in
-      enter_to None door.jump b.row.at (bench_of x) (hop_steps 0 door.jump x.ticks x.pc b.row.at (bench_of x) hop (st.places b hb).aligned) (
+  leave_brings : (w to : ℕ) (b : Bench) → fetched t code x ≡ Some (leave w) → step_on 0 w x.ticks x.pc (bench_of x) ≡ Ok (stand to b) → Brings (record x { pc = to; regs = b.regs; bank = b.bank; inside = false })
+  leave_brings w to b f e = (Some (leave w), f, refl, ap (λ r. record { hart = other_hart r Leave w (program_pc code rows x) x; prog = p }) e)
+
+  enter_brings : (w to : ℕ) (b : Bench) → fetched t code x ≡ Some (enter w) → step_on 0 w x.ticks x.pc (bench_of x) ≡ Ok (stand to b) → Brings (record x { pc = to; regs = b.regs; bank = b.bank; inside = true })
+  enter_brings w to b f e = (Some (enter w), f, refl, ap (λ r. record { hart = other_hart r Enter w (program_pc code rows x) x; prog = p }) e)
+
+  -- through the jump at a point to its base block
+  pub entering : (b : Piece) → In b ps → b.row.point ≡ x.pc → (door : Door code b) → Outside x y → x.ticks < budget → fetched t code x ≡ Some (enter door.jump)
+      → Brings (record x { pc = b.row.at; inside = true }) × AtSave budget b (record x { pc = b.row.at; inside = true }) y
+  entering b hb e door o l f =
+      let hop : Hops x.pc b.row.at door.jump = subst (λ a. Hops a b.row.at door.jump) e door.hops in (
+        enter_brings door.jump b.row.at (bench_of x) f (hop_steps 0 door.jump x.ticks x.pc b.row.at (bench_of x) hop (st.places b hb).aligned),
+        record { pc = refl; home = sym o.pc ∙ sym e; before = l; agree = o.agree },
+      )
+
+  enters : (b : Piece) → In b ps → IsBase b → b.row.point ≡ x.pc → b.row.status ≡ Live → (door : Door code b) → Outside x y → x.ticks < budget → fetched t code x ≡ Some (enter door.jump) → Owes None (fetched t code x)
+  enters b hb bs e live door o l f =
+      let k = entering b hb e door o l f in
+      brought None (record x { pc = b.row.at; inside = true }) k.0 (
         record {
           ticks = d.ticks;
           stop = d.stop;
@@ -152,14 +171,7 @@ module _ (t : Words) (g : Ground t) (budget : ℕ) (code : Code) (rows : List Ro
           second = d.second;
           bank = d.bank;
           down = λ k z. absurd cc;
-          hart = λ z. inr (inl (record {
-            b = b;
-            is_in = hb;
-            base = bs;
-            was = λ w. absurd cc;
-            inside = refl;
-            place = inl (record { pc = refl; home = sym o.pc ∙ sym e; before = l; agree = o.agree });
-          }));
+          hart = λ z. inr (inl (record { b = b; is_in = hb; base = bs; was = λ w. absurd cc; inside = refl; place = inl k.1 }));
         },
         λ z. tt,
       )
@@ -198,55 +210,70 @@ module _ (t : Words) (g : Ground t) (budget : ℕ) (code : Code) (rows : List Ro
   body_fits : (m : Piece) → In m ps → Linked m → m.row.at + 4 * length m.body < 2 ^ 64
   body_fits m hm k = let s = mini_shape m hm k in let l = s.len in let hi = (st.places m hm).high in let top = tool_high in omega arith
 
-  -- on to what a jump leads to
-  hop_on : (most : ℕ) (b : Piece) (fam n q : ℕ) (live : Bool) (w : ℕ) → In b ps → IsBase b → (b.row.status ≡ Written → ⊥) → b.row.at ≡ fam → x.inside ≡ true → y.pc ≡ b.row.point → x.ticks < budget → Saved x y → Hops x.pc q w → Leads ps fam n q live
-      → b.row.len - 2 + ahead ps fam n < most → Owes (Some most) (Some (tool w))
-  hop_on most b fam n q live w hb bs was at i e l sv hop le room = ⊎_elim to_tail to_mini le.to
+  -- on to what a jump leads to: a base block's tail
+  pub to_tail : (b : Piece) (q w : ℕ) → In b ps → y.pc ≡ b.row.point → x.ticks < budget → Saved x y → Hops x.pc q w → fetched t code x ≡ Some (tool w) → q ≡ tail_of b.row.at
+      → Brings (record x { pc = q }) × AtSaved budget b (tail_of b.row.at) (record x { pc = q }) y
+  to_tail b q w hb e l sv hop f is =
+      let al = (st.places b hb).aligned in
+      let a : q % 4 ≡ 0 = omega arith in (
+        tool_brings w q (bench_of x) f (hop_steps bank_len w x.ticks x.pc q (bench_of x) hop a),
+        record { pc = is; home = e; before = l; saved = record { agree = sv.agree; saved = sv.saved } },
+      )
+
+  -- or the first word of a mini block
+  pub to_mini : (m : Piece) (q w : ℕ) → In m ps → Hops x.pc q w → fetched t code x ≡ Some (tool w) → m.row.at ≡ q → Brings (record x { pc = q })
+  to_mini m q w hm hop f is =
+      let al = (st.places m hm).aligned in
+      let a : q % 4 ≡ 0 = omega arith in
+      tool_brings w q (bench_of x) f (hop_steps bank_len w x.ticks x.pc q (bench_of x) hop a)
+
+  pub at_first : (m : Piece) (q : ℕ) → m.row.at ≡ q → q ≡ m.row.at + 4 * 0
+  at_first m q e = omega arith
+
+  pub safe_first : (m : Piece) → In m ps → Linked m → Safe (length m.body) m.body m.row.at 0 (bench_of x) x.ticks
+  safe_first m hm k = harmless_of m hm k m.row.at x.ticks (bench_of x) (record { aligned = (st.places m hm).aligned; fits = body_fits m hm k; file = d.first; bank = d.bank })
+
+  abbrev pub in_first : (b m : Piece) (q : ℕ) → (b.row.status ≡ Written → ⊥) → x.inside ≡ true → y.pc ≡ b.row.point → x.ticks < budget → Saved x y → In m ps → Linked m → HasFamily ps m b → m.row.at ≡ q → InMini budget ps (record x { pc = q }) y
+  in_first b m q was i e l sv hm k fm is = record {
+    m = m;
+    b = b;
+    is_in = hm;
+    linked = k;
+    family = fm;
+    was = was;
+    inside = i;
+    home = e ∙ fm.point;
+    before = l;
+    saved = record { agree = sv.agree; saved = sv.saved };
+    i = 0;
+    f = length m.body;
+    pc = at_first m q is;
+    safe = safe_first m hm k;
+  }
+
+  -- the base block of a mini block's family
+  pub family_is : (b m : Piece) (fam : ℕ) → In b ps → b.row.at ≡ fam → In m ps → Linked m → m.family ≡ fam → HasFamily ps m b
+  family_is b m fam hb at hm k e =
+      let fm = st.families m hm k in
+      let same : fm.0 ≡ b = one_block t code rows ps clock st fm.0 b (fm.1).is_in hb ((fm.1).at ∙ (e ∙ sym at)) in
+      subst (λ z. HasFamily ps m z) same fm.1
+
+  hop_on : (most : ℕ) (b : Piece) (fam n q : ℕ) (live : Bool) (w : ℕ) → In b ps → IsBase b → (b.row.status ≡ Written → ⊥) → b.row.at ≡ fam → x.inside ≡ true → y.pc ≡ b.row.point → x.ticks < budget → Saved x y → Hops x.pc q w → fetched t code x ≡ Some (tool w) → Leads ps fam n q live
+      → b.row.len - 2 + ahead ps fam n < most → Owes (Some most) (fetched t code x)
+  hop_on most b fam n q live w hb bs was at i e l sv hop f le room = ⊎_elim tail mini le.to
     where
-      base : (k : HartOk t budget ps (record x { pc = q }) y) → Below ps clock (Some most) k → Soon t budget ps clock (Some most) (record x { pc = q; regs = x.regs; bank = x.bank }) y
-      base k u = (record { ticks = d.ticks; stop = d.stop; first = d.first; second = d.second; bank = d.bank; down = λ k z. absurd cc; hart = λ z. k }, λ z. u)
+      base : Brings (record x { pc = q }) → (k : HartOk t budget ps (record x { pc = q }) y) → Below ps clock (Some most) k → Owes (Some most) (fetched t code x)
+      base br k u = brought (Some most) (record x { pc = q }) br (record { ticks = d.ticks; stop = d.stop; first = d.first; second = d.second; bank = d.bank; down = λ k z. absurd cc; hart = λ z. k }, λ z. u)
 
-      to_tail : (le.lo ≡ 0) × (q ≡ tail_of fam) → Owes (Some most) (Some (tool w))
-      to_tail r =
-          let al = (st.places b hb).aligned in
-          let e1 = r.1 in
-          let a : q % 4 ≡ 0 = omega arith in
-          tool_to (Some most) w q (bench_of x) (hop_steps bank_len w x.ticks x.pc q (bench_of x) hop a)
-          (base (inr (inl (record {
-            b = b;
-            is_in = hb;
-            base = bs;
-            was = was;
-            inside = i;
-            place = inr (inr (inl (record { pc = r.1 ∙ ap tail_of (sym at); home = e; before = l; saved = record { agree = sv.agree; saved = sv.saved } })));
-          }))) (omega arith))
+      tail : (le.lo ≡ 0) × (q ≡ tail_of fam) → Owes (Some most) (fetched t code x)
+      tail r =
+          let k = to_tail b q w hb e l sv hop f (r.1 ∙ ap tail_of (sym at)) in
+          base k.0 (inr (inl (record { b = b; is_in = hb; base = bs; was = was; inside = i; place = inr (inr (inl k.1)) }))) (omega arith)
 
-      to_mini : (m : Piece) × In m ps × Linked m × (m.family ≡ fam) × (m.age ≡ le.lo) × (m.row.at ≡ q) × (live ≡ true → m.row.status ≡ Live) → Owes (Some most) (Some (tool w))
-      to_mini r =
-          let fm = st.families r.0 r.1 r.2 in
-          let same : fm.0 ≡ b = one_block t code rows ps clock st fm.0 b (fm.1).is_in hb ((fm.1).at ∙ (r.3 ∙ sym at)) in
-          let fm' : HasFamily ps r.0 b = subst (λ z. HasFamily ps r.0 z) same fm.1 in
-          let al = (st.places r.0 r.1).aligned in
-          let e5 = r.5 in
-          let a : q % 4 ≡ 0 = omega arith in
-          let z : q ≡ (r.0).row.at + 4 * 0 = omega arith in
-          tool_to (Some most) w q (bench_of x) (hop_steps bank_len w x.ticks x.pc q (bench_of x) hop a)
-          (base (inr (inr (record {
-            m = r.0;
-            b = b;
-            is_in = r.1;
-            linked = r.2;
-            family = fm';
-            was = was;
-            inside = i;
-            home = e ∙ fm'.point;
-            before = l;
-            saved = record { agree = sv.agree; saved = sv.saved };
-            i = 0;
-            f = length (r.0).body;
-            pc = z;
-            safe = harmless_of r.0 r.1 r.2 (r.0).row.at x.ticks (bench_of x) (record { aligned = al; fits = body_fits r.0 r.1 r.2; file = d.first; bank = d.bank });
-          }))) (let g = ahead_of ps fam n r.0 r.1 r.2 r.3 (let e4 = r.4 in let lo = le.below in omega arith) in let fe : (r.0).family ≡ fam = r.3 in let here = ap (λ f. ahead ps f (r.0).age) fe in omega arith))
+      mini : (m : Piece) × In m ps × Linked m × (m.family ≡ fam) × (m.age ≡ le.lo) × (m.row.at ≡ q) × (live ≡ true → m.row.status ≡ Live) → Owes (Some most) (fetched t code x)
+      mini r =
+          base (to_mini r.0 q w r.1 hop f r.5) (inr (inr (in_first b r.0 q was i e l sv r.1 r.2 (family_is b r.0 fam hb at r.1 r.2 r.3) r.5)))
+          (let g = ahead_of ps fam n r.0 r.1 r.2 r.3 (let e4 = r.4 in let lo = le.below in omega arith) in let fe : (r.0).family ≡ fam = r.3 in let here = ap (λ f. ahead ps f (r.0).age) fe in omega arith)
 
   -- ---- in a base block
 
@@ -309,28 +336,44 @@ module _ (t : Words) (g : Ground t) (budget : ℕ) (code : Code) (rows : List Ro
     λ q. u,
   )
 
-  at_save : (b : Piece) → In b ps → IsBase b → (b.row.status ≡ Written → ⊥) → x.inside ≡ true → AtSave budget b x y → Owes (Some (b.row.len + ahead ps b.row.at clock)) (fetched t code x)
-  at_save b hb bs was i k =
+  -- x5 is saved
+  pub saving : (b : Piece) → In b ps → IsBase b → x.inside ≡ true → AtSave budget b x y
+      → Brings (record x { pc = next x.pc; bank = set_bank x.bank 1 (reg x.regs 5) }) × AtSaved budget b (b.row.at + 4) (record x { pc = next x.pc; bank = set_bank x.bank 1 (reg x.regs 5) }) y
+  saving b hb bs i k =
       let s = base_shape b hb bs in
       let len = s.len in
       let pc : x.pc ≡ b.row.at + 4 * 0 = (let e = k.pc in omega arith) in
       let low = pc_low b 0 hb pc (omega arith) in
-      let nx : next x.pc ≡ b.row.at + 4 = (let e = k.pc in omega arith) in
-      owes (Some (b.row.len + ahead ps b.row.at clock)) (Some (tool (word_of (Store Sd 0 5 8)))) (fetch_base b hb bs 0 (tool (word_of (Store Sd 0 5 8))) i pc (omega arith) refl)
-      (tool_to (Some (b.row.len + ahead ps b.row.at clock)) (word_of (Store Sd 0 5 8)) (next x.pc) (with_doubleword (bench_of x) 1 (reg x.regs 5)) (save_steps x.ticks x.pc (bench_of x))
+      let nx : next x.pc ≡ b.row.at + 4 = (let e = k.pc in omega arith) in (
+        tool_brings (word_of (Store Sd 0 5 8)) (next x.pc) (with_doubleword (bench_of x) 1 (reg x.regs 5)) (fetch_base b hb bs 0 (tool (word_of (Store Sd 0 5 8))) i pc (omega arith) refl) (save_steps x.ticks x.pc (bench_of x)),
+        record { pc = nx; home = k.home; before = k.before; saved = record { agree = λ r l n. k.agree r l; saved = saved_back x.bank (reg x.regs 5) d.bank ∙ k.agree 5 (omega arith) } },
+      )
+
+  at_save : (b : Piece) → In b ps → IsBase b → (b.row.status ≡ Written → ⊥) → x.inside ≡ true → AtSave budget b x y → Owes (Some (b.row.len + ahead ps b.row.at clock)) (fetched t code x)
+  at_save b hb bs was i k =
+      let q = saving b hb bs i k in
+      let len = (base_shape b hb bs).len in
+      brought (Some (b.row.len + ahead ps b.row.at clock)) (record x { pc = next x.pc; bank = set_bank x.bank 1 (reg x.regs 5) }) q.0
       (in_base b hb bs was (record x { pc = next x.pc; bank = set_bank x.bank 1 (reg x.regs 5) }) on refl d.first (length_set_bank x.bank 1 (reg x.regs 5) ∙ d.bank) i
-      (inr (inl (record { pc = nx; home = k.home; before = k.before; saved = record { agree = λ r l n. k.agree r l; saved = saved_back x.bank (reg x.regs 5) d.bank ∙ k.agree 5 (omega arith) } }))) (b.row.len + ahead ps b.row.at clock) (omega arith)))
+      (inr (inl q.1)) (b.row.len + ahead ps b.row.at clock) (omega arith))
+
+  -- the jump of a base block's head is fetched
+  pub heading : (b : Piece) → In b ps → IsBase b → x.inside ≡ true → x.pc ≡ b.row.at + 4 → (w : ℕ) × (fetched t code x ≡ Some (tool w)) × Hops x.pc b.next w
+  heading b hb bs i e =
+      let s = base_shape b hb bs in
+      let pc : x.pc ≡ b.row.at + 4 * 1 = omega arith in
+      (s.jump, fetch_base b hb bs 1 (tool s.jump) i pc (omega arith) refl, subst (λ a. Hops a b.next s.jump) (sym e) s.hops)
 
   at_head : (b : Piece) → In b ps → IsBase b → (b.row.status ≡ Written → ⊥) → x.inside ≡ true → AtSaved budget b (b.row.at + 4) x y → Owes (Some (b.row.len - 1 + ahead ps b.row.at clock)) (fetched t code x)
   at_head b hb bs was i k =
-      let s = base_shape b hb bs in
-      let pc : x.pc ≡ b.row.at + 4 * 1 = (let e = k.pc in omega arith) in
-      let len = s.len in
-      owes (Some (b.row.len - 1 + ahead ps b.row.at clock)) (Some (tool s.jump)) (fetch_base b hb bs 1 (tool s.jump) i pc (omega arith) refl)
-      (hop_on (b.row.len - 1 + ahead ps b.row.at clock) b b.row.at clock b.next (is_current b.row.status) s.jump hb bs was refl i k.home k.before k.saved (subst (λ a. Hops a b.next s.jump) (sym k.pc) s.hops) (st.heads b hb bs) (omega arith))
+      let len = (base_shape b hb bs).len in
+      let q = heading b hb bs i k.pc in
+      hop_on (b.row.len - 1 + ahead ps b.row.at clock) b b.row.at clock b.next (is_current b.row.status) q.0 hb bs was refl i k.home k.before k.saved q.2 q.1 (st.heads b hb bs) (omega arith)
 
-  at_tail : (b : Piece) → In b ps → IsBase b → (b.row.status ≡ Written → ⊥) → x.inside ≡ true → AtSaved budget b (tail_of b.row.at) x y → Owes (Some (b.row.len - 2)) (fetched t code x)
-  at_tail b hb bs was i k =
+  -- x5 is restored
+  pub restoring : (b : Piece) → In b ps → IsBase b → x.inside ≡ true → AtSaved budget b (tail_of b.row.at) x y
+      → Brings (record x { pc = next x.pc; regs = with_reg x.regs 5 (saved_x5 x.bank) }) × AtMoved t budget b (record x { pc = next x.pc; regs = with_reg x.regs 5 (saved_x5 x.bank) }) y
+  restoring b hb bs i k =
       let s = base_shape b hb bs in
       let len = s.len in
       let pc : x.pc ≡ b.row.at + 4 * 2 = (let e = k.pc in omega arith) in
@@ -343,26 +386,34 @@ module _ (t : Words) (g : Ground t) (budget : ℕ) (code : Code) (rows : List Ro
       let sv = k.saved in
       let agree : Agree (with_reg x.regs 5 v) y.regs = λ r l. ⊎_elim
       (λ (e : r ≡ 5). ap (reg (with_reg x.regs 5 v)) e ∙ (read_back x.regs 5 v refl room ∙ (sv.saved ∙ ap (reg y.regs) (sym e))))
-      (λ (e : r ≡ 5 → ⊥). read_but x.regs 5 r v e ∙ sv.agree r l e) (cases_eq r 5) in
-      owes (Some (b.row.len - 2)) (Some (tool (word_of (Load Ld 5 0 8)))) (fetch_base b hb bs 2 (tool (word_of (Load Ld 5 0 8))) i pc (omega arith) refl)
-      (tool_to (Some (b.row.len - 2)) (word_of (Load Ld 5 0 8)) (next x.pc) (with_value (bench_of x) 5 v) (restore_steps x.ticks x.pc (bench_of x))
-      (in_base b hb bs was (record x { pc = next x.pc; regs = with_reg x.regs 5 v }) on refl size d.bank i
-      (inr (inr (inr (inl (record {
-        m = m;
-        j = 0;
-        low = omega arith;
-        pc = nx;
-        home = k.home;
-        before = k.before;
-        regs = with_reg x.regs 5 v;
-        size = size;
-        agree = agree;
-        is = sym ((m.moves).start (with_reg x.regs 5 v));
-      }))))) (b.row.len - 2) (omega arith)))
+      (λ (e : r ≡ 5 → ⊥). read_but x.regs 5 r v e ∙ sv.agree r l e) (cases_eq r 5) in (
+        tool_brings (word_of (Load Ld 5 0 8)) (next x.pc) (with_value (bench_of x) 5 v) (fetch_base b hb bs 2 (tool (word_of (Load Ld 5 0 8))) i pc (omega arith) refl) (restore_steps x.ticks x.pc (bench_of x)),
+        record {
+          m = m;
+          j = 0;
+          low = omega arith;
+          pc = nx;
+          home = k.home;
+          before = k.before;
+          regs = with_reg x.regs 5 v;
+          size = size;
+          agree = agree;
+          is = sym ((m.moves).start (with_reg x.regs 5 v));
+        },
+      )
+
+  at_tail : (b : Piece) → In b ps → IsBase b → (b.row.status ≡ Written → ⊥) → x.inside ≡ true → AtSaved budget b (tail_of b.row.at) x y → Owes (Some (b.row.len - 2)) (fetched t code x)
+  at_tail b hb bs was i k =
+      let q = restoring b hb bs i k in
+      let len = (base_shape b hb bs).len in
+      brought (Some (b.row.len - 2)) (record x { pc = next x.pc; regs = with_reg x.regs 5 (saved_x5 x.bank) }) q.0
+      (in_base b hb bs was (record x { pc = next x.pc; regs = with_reg x.regs 5 (saved_x5 x.bank) }) on refl (length_with x.regs 5 (saved_x5 x.bank) ∙ d.first) d.bank i
+      (inr (inr (inr (inl q.1)))) (b.row.len - 2) (omega arith))
 
   -- a moved word before the tick
-  at_silent : (b : Piece) → In b ps → IsBase b → (b.row.status ≡ Written → ⊥) → x.inside ≡ true → (k : AtMoved t budget b x y) → k.j < own_place (k.m).word → Owes (Some (b.row.len - 3 - k.j)) (fetched t code x)
-  at_silent b hb bs was i k l =
+  pub moving : (b : Piece) → In b ps → IsBase b → x.inside ≡ true → (k : AtMoved t budget b x y) → k.j < own_place (k.m).word
+      → (z : Hart) × Brings z × (z.stop ≡ x.stop) × (z.ticks ≡ x.ticks) × (length z.regs ≡ 32) × (z.bank ≡ x.bank) × (z.inside ≡ x.inside) × (q : AtMoved t budget b z y) × (k.j < q.j) × (k.j < length (k.m).moved)
+  moving b hb bs i k l =
       let m = k.m in
       let to = moved_at b.row.at in
       let s = (m.moves).silent k.j l in
@@ -371,12 +422,25 @@ module _ (t : Words) (g : Ground t) (budget : ℕ) (code : Code) (rows : List Ro
       (subst (λ rs. step_on bank_len s.0 x.ticks (to + 4 * k.j) (bench rs x.bank) ≡ Ok (stand (to + 4 * (k.j + 1)) (bench ((m.moves).before (k.j + 1) k.regs) x.bank))) (sym k.is) (s.2 k.regs x.bank x.ticks k.size)) in
       let up : k.j + 1 ≤ own_place m.word = omega arith in
       let tk = (m.moves).tick in
-      let inside = slice_get_within m.moved (own_place m.word) (own tk.0) tk.1 in
-      let size : b.row.len ≡ 3 + length m.moved = base_len t code b m (base_shape b hb bs) in
-      owes (Some (b.row.len - 3 - k.j)) (Some (tool s.0)) (fetch_moved b hb bs m k.j (tool s.0) i k.pc s.1).0
-      (tool_to (Some (b.row.len - 3 - k.j)) s.0 (to + 4 * (k.j + 1)) (bench ((m.moves).before (k.j + 1) k.regs) x.bank) step
-      (in_base b hb bs was (record x { pc = to + 4 * (k.j + 1); regs = (m.moves).before (k.j + 1) k.regs }) on refl ((m.moves).size (k.j + 1) k.regs up ∙ k.size) d.bank i
-      (inr (inr (inr (inl (record { m = m; j = k.j + 1; low = up; pc = refl; home = k.home; before = k.before; regs = k.regs; size = k.size; agree = k.agree; is = refl }))))) (b.row.len - 3 - k.j) (omega arith)))
+      let inside = slice_get_within m.moved (own_place m.word) (own tk.0) tk.1 in (
+        record x { pc = to + 4 * (k.j + 1); regs = (m.moves).before (k.j + 1) k.regs },
+        tool_brings s.0 (to + 4 * (k.j + 1)) (bench ((m.moves).before (k.j + 1) k.regs) x.bank) (fetch_moved b hb bs m k.j (tool s.0) i k.pc s.1).0 step,
+        refl,
+        refl,
+        (m.moves).size (k.j + 1) k.regs up ∙ k.size,
+        refl,
+        refl,
+        record { m = m; j = k.j + 1; low = up; pc = refl; home = k.home; before = k.before; regs = k.regs; size = k.size; agree = k.agree; is = refl },
+        omega arith,
+        omega arith,
+      )
+
+  at_silent : (b : Piece) → In b ps → IsBase b → (b.row.status ≡ Written → ⊥) → x.inside ≡ true → (k : AtMoved t budget b x y) → k.j < own_place (k.m).word → Owes (Some (b.row.len - 3 - k.j)) (fetched t code x)
+  at_silent b hb bs was i k l =
+      let q = moving b hb bs i k l in
+      let size : b.row.len ≡ 3 + length (k.m).moved = base_len t code b k.m (base_shape b hb bs) in
+      brought (Some (b.row.len - 3 - k.j)) q.0 q.1
+      (in_base b hb bs was q.0 (q.2 ∙ on) q.3 q.4 (ap length q.5 ∙ d.bank) (q.6 ∙ i) (inr (inr (inr (inl q.7)))) (b.row.len - 3 - k.j) (let up = q.8 in let lo = q.9 in omega arith))
 
   -- the tick: to where it leads
   tick_leads : (b : Piece) → In b ps → IsBase b → (b.row.status ≡ Written → ⊥) → x.inside ≡ true → (m : MovedWord t b) (w : ℕ) (jumped : Bool) (pc qc : ℕ) (a e : List ℕ) → Alike a e → is_jump w ≡ jumped
@@ -426,8 +490,11 @@ module _ (t : Words) (g : Ground t) (budget : ℕ) (code : Code) (rows : List Ro
   tick_outcome b hb bs was i m w jumped (Goes pc a q) (Stops c) home tj s = absurd s
   tick_outcome b hb bs was i m w jumped (Goes pc a q) (Goes qc e r) home tj s = (tick_leads b hb bs was i m w jumped pc qc a e s.1 tj s.2, s.0)
 
-  at_tick : (b : Piece) → In b ps → IsBase b → (b.row.status ≡ Written → ⊥) → x.inside ≡ true → (k : AtMoved t budget b x y) → k.j ≡ own_place (k.m).word → Owes (Some (b.row.len - 3 - k.j)) (fetched t code x)
-  at_tick b hb bs was i k e =
+  -- the word of the tick, and the program's, lead to the same
+  pub ticking : (b : Piece) → In b ps → IsBase b → x.inside ≡ true → (k : AtMoved t budget b x y) → k.j ≡ own_place (k.m).word
+      → (w : ℕ) × (fetched t code x ≡ Some (own w)) × (program_pc code rows x ≡ y.pc) × (is_jump w ≡ is_jump (k.m).word) × (program_word t y.pc ≡ Some (k.m).word)
+      × SameStep (is_jump (k.m).word) (own_place (k.m).word) (moved_at b.row.at) (k.m).moved (exec_of w x.pc h x.regs p) (exec_of (k.m).word y.pc h y.regs p)
+  ticking b hb bs i k e =
       let m = k.m in
       let to = moved_at b.row.at in
       let tk = (m.moves).tick in
@@ -437,22 +504,33 @@ module _ (t : Words) (g : Ground t) (budget : ℕ) (code : Code) (rows : List Ro
       let f = fetch_moved b hb bs m (own_place m.word) (own w) i pc tk.1 in
       let at = (let z = k.pc in let lo : b.row.at ≤ x.pc = omega arith in lo) in
       let home : program_pc code rows x ≡ y.pc = cond-true x.inside (home_of code rows x.pc) x.pc i ∙ (home_word t code rows ps clock st b x.pc (own w) hb at f.2 f.1 ∙ sym k.home) in
-      let same0 = tk.3 k.regs y.regs h p (record { agree = k.agree; first = k.size; second = d.second }) in
-      let same1 : SameStep (is_jump m.word) (own_place m.word) to m.moved (exec_of w x.pc h x.regs p) (exec_of m.word y.pc h y.regs p) =
-      subst (λ a. SameStep (is_jump m.word) (own_place m.word) to m.moved (exec_of w a h x.regs p) (exec_of m.word y.pc h y.regs p)) (sym pc)
-      (subst (λ rs. SameStep (is_jump m.word) (own_place m.word) to m.moved (exec_of w (to + 4 * own_place m.word) h rs p) (exec_of m.word y.pc h y.regs p)) (sym is)
-      (subst (λ a. SameStep (is_jump m.word) (own_place m.word) to m.moved (exec_of w (to + 4 * own_place m.word) h ((m.moves).before (own_place m.word) k.regs) p) (exec_of m.word a h y.regs p)) (sym k.home) same0)) in
-      let both0 = tick_outcome b hb bs was i m w (is_jump m.word) (exec_of w x.pc h x.regs p) (exec_of m.word y.pc h y.regs p) home tk.2 same1 in
+      let same0 = tk.3 k.regs y.regs h p (record { agree = k.agree; first = k.size; second = d.second }) in (
+        w,
+        f.0,
+        home,
+        tk.2,
+        ap (program_word t) k.home ∙ m.here,
+        subst (λ a. SameStep (is_jump m.word) (own_place m.word) to m.moved (exec_of w a h x.regs p) (exec_of m.word y.pc h y.regs p)) (sym pc)
+        (subst (λ rs. SameStep (is_jump m.word) (own_place m.word) to m.moved (exec_of w (to + 4 * own_place m.word) h rs p) (exec_of m.word y.pc h y.regs p)) (sym is)
+        (subst (λ a. SameStep (is_jump m.word) (own_place m.word) to m.moved (exec_of w (to + 4 * own_place m.word) h ((m.moves).before (own_place m.word) k.regs) p) (exec_of m.word a h y.regs p)) (sym k.home) same0)),
+      )
+
+  at_tick : (b : Piece) → In b ps → IsBase b → (b.row.status ≡ Written → ⊥) → x.inside ≡ true → (k : AtMoved t budget b x y) → k.j ≡ own_place (k.m).word → Owes (Some (b.row.len - 3 - k.j)) (fetched t code x)
+  at_tick b hb bs was i k e =
+      let m = k.m in
+      let s = ticking b hb bs i k e in
+      let w = s.0 in
+      let both0 = tick_outcome b hb bs was i m w (is_jump m.word) (exec_of w x.pc h x.regs p) (exec_of m.word y.pc h y.regs p) s.2 s.3 s.5 in
       let both = subst (λ j. Soon t budget ps clock (Some (b.row.len - 3 - j)) (own_step (done (exec_of w x.pc h x.regs p) x.regs p) w (program_pc code rows x) x).hart (after_done (done (exec_of m.word y.pc h y.regs p) y.regs p) y).hart × ((own_step (done (exec_of w x.pc h x.regs p) x.regs p) w (program_pc code rows x) x).prog ≡ (after_done (done (exec_of m.word y.pc h y.regs p) y.regs p) y).prog)) (sym e) both0 in
-      let here : program_word t y.pc ≡ Some m.word = ap (program_word t) k.home ∙ m.here in
       let to' : (o : Option ℕ) → Type 0 = λ o.
       Soon t budget ps clock (Some (b.row.len - 3 - k.j)) (own_step (done (exec_of w x.pc h x.regs p) x.regs p) w (program_pc code rows x) x).hart (after_done (done (plain.fetched o h y p) y.regs p) y).hart
       × ((own_step (done (exec_of w x.pc h x.regs p) x.regs p) w (program_pc code rows x) x).prog ≡ (after_done (done (plain.fetched o h y p) y.regs p) y).prog) in
-      let r : to' (program_word t y.pc) = subst to' (sym here) both in
-      owes (Some (b.row.len - 3 - k.j)) (Some (own w)) f.0 (can_go k.before, r.0, r.1)
+      let r : to' (program_word t y.pc) = subst to' (sym s.4) both in
+      owes (Some (b.row.len - 3 - k.j)) (Some (own w)) s.1 (can_go k.before, r.0, r.1)
 
-  at_leave : (b : Piece) → In b ps → IsBase b → x.inside ≡ true → (k : AtLeave t b x y) → Owes (Some (b.row.len - 3 - k.j)) (fetched t code x)
-  at_leave b hb bs i k =
+  -- back to the program
+  pub leaving : (b : Piece) → In b ps → IsBase b → x.inside ≡ true → AtLeave t b x y → Brings (record x { pc = y.pc; inside = false })
+  leaving b hb bs i k =
       let m = k.m in
       let to = moved_at b.row.at in
       let l = (m.moves).leaves k.j k.above k.low in
@@ -464,8 +542,11 @@ module _ (t : Words) (g : Ground t) (budget : ℕ) (code : Code) (rows : List Ro
       subst (λ a. step_on 0 k.left x.ticks a (bench_of x) ≡ Ok (stand y.pc (bench_of x))) (sym k.pc)
       (subst (λ w. step_on 0 w x.ticks (to + 4 * k.j) (bench_of x) ≡ Ok (stand y.pc (bench_of x))) word
       (subst (λ a. step_on 0 l.0 x.ticks (to + 4 * k.j) (bench_of x) ≡ Ok (stand a (bench_of x))) home step0)) in
-      owes (Some (b.row.len - 3 - k.j)) (Some (leave k.left)) (fetch_moved b hb bs m k.j (leave k.left) i k.pc k.stands).0
-      (leave_to (Some (b.row.len - 3 - k.j)) k.left y.pc (bench_of x) step (
+      leave_brings k.left y.pc (bench_of x) (fetch_moved b hb bs m k.j (leave k.left) i k.pc k.stands).0 step
+
+  at_leave : (b : Piece) → In b ps → IsBase b → x.inside ≡ true → (k : AtLeave t b x y) → Owes (Some (b.row.len - 3 - k.j)) (fetched t code x)
+  at_leave b hb bs i k =
+      brought (Some (b.row.len - 3 - k.j)) (record x { pc = y.pc; inside = false }) (leaving b hb bs i k) (
         record {
           ticks = d.ticks;
           stop = d.stop;
@@ -476,7 +557,7 @@ module _ (t : Words) (g : Ground t) (budget : ℕ) (code : Code) (rows : List Ro
           hart = λ z. inl (record { outside = refl; pc = refl; agree = k.agree });
         },
         λ z. tt,
-      ))
+      )
 
   at_moved : (b : Piece) → In b ps → IsBase b → (b.row.status ≡ Written → ⊥) → x.inside ≡ true → (k : AtMoved t budget b x y) → Owes (Some (b.row.len - 3 - k.j)) (fetched t code x)
   at_moved b hb bs was i k = ⊎_elim (λ l. at_silent b hb bs was i k l) (λ l. at_tick b hb bs was i k (let q = k.low in omega arith)) (cases_lt k.j (own_place (k.m).word))
@@ -490,6 +571,52 @@ module _ (t : Words) (g : Ground t) (budget : ℕ) (code : Code) (rows : List Ro
 
   -- ---- in a mini block
 
+  -- a word of the block is fetched
+  fetch_mini : (k : InMini budget ps x y) (j : ℕ) (w : MarkedWord) → j ≡ k.i → j < (k.m).row.len → slice_get ((k.m).body ++ tool (mini_shape k.m k.is_in k.linked).jump ∷ []) j ≡ Some w → fetched t code x ≡ Some w
+  fetch_mini k j w e l q =
+      let s = mini_shape k.m k.is_in k.linked in
+      fetch_block k.m j ((k.m).body ++ tool s.jump ∷ []) w k.is_in k.inside (k.pc ∙ ap (λ n. (k.m).row.at + 4 * n) (sym e)) l (stands_at code (k.m).row.at ((k.m).body ++ tool s.jump ∷ []) j w s.stands q)
+
+  -- behind the body it is the jump
+  pub ending : (k : InMini budget ps x y) → k.i ≡ length (k.m).body → (w : ℕ) × (fetched t code x ≡ Some (tool w)) × Hops x.pc (k.m).next w
+  ending k e =
+      let s = mini_shape k.m k.is_in k.linked in
+      let len = s.len in
+      let pc : x.pc ≡ (k.m).row.at + 4 * length (k.m).body = k.pc ∙ ap (λ n. (k.m).row.at + 4 * n) e in
+      (s.jump, fetch_mini k (length (k.m).body) (tool s.jump) (sym e) (omega arith) (get_append (k.m).body (tool s.jump)), subst (λ a. Hops a (k.m).next s.jump) (sym pc) s.hops)
+
+  -- in the body the hart goes on to another word of it
+  pub leaping : (k : InMini budget ps x y) (j : ℕ) (z : Bench) → Leap (k.m).body (k.m).row.at x.ticks k.i (bench_of x) j z → Brings (record x { pc = (k.m).row.at + 4 * j; regs = z.regs; bank = z.bank })
+  leaping k j z l =
+      let s = mini_shape k.m k.is_in k.linked in
+      let len = s.len in
+      let in_body = slice_get_within (k.m).body k.i (tool l.word) l.here in
+      let step : step_on bank_len l.word x.ticks x.pc (bench_of x) ≡ Ok (stand ((k.m).row.at + 4 * j) z) =
+      subst (λ a. step_on bank_len l.word x.ticks a (bench_of x) ≡ Ok (stand ((k.m).row.at + 4 * j) z)) (sym k.pc) l.step in
+      tool_brings l.word ((k.m).row.at + 4 * j) z (fetch_mini k k.i (tool l.word) refl (omega arith) (get_before (k.m).body (tool s.jump ∷ []) k.i (tool l.word) l.here)) step
+
+  pub saved_on : (k : InMini budget ps x y) (z : Bench) → Keeps (bench_of x) z → Saved (record x { regs = z.regs; bank = z.bank }) y
+  saved_on k z ke = let sv = k.saved in record { agree = λ r u n. ke.regs r n (λ e. omega arith) ∙ sv.agree r u n; saved = ke.saved ∙ sv.saved }
+
+  abbrev pub leapt : (k : InMini budget ps x y) (f j : ℕ) (z : Bench) → Leap (k.m).body (k.m).row.at x.ticks k.i (bench_of x) j z → Safe f (k.m).body (k.m).row.at j z x.ticks
+      → InMini budget ps (record x { pc = (k.m).row.at + 4 * j; regs = z.regs; bank = z.bank }) y
+  leapt k f j z l s = record {
+    m = k.m;
+    b = k.b;
+    is_in = k.is_in;
+    linked = k.linked;
+    family = k.family;
+    was = k.was;
+    inside = k.inside;
+    home = k.home;
+    before = k.before;
+    saved = record { agree = (saved_on k z l.keeps).agree; saved = (saved_on k z l.keeps).saved };
+    i = j;
+    f = f;
+    pc = refl;
+    safe = s;
+  }
+
   inside_mini : (k : InMini budget ps x y) → Owes (Some (left {t = t} ps clock (inr (inr k)))) (fetched t code x)
   inside_mini k = by k.f k.safe
     where
@@ -499,28 +626,17 @@ module _ (t : Words) (g : Ground t) (budget : ℕ) (code : Code) (rows : List Ro
       most : ℕ
       most = (k.m).row.len - k.i + ahead ps (k.m).family (k.m).age + ((k.b).row.len - 2)
 
-      here : (j : ℕ) (w : MarkedWord) → j ≡ k.i → j < (k.m).row.len → slice_get ((k.m).body ++ tool shape.jump ∷ []) j ≡ Some w → fetched t code x ≡ Some w
-      here j w e l q =
-          fetch_block k.m j ((k.m).body ++ tool shape.jump ∷ []) w k.is_in k.inside (k.pc ∙ ap (λ n. (k.m).row.at + 4 * n) (sym e)) l (stands_at code (k.m).row.at ((k.m).body ++ tool shape.jump ∷ []) j w shape.stands q)
-
       ends : k.i ≡ length (k.m).body → Owes (Some most) (fetched t code x)
       ends e =
           let len = shape.len in
-          let pc : x.pc ≡ (k.m).row.at + 4 * length (k.m).body = k.pc ∙ ap (λ n. (k.m).row.at + 4 * n) e in
-          owes (Some most) (Some (tool shape.jump)) (here (length (k.m).body) (tool shape.jump) (sym e) (omega arith) (get_append (k.m).body (tool shape.jump)))
-          (hop_on most k.b (k.m).family (k.m).age (k.m).next (is_live (k.m).row.status) shape.jump (k.family).is_in (k.family).base k.was (k.family).at k.inside (k.home ∙ sym (k.family).point) k.before k.saved
-          (subst (λ a. Hops a (k.m).next shape.jump) (sym pc) shape.hops) (st.chains k.m k.is_in k.linked) (omega arith))
+          let q = ending k e in
+          hop_on most k.b (k.m).family (k.m).age (k.m).next (is_live (k.m).row.status) q.0 (k.family).is_in (k.family).base k.was (k.family).at k.inside (k.home ∙ sym (k.family).point) k.before k.saved q.2 q.1 (st.chains k.m k.is_in k.linked) (omega arith)
 
       leaps : (f j : ℕ) (z : Bench) → Leap (k.m).body (k.m).row.at x.ticks k.i (bench_of x) j z → Safe f (k.m).body (k.m).row.at j z x.ticks → Owes (Some most) (fetched t code x)
       leaps f j z l s =
           let len = shape.len in
-          let in_body = slice_get_within (k.m).body k.i (tool l.word) l.here in
           let ke = l.keeps in
-          let sv = k.saved in
-          let step : step_on bank_len l.word x.ticks x.pc (bench_of x) ≡ Ok (stand ((k.m).row.at + 4 * j) z) =
-          subst (λ a. step_on bank_len l.word x.ticks a (bench_of x) ≡ Ok (stand ((k.m).row.at + 4 * j) z)) (sym k.pc) l.step in
-          owes (Some most) (Some (tool l.word)) (here k.i (tool l.word) refl (omega arith) (get_before (k.m).body (tool shape.jump ∷ []) k.i (tool l.word) l.here))
-          (tool_to (Some most) l.word ((k.m).row.at + 4 * j) z step (
+          brought (Some most) (record x { pc = (k.m).row.at + 4 * j; regs = z.regs; bank = z.bank }) (leaping k j z l) (
             record {
               ticks = d.ticks;
               stop = d.stop;
@@ -528,25 +644,10 @@ module _ (t : Words) (g : Ground t) (budget : ℕ) (code : Code) (rows : List Ro
               second = d.second;
               bank = ke.room ∙ d.bank;
               down = λ c q. absurd cc;
-              hart = λ q. inr (inr (record {
-                m = k.m;
-                b = k.b;
-                is_in = k.is_in;
-                linked = k.linked;
-                family = k.family;
-                was = k.was;
-                inside = k.inside;
-                home = k.home;
-                before = k.before;
-                saved = record { agree = λ r u n. ke.regs r n (λ e. omega arith) ∙ sv.agree r u n; saved = ke.saved ∙ sv.saved };
-                i = j;
-                f = f;
-                pc = refl;
-                safe = s;
-              }));
+              hart = λ q. inr (inr (leapt k f j z l s));
             },
             λ z. let on = l.on in let within = l.within in omega arith,
-          ))
+          )
 
       by : (f : ℕ) → Safe f (k.m).body (k.m).row.at k.i (bench_of x) x.ticks → Owes (Some most) (fetched t code x)
       by zero e = ends e
@@ -572,8 +673,7 @@ module _ (t : Words) (g : Ground t) (budget : ℕ) (code : Code) (rows : List Ro
           owes None (Some (own r.0)) (fetch_text (Some (own r.0)) o.outside r.2 e)
           (own_outside r.0 (g.plain q.i r.0 q.is) o.outside o.pc o.agree l (ap (program_word t) (sym o.pc) ∙ r.1)))
           (λ (e : (b : Piece) × In b ps × IsBase b × (b.row.point ≡ x.pc) × (b.row.status ≡ Live) × Door code b).
-          owes None (Some (enter (e.5).jump)) (fetch_text (Some (enter (e.5).jump)) o.outside r.2 (ap (get code) (sym e.3) ∙ (e.5).stands))
-          (enters e.0 e.1 e.2 e.3 e.4 e.5 o l))
+          enters e.0 e.1 e.2 e.3 e.4 e.5 o l (fetch_text (Some (enter (e.5).jump)) o.outside r.2 (ap (get code) (sym e.3) ∙ (e.5).stands)))
           (st.words x.pc r.0 r.1)
 
       far : (program_word t x.pc ≡ None) × (is_text_word t x.pc ≡ false) → Owes None (fetched t code x)
