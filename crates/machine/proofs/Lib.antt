@@ -22,3 +22,6 @@ pub mod Sames
 pub mod Beginning
 pub mod Erasing
 pub mod Leaving
+pub mod Told
+pub mod Force
+pub mod Ways
