@@ -25,3 +25,4 @@ pub mod Leaving
 pub mod Told
 pub mod Force
 pub mod Ways
+pub mod ForceTurns

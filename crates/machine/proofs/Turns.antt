@@ -207,7 +207,7 @@ module _ (t : Words) (g : Ground t) (budget : ℕ) (code : Code) (rows : List Ro
   tool_high : tool_at t + TOOL_TEXT_LEN < 2 ^ 32
   tool_high = let e = g.high in omega arith
 
-  body_fits : (m : Piece) → In m ps → Linked m → m.row.at + 4 * length m.body < 2 ^ 64
+  pub body_fits : (m : Piece) → In m ps → Linked m → m.row.at + 4 * length m.body < 2 ^ 64
   body_fits m hm k = let s = mini_shape m hm k in let l = s.len in let hi = (st.places m hm).high in let top = tool_high in omega arith
 
   -- on to what a jump leads to: a base block's tail
@@ -443,6 +443,10 @@ module _ (t : Words) (g : Ground t) (budget : ℕ) (code : Code) (rows : List Ro
       (in_base b hb bs was q.0 (q.2 ∙ on) q.3 q.4 (ap length q.5 ∙ d.bank) (q.6 ∙ i) (inr (inr (inr (inl q.7)))) (b.row.len - 3 - k.j) (let up = q.8 in let lo = q.9 in omega arith))
 
   -- the tick: to where it leads
+  abbrev exit : (b : Piece) (m : MovedWord t b) (w : ℕ) (pc qc : ℕ) (a e : List ℕ) → Alike a e → (j left : ℕ) → own_place m.word < j → j < length m.moved → pc ≡ moved_at b.row.at + 4 * j → slice_get m.moved j ≡ Some (leave left) → jump_of (decode_of left) (moved_at b.row.at + 4 * j) ≡ Some qc
+      → AtLeave t b (ticked (own_hart (Go pc) a w (program_pc code rows x) x)) (plain.hart_after (Go qc) e y)
+  exit b m w pc qc a e s j left above low at stands home = record { m = m; j = j; above = above; low = low; pc = at; left = left; stands = stands; home = home; agree = s.agree }
+
   tick_leads : (b : Piece) → In b ps → IsBase b → (b.row.status ≡ Written → ⊥) → x.inside ≡ true → (m : MovedWord t b) (w : ℕ) (jumped : Bool) (pc qc : ℕ) (a e : List ℕ) → Alike a e → is_jump w ≡ jumped
       → LeadsHome jumped (own_place m.word) (moved_at b.row.at) m.moved pc qc
       → Soon t budget ps clock (Some (b.row.len - 3 - own_place m.word)) (ticked (own_hart (Go pc) a w (program_pc code rows x) x)) (plain.hart_after (Go qc) e y)
@@ -477,7 +481,7 @@ module _ (t : Words) (g : Ground t) (budget : ℕ) (code : Code) (rows : List Ro
             base = bs;
             was = was;
             inside = grind (arith, common_steps, i, out);
-            place = inr (inr (inr (inr (record { m = m; j = k.1; above = k.3; low = k.4; pc = k.5; left = k.2; stands = k.6; home = k.7; agree = s.agree }))));
+            place = inr (inr (inr (inr (exit b m w pc qc a e s k.1 k.2 k.3 k.4 k.5 k.6 k.7))));
           }));
         },
         λ z. omega arith,
@@ -489,6 +493,18 @@ module _ (t : Words) (g : Ground t) (budget : ℕ) (code : Code) (rows : List Ro
   tick_outcome b hb bs was i m w jumped (Stops c) (Goes pc a q) home tj s = absurd s
   tick_outcome b hb bs was i m w jumped (Goes pc a q) (Stops c) home tj s = absurd s
   tick_outcome b hb bs was i m w jumped (Goes pc a q) (Goes qc e r) home tj s = (tick_leads b hb bs was i m w jumped pc qc a e s.1 tj s.2, s.0)
+
+  -- behind it the hart is outside, or at a word that leaves
+  pub tick_place : (b : Piece) → x.inside ≡ true → (m : MovedWord t b) (w : ℕ) (jumped : Bool) (o u : Outcome) → is_jump w ≡ jumped → SameStep jumped (own_place m.word) (moved_at b.row.at) m.moved o u
+      → ((own_step (done o x.regs p) w (program_pc code rows x) x).hart.inside ≡ false)
+      ⊎ (((own_step (done o x.regs p) w (program_pc code rows x) x).hart.inside ≡ true) × AtLeave t b (own_step (done o x.regs p) w (program_pc code rows x) x).hart (after_done (done u y.regs p) y).hart)
+  tick_place b i m w jumped (Stops c) u tj s = inl refl
+  tick_place b i m w jumped (Goes pc a q) (Stops c) tj s = absurd s
+  tick_place b i m w jumped (Goes pc a q) (Goes qc e r) tj s = ⊎_elim
+      (λ (k : (jumped ≡ true) × (pc ≡ qc)). let out : is_jump w ≡ true = tj ∙ k.0 in inl (grind (arith, common_steps, i, out)))
+      (λ (k : (jumped ≡ false) × (j : ℕ) × (left : ℕ) × (own_place m.word < j) × (j < length m.moved) × (pc ≡ moved_at b.row.at + 4 * j) × (slice_get m.moved j ≡ Some (leave left)) × (jump_of (decode_of left) (moved_at b.row.at + 4 * j) ≡ Some qc)).
+      let out : is_jump w ≡ false = tj ∙ k.0 in inr (grind (arith, common_steps, i, out), exit b m w pc qc a e s.1 k.1 k.2 k.3 k.4 k.5 k.6 k.7))
+      s.2
 
   -- the word of the tick, and the program's, lead to the same
   pub ticking : (b : Piece) → In b ps → IsBase b → x.inside ≡ true → (k : AtMoved t budget b x y) → k.j ≡ own_place (k.m).word
@@ -656,10 +672,10 @@ module _ (t : Words) (g : Ground t) (budget : ℕ) (code : Code) (rows : List Ro
 
   -- ---- together
 
-  fetch_text : (o : Option MarkedWord) → x.inside ≡ false → is_text_word t x.pc ≡ true → get code x.pc ≡ o → fetched t code x ≡ o
+  pub fetch_text : (o : Option MarkedWord) → x.inside ≡ false → is_text_word t x.pc ≡ true → get code x.pc ≡ o → fetched t code x ≡ o
   fetch_text o i l e = cond-false x.inside _ _ i ∙ (cond-true (is_text_word t x.pc) (get code x.pc) None l ∙ e)
 
-  fetch_none : x.inside ≡ false → is_text_word t x.pc ≡ false → fetched t code x ≡ None
+  pub fetch_none : x.inside ≡ false → is_text_word t x.pc ≡ false → fetched t code x ≡ None
   fetch_none i l = cond-false x.inside _ _ i ∙ cond-false (is_text_word t x.pc) (get code x.pc) None l
 
   outside : Outside x y → x.ticks < budget → Owes None (fetched t code x)
