@@ -65,15 +65,15 @@ own_outside : (n : Next) (regs : List ℕ) (w home : ℕ) (x : Hart) → x.insid
 own_outside (Go pc) regs w home x e = ap (λ b. b && not (is_jump w)) e
 own_outside (Stop cause) regs w home x e = refl
 
+-- what a turn owes
+abbrev pub OwesBy : Placed → Plan → (families ages : ℕ → ℕ) → Words → ℕ → List Piece → ℕ → PlainHart → Prog → Level → Bool → Solo → Type 0
+OwesBy i plan families ages t budget ps h y p v true z = Reads i plan families ages t budget ps z.hart (plain.turn_alone t h (record { hart = y; prog = p })).hart (passed plan y v)
+OwesBy i plan families ages t budget ps h y p v false z = Reads i plan families ages t budget ps z.hart y v
+
 module _ (i : Placed) (plan : Plan) (families ages : ℕ → ℕ) (t : Words) (g : Ground t) (budget : ℕ) (cap : budget < 2 ^ 64) (code : Code) (rows : List Row) (ps : List Piece) (clock : ℕ) (st : Static t code rows ps clock) (rd : Ready i plan families ages ps)
     (h : ℕ) (x : Hart) (y : PlainHart) (p : Prog) (d : Dynamic t budget ps x y) (on : x.stop ≡ None) (v : Level) where
-  -- what a turn owes
-  abbrev OwesBy : Bool → Solo → Type 0
-  OwesBy true z = Reads i plan families ages t budget ps z.hart (plain.turn_alone t h (record { hart = y; prog = p })).hart (passed plan y v)
-  OwesBy false z = Reads i plan families ages t budget ps z.hart y v
-
   abbrev pub Owes : Option MarkedWord → Type 0
-  Owes o = OwesBy (is_tick o) (step_of o h (program_pc code rows x) (record { hart = x; prog = p }))
+  Owes o = OwesBy i plan families ages t budget ps h y p v (is_tick o) (step_of o h (program_pc code rows x) (record { hart = x; prog = p }))
 
   owes : (o : Option MarkedWord) → fetched t code x ≡ o → Owes o → Owes (fetched t code x)
   owes o e k = subst Owes (sym e) k
@@ -81,7 +81,7 @@ module _ (i : Placed) (plan : Plan) (families ages : ℕ → ℕ) (t : Words) (g
   brought : (z : Hart) → Brings t g budget code rows ps clock st h x y p d on z → Reads i plan families ages t budget ps z y v → Owes (fetched t code x)
   brought z b k =
       owes b.0 b.1
-      (subst (λ c. OwesBy c (step_of b.0 h (program_pc code rows x) (record { hart = x; prog = p }))) (sym b.2) (subst (λ (s : Solo). OwesBy false s) (sym b.3) k))
+      (subst (λ c. OwesBy i plan families ages t budget ps h y p v c (step_of b.0 h (program_pc code rows x) (record { hart = x; prog = p }))) (sym b.2) (subst (λ (s : Solo). OwesBy i plan families ages t budget ps h y p v false s) (sym b.3) k))
 
   -- behind a tick a hart is outside, or it leaves
   abbrev Behind : Hart → PlainHart → Type 0
@@ -98,7 +98,7 @@ module _ (i : Placed) (plan : Plan) (families ages : ℕ → ℕ) (t : Words) (g
       let s = tick_keeps o h (program_pc code rows x) (record { hart = x; prog = p }) tick in
       let on : Stand i budget (passed plan y v) x.bank (x.ticks + 1) = ticks_on i budget (acted plan y v) x.bank x.ticks k in
       let stand : Stand i budget (passed plan y v) z.bank z.ticks = subst (λ n. Stand i budget (passed plan y v) n z.ticks) (sym s.0) (subst (Stand i budget (passed plan y v) x.bank) (sym s.1) on) in
-      owes o e (subst (λ c. OwesBy c (step_of o h (program_pc code rows x) (record { hart = x; prog = p }))) (sym tick) (reads_behind z _ b stand))
+      owes o e (subst (λ c. OwesBy i plan families ages t budget ps h y p v c (step_of o h (program_pc code rows x) (record { hart = x; prog = p }))) (sym tick) (reads_behind z _ b stand))
 
   -- ---- outside
 

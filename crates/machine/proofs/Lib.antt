@@ -26,3 +26,5 @@ pub mod Told
 pub mod Force
 pub mod Ways
 pub mod ForceTurns
+pub mod ForceKeeping
+pub mod ForceEvents
