@@ -15,7 +15,7 @@ use Rattle.machine.specs.Openings.{opening_now}
 use Rattle.machine.proofs.Lists.{length_slice_set}
 use Rattle.machine.proofs.Invariant.{Piece, Outside, InBase, InMini, Dynamic, Inv}
 
-length_place : (timer : Bool) (s v ticks : ℕ) (bank : List ℕ) → length (set_place timer s v ticks bank) ≡ length bank
+pub length_place : (timer : Bool) (s v ticks : ℕ) (bank : List ℕ) → length (set_place timer s v ticks bank) ≡ length bank
 length_place false s v ticks bank = length_slice_set bank s v
 length_place true s v ticks bank = length_slice_set (slice_set bank (s + 1) v) s (if v == 0 then 0 else (2 ^ 64 - ticks) % 2 ^ 64) ∙ length_slice_set bank (s + 1) v
 

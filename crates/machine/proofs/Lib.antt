@@ -28,3 +28,4 @@ pub mod Ways
 pub mod ForceTurns
 pub mod ForceKeeping
 pub mod ForceEvents
+pub mod Opened

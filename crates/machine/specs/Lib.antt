@@ -9,5 +9,6 @@ pub mod Same
 pub mod Measures
 pub mod Instruments
 pub mod Laws
+pub mod Readings
 pub mod FirstTurns
 pub mod Leaving
