@@ -29,3 +29,5 @@ pub mod ForceTurns
 pub mod ForceKeeping
 pub mod ForceEvents
 pub mod Opened
+pub mod ForceArming
+pub mod Readings
