@@ -1,6 +1,6 @@
 -- What is kept of an instrument in force: its mini blocks, and what the banks of the harts tell.
-use Rattle.std.proofs.Common.{◌≡◌, ℕ, zero, suc, ◌+◌, ◌-◌, ◌*◌, ◌/◌, ◌<◌, ◌≤◌, List, length, Option, Some, None, Ok, refl, ap, ◌∙◌, arith, inl, inr}
-use Rattle.std.specs.Prelude.{Bool, false, slice_get, ◌⊎◌}
+use Rattle.std.proofs.Common.{◌≡◌, ℕ, zero, suc, ◌+◌, ◌-◌, ◌*◌, ◌/◌, ◌<◌, ◌≤◌, List, length, Some, None, refl, ap, ◌∙◌, arith, inl, inr}
+use Rattle.std.specs.Prelude.{false, ◌⊎◌}
 use Rattle.std.proofs.lemmas.Option.{slice_get_past}
 use Rattle.pn_types.specs.declared.placed.Placed.{Placed}
 use Rattle.pn_types.specs.declared.placed.PlacedSite.{PlacedSite}
@@ -13,7 +13,7 @@ use Rattle.tramp_spec.specs.Bodies.{Leap, finish, at_word, if_stood}
 use Rattle.tramp_spec.specs.Harts.{Hart, bench_of}
 use Rattle.tramp_spec.specs.Slots.{places_of, ArePlaces}
 use Rattle.tramp_spec.specs.Statements.{body_of}
-use Rattle.tramp_spec.specs.Steps.{Bench, step_on, stand}
+use Rattle.tramp_spec.specs.Steps.{Bench, step_on}
 use Rattle.tramp_spec.specs.declared.mark.MarkedWord.{MarkedWord}
 use Rattle.prim_code.specs.Fitting.{AreStmtsOf}
 use Rattle.machine.specs.Cores.{In, Live}

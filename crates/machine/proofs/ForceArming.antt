@@ -1,38 +1,35 @@
 -- An instrument is armed: from then on it is in force.
-use Rattle.std.proofs.Common.{◌≡◌, ℕ, zero, suc, ◌+◌, ◌-◌, ◌*◌, ◌^◌, ◌<◌, ◌≤◌, List, [], ◌∷◌, ◌++◌, length, Option, Some, None, refl, sym, ap, ◌∙◌, subst, arith, ⊎_elim, inl, inr}
-use Rattle.std.specs.Prelude.{Bool, true, false, find, slice_get, unwrap_or, ◌⊎◌, ◌==◌}
+use Rattle.std.proofs.Common.{◌≡◌, ℕ, ◌+◌, ◌-◌, ◌^◌, ◌<◌, ◌≤◌, List, [], ◌∷◌, ◌++◌, length, Option, Some, None, refl, sym, ap, ◌∙◌, subst, arith, ⊎_elim, inl, inr}
+use Rattle.std.specs.Prelude.{true, false, find, slice_get, unwrap_or, ◌⊎◌, ◌==◌}
 use Rattle.std.specs.List.{AllByRecursion, IsDistinct}
-use Rattle.std.specs.FinMap.{get}
 use Rattle.std.proofs.lemmas.Bool.{true≢false, cases_Bool, cond-true, cond-false, eq-eqb, eqb-true}
 use Rattle.pn_types.specs.declared.placed.Placed.{Placed}
 use Rattle.pn_types.specs.declared.placed.PlacedSite.{PlacedSite}
 use Rattle.pn_types.specs.declared.plan.Plan.{Plan}
 use Rattle.pn_types.specs.declared.plan.Site.{Site}
-use Rattle.pn_types.specs.declared.plan.Var.{Var}
 use Rattle.rv_word.specs.Plain.{PlainHart, Plain}
 use Rattle.tramp_spec.specs.Codes.{Code}
 use Rattle.tramp_spec.specs.Harts.{Hart, is_tick}
 use Rattle.tramp_spec.specs.Marks.{tool}
-use Rattle.tramp_spec.specs.Slots.{Place, places, places_of, ArePlaces, set_places}
+use Rattle.tramp_spec.specs.Slots.{places_of, set_places}
 use Rattle.tramp_spec.specs.Statements.{body_of}
 use Rattle.tramp_spec.specs.declared.mark.MarkedWord.{MarkedWord}
 use Rattle.prim_code.specs.Fitting.{AreStmtsOf}
 use Rattle.prim_code.proofs.Listing.{length_places}
 use Rattle.machine.specs.Cores.{In, Row, Live, Core, is_current}
 use Rattle.machine.specs.Effects.{after, armed}
-use Rattle.machine.specs.Events.{Arm, MayArm, HasMini, IsEntered}
-use Rattle.machine.specs.Instruments.{words_at, body_in, HasBody, CarriesSites, Carries, IsMiniOf, Spares, IsSpared}
-use Rattle.machine.specs.Measures.{Level, site_at, opened}
+use Rattle.machine.specs.Events.{Arm, MayArm, IsEntered}
+use Rattle.machine.specs.Instruments.{words_at, body_in, HasBody, CarriesSites, Carries, Spares, IsSpared}
+use Rattle.machine.specs.Measures.{site_at, opened}
 use Rattle.machine.specs.Openings.{opening, opening_now}
 use Rattle.machine.specs.Readings.{IsMeasurable}
 use Rattle.machine.proofs.Arming.{arms, get_map}
 use Rattle.machine.proofs.Force.{Fits, Mine, Ready, Reads}
 use Rattle.machine.proofs.ForceEvents.{Known}
 use Rattle.machine.proofs.Homes.{piece_of, row_in, one_block, mini_shape, base_shape}
-use Rattle.machine.proofs.Invariant.{Piece, IsBase, Linked, HasFamily, BaseShape, MiniShape, Static, Door, Inv}
-use Rattle.machine.proofs.Lists.{find_gives, find_finds, same_some, Stands}
+use Rattle.machine.proofs.Invariant.{Piece, IsBase, Linked, BaseShape, MiniShape, Static, Door, Inv}
+use Rattle.machine.proofs.Lists.{find_gives, find_finds, Stands}
 use Rattle.machine.proofs.Opened.{arming_sets, length_initials, initials_low, AreWithin}
-use Rattle.machine.proofs.Steps.{within}
 use Rattle.machine.proofs.Told.{Stand, starts}
 
 -- ---- bodies, in the code

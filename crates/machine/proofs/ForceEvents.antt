@@ -1,6 +1,6 @@
 -- What is kept of an instrument in force, through every event.
-use Rattle.std.proofs.Common.{◌≡◌, ℕ, zero, suc, ◌+◌, ◌-◌, ◌%◌, ◌^◌, ◌<◌, ◌≤◌, List, [], ◌∷◌, ◌++◌, take, length, Option, Some, None, refl, sym, ap, ◌∙◌, subst, arith, ⊎_elim, inl, inr}
-use Rattle.std.specs.Prelude.{map, Bool, true, false, cond, if◌then◌else◌, IsTrue, slice_get, slice_set, slice_index, ◌⊎◌, ◌&&◌, ◌==◌}
+use Rattle.std.proofs.Common.{◌≡◌, ℕ, suc, ◌+◌, ◌-◌, ◌%◌, ◌^◌, ◌<◌, ◌≤◌, List, [], ◌∷◌, ◌++◌, take, length, Option, Some, None, refl, sym, ap, ◌∙◌, subst, arith, ⊎_elim, inl, inr}
+use Rattle.std.specs.Prelude.{Bool, true, false, cond, if◌then◌else◌, IsTrue, slice_get, slice_set, slice_index, ◌⊎◌, ◌&&◌, ◌==◌}
 use Rattle.std.proofs.lemmas.Bool.{true≢false, cases_eq, cond-true, cond-false, eq-eqb, ne_eqb, and_left}
 use Rattle.std.proofs.lemmas.List.{get_or-set_other}
 use Rattle.pn_types.specs.declared.placed.Placed.{Placed}
@@ -12,14 +12,14 @@ use Rattle.rv_exec.specs.Run.{run_from}
 use Rattle.rv_exec.proofs.Runs.{run_from-append}
 use Rattle.tramp_spec.specs.Harts.{Hart, Solo, is_tick}
 use Rattle.tramp_spec.specs.Marks.{tool}
-use Rattle.tramp_spec.specs.Slots.{Place, width, places_of, IsSlotOf, ShareNone, set_place, set_places}
+use Rattle.tramp_spec.specs.Slots.{Place, places_of, IsSlotOf, set_place, set_places}
 use Rattle.tramp_spec.specs.declared.block.Block.{Block}
 use Rattle.tramp_spec.specs.declared.mark.MarkedWord.{MarkedWord}
 use Rattle.prim_code.specs.Standing.{SameSlots}
 use Rattle.machine.specs.Cores.{In, Row, Status, Live, Retired, Core, is_current}
 use Rattle.machine.specs.Effects.{after, owned, armed, at_set, retired_at, is_kept, written, mini_linked, point_linked, point_unlinked}
 use Rattle.machine.specs.Events.{Event, Turn, Write, LinkMini, UnlinkMini, LinkPoint, UnlinkPoint, Free, Arm, Sample, May, MayWrite, MayLinkMini, MayLinkPoint, HasMini, IsQuiet, is_linked, StandsIn}
-use Rattle.machine.specs.Instruments.{IsMiniOf, IsSiteOf, Spares, Lets, AllLet, body_of_block}
+use Rattle.machine.specs.Instruments.{Spares, Lets, AllLet, body_of_block}
 use Rattle.machine.specs.Measures.{Level, level, passed, passed_by}
 use Rattle.machine.specs.Openings.{opening_now}
 use Rattle.machine.specs.Replays.{replay, Legal, owns}

@@ -1,11 +1,11 @@
 -- What is kept of an instrument in force stays at an event of the tool.
-use Rattle.std.proofs.Common.{◌≡◌, ℕ, ◌+◌, ◌*◌, ◌<◌, ◌≤◌, List, [], length, Option, Some, None, refl, sym, ap, ◌∙◌, subst, arith, ⊎_elim, inl, inr}
-use Rattle.std.specs.Prelude.{Bool, true, false, ◌⊎◌}
+use Rattle.std.proofs.Common.{◌≡◌, ℕ, ◌+◌, ◌*◌, List, [], sym, ap, ◌∙◌, subst, ⊎_elim, inl, inr}
+use Rattle.std.specs.Prelude.{true, false}
 use Rattle.pn_types.specs.declared.placed.Placed.{Placed}
 use Rattle.pn_types.specs.declared.placed.PlacedSite.{PlacedSite}
 use Rattle.pn_types.specs.declared.plan.Plan.{Plan}
 use Rattle.rv_word.specs.Plain.{Words, PlainHart}
-use Rattle.tramp_spec.specs.Blocks.{tail_of, moved_at}
+use Rattle.tramp_spec.specs.Blocks.{tail_of}
 use Rattle.tramp_spec.specs.Bodies.{Safe, finish}
 use Rattle.tramp_spec.specs.Harts.{Hart, bench_of}
 use Rattle.tramp_spec.specs.declared.mark.MarkedWord.{MarkedWord}
@@ -13,8 +13,8 @@ use Rattle.machine.specs.Cores.{In, Row, Status, Live}
 use Rattle.machine.specs.Instruments.{IsMiniOf, Spares}
 use Rattle.machine.specs.Measures.{Level}
 use Rattle.machine.proofs.Follow.{Image, Follows}
-use Rattle.machine.proofs.Force.{end_of, Mine, Ready, Way, BaseTells, BaseReads, MiniReads, Reads}
-use Rattle.machine.proofs.Invariant.{Piece, IsBase, Linked, HasFamily, AtMoved, AtLeave, BasePlace, InBase, InMini}
+use Rattle.machine.proofs.Force.{Mine, Ready, Way, BaseTells, BaseReads, MiniReads, Reads}
+use Rattle.machine.proofs.Invariant.{Piece, Linked, HasFamily, AtMoved, AtLeave, BasePlace, InBase, InMini}
 
 -- ---- a hart stands alike in base blocks at one address and point
 

@@ -1,6 +1,6 @@
 -- What a hart's bank tells of an instrument in force, at a turn of the hart.
-use Rattle.std.proofs.Common.{◌≡◌, ℕ, zero, suc, ◌+◌, ◌-◌, ◌*◌, ◌%◌, ◌^◌, ◌<◌, ◌≤◌, List, length, Option, Some, None, refl, sym, ap, ◌∙◌, subst, arith, ⊎_elim, inl, inr}
-use Rattle.std.specs.Prelude.{Bool, true, false, not, slice_get, slice_set, slice_index, ◌⊎◌, ◌&&◌}
+use Rattle.std.proofs.Common.{◌≡◌, ℕ, zero, suc, ◌+◌, ◌-◌, ◌*◌, ◌^◌, ◌<◌, ◌≤◌, List, length, Option, Some, None, refl, sym, ap, ◌∙◌, subst, arith, ⊎_elim, inl, inr}
+use Rattle.std.specs.Prelude.{Bool, true, false, not, slice_set, slice_index, ◌⊎◌, ◌&&◌}
 use Rattle.std.specs.FinMap.{get}
 use Rattle.std.proofs.lemmas.Bool.{true≢false, cases_lt}
 use Rattle.std.proofs.lemmas.Grind.{common_steps}
@@ -8,20 +8,19 @@ use Rattle.pn_types.specs.declared.placed.Placed.{Placed}
 use Rattle.pn_types.specs.declared.placed.PlacedSite.{PlacedSite}
 use Rattle.pn_types.specs.declared.plan.Plan.{Plan}
 use Rattle.rv_word.specs.Registers.{reg}
-use Rattle.rv_word.specs.Exec.{Prog, Outcome, Stops, Goes, done, exec_of, next}
+use Rattle.rv_word.specs.Exec.{Prog, done, exec_of, next}
 use Rattle.rv_word.specs.Plain.{Words, PlainHart, program_word, after_done}
 use Rattle.rv_word.specs.Plain as plain
 use Rattle.rv_word.specs.declared.outcome.Next.{Next}
 use Rattle.rv_word.specs.declared.outcome.Next.TheVariants.{Go, Stop}
 use Rattle.tramp_spec.specs.Banks.{set_bank}
-use Rattle.tramp_spec.specs.Blocks.{tail_of, moved_at}
+use Rattle.tramp_spec.specs.Blocks.{tail_of}
 use Rattle.tramp_spec.specs.Bodies.{Safe, Stands, Leap, finish}
 use Rattle.tramp_spec.specs.Codes.{Code, is_text_word}
 use Rattle.tramp_spec.specs.Harts.{Hart, Solo, bench_of, own_hart, own_step, step_of, marked_step, is_tick}
 use Rattle.tramp_spec.specs.Marks.{own, enter, tool, is_own, is_jump}
 use Rattle.tramp_spec.specs.MovedWords.{own_place}
-use Rattle.tramp_spec.specs.Moves.{SameStep, LeadsHome}
-use Rattle.tramp_spec.specs.Slots.{Place, places_of, IsSlotOf, ArePlaces}
+use Rattle.tramp_spec.specs.Slots.{places_of}
 use Rattle.tramp_spec.specs.Steps.{Bench}
 use Rattle.tramp_spec.specs.declared.mark.Mark.{Mark}
 use Rattle.tramp_spec.specs.declared.mark.Mark.TheVariants.{Own, Enter, Tool, Leave}
@@ -32,15 +31,14 @@ use Rattle.machine.specs.Cores.{In, Row, Written, Live, is_current, is_live}
 use Rattle.machine.specs.Measures.{Level, site_at, passed}
 use Rattle.machine.specs.Places.{program_pc}
 use Rattle.machine.specs.Turns.{fetched}
-use Rattle.machine.proofs.Force.{acted, finish_end, finish_leap, end_of, Fits, Mine, Ready, Way, Ahead, BaseTells, BaseReads, MiniReads, Reads}
-use Rattle.machine.proofs.Homes.{one_block, mini_shape, base_shape}
-use Rattle.machine.proofs.Invariant.{Ground, Piece, IsBase, Linked, HasFamily, Leads, Static, Saved, Outside, AtSave, AtSaved, AtMoved, AtLeave, BasePlace, InBase, InMini, HartOk, Dynamic, Door}
-use Rattle.machine.proofs.Lists.{get_set_other}
+use Rattle.machine.proofs.Force.{acted, finish_end, finish_leap, end_of, Ready, Way, Ahead, BaseTells, Reads}
+use Rattle.machine.proofs.Homes.{base_shape}
+use Rattle.machine.proofs.Invariant.{Ground, Piece, IsBase, Linked, Leads, Static, Saved, Outside, AtSave, AtSaved, AtMoved, AtLeave, BasePlace, InMini, HartOk, Dynamic, Door}
 use Rattle.machine.proofs.Texts.{text_cases}
 use Rattle.machine.proofs.Told.{Stand, Stood, starts, same_told, ticks_on}
 use Rattle.machine.proofs.Turns as turns
 use Rattle.machine.proofs.Turns.{Brings}
-use Rattle.machine.proofs.Ways.{none_acts, no_site, rests, onto_mini, onto_tail}
+use Rattle.machine.proofs.Ways.{rests, onto_mini, onto_tail}
 
 -- ---- a tick leaves the bank
 

@@ -1,8 +1,8 @@
 -- What arming sets, and with how many ticks.
-use Rattle.std.proofs.Common.{◌≡◌, ℕ, zero, suc, ◌+◌, ◌-◌, ◌%◌, ◌^◌, ◌<◌, ◌≤◌, List, [], ◌∷◌, length, Option, Some, None, refl, sym, ap, ◌∙◌, subst, arith, ⊎_elim, inl, inr}
-use Rattle.std.specs.Prelude.{Bool, true, false, if◌then◌else◌, IsTrue, is_none, map, slice_get, slice_set, slice_index, ◌⊎◌, ◌&&◌, ◌==◌, nat_lt}
+use Rattle.std.proofs.Common.{◌≡◌, ℕ, zero, suc, ◌+◌, ◌-◌, ◌%◌, ◌^◌, ◌<◌, ◌≤◌, List, [], ◌∷◌, length, Option, Some, None, refl, sym, ap, ◌∙◌, subst, arith, ⊎_elim}
+use Rattle.std.specs.Prelude.{Bool, true, false, if◌then◌else◌, IsTrue, is_none, slice_get, slice_set, slice_index, ◌==◌, nat_lt}
 use Rattle.std.specs.List.{AllByRecursion}
-use Rattle.std.proofs.lemmas.Bool.{eqb-true, ltb-true, and_parts, cases_eq}
+use Rattle.std.proofs.lemmas.Bool.{ltb-true, and_parts, cases_eq}
 use Rattle.std.proofs.lemmas.List.{get_or-set_same, get_or-set_other, length-set}
 use Rattle.pn_types.specs.declared.plan.Var.{Var}
 use Rattle.rv_word.specs.Plain.{Words, PlainHart, Plain, Alone, plain, turn_of, hart_after, may_go, can}
@@ -10,11 +10,11 @@ use Rattle.rv_word.specs.Plain as plain
 use Rattle.rv_word.specs.declared.outcome.Next.{Next}
 use Rattle.rv_word.specs.declared.outcome.Next.TheVariants.{Go, Stop}
 use Rattle.rv_exec.specs.Run.{run_from, LegalFrom}
-use Rattle.tramp_spec.specs.Banks.{bank_len, first_slot}
+use Rattle.tramp_spec.specs.Banks.{bank_len}
 use Rattle.tramp_spec.specs.Slots.{Place, width, IsSlotOf, ArePlaces, set_place, set_places, initials, running, read_place}
 use Rattle.prim_code.specs.Standing.{HasValue, StandFor}
 use Rattle.prim_code.proofs.Keeping.{stays, reads}
-use Rattle.machine.specs.Readings.{AreSet, ArmingSets}
+use Rattle.machine.specs.Readings.{ArmingSets}
 use Rattle.machine.proofs.Arming.{length_place, length_places}
 use Rattle.machine.proofs.ForceEvents.{set_leaves}
 use Rattle.machine.proofs.Lists.{get_set_same, get_set_other, same_some}

@@ -1,6 +1,6 @@
 -- What an instrument in force reads is what its plan measures.
 use Rattle.std.proofs.Common.{◌≡◌, ℕ, zero, suc, ◌+◌, ◌%◌, ◌^◌, ◌<◌, ◌≤◌, List, [], ◌∷◌, ◌++◌, take, drop, length, Option, Some, None, refl, sym, ap, ◌∙◌, subst, arith, ⊎_elim, length-append}
-use Rattle.std.specs.Prelude.{Bool, true, false, if◌then◌else◌, slice_get, slice_index, ◌⊎◌, ◌==◌}
+use Rattle.std.specs.Prelude.{Bool, true, false, if◌then◌else◌, slice_get, slice_index, ◌==◌}
 use Rattle.std.proofs.lemmas.Bool.{cases_lt}
 use Rattle.std.proofs.lemmas.Option.{slice_get_past}
 use Rattle.std.proofs.Math.Seq.{take-append_seam, take-append-add, drop-append_seam}
@@ -14,25 +14,24 @@ use Rattle.rv_exec.specs.Run.{run_from}
 use Rattle.rv_exec.specs.Start.{start}
 use Rattle.rv_exec.proofs.Runs.{length-plain, length-run_from}
 use Rattle.tramp_spec.specs.Harts.{Hart}
-use Rattle.tramp_spec.specs.Slots.{places, places_of, read_first, read_place}
+use Rattle.tramp_spec.specs.Slots.{places, read_first, read_place}
 use Rattle.prim_code.specs.Standing.{HasValue}
 use Rattle.machine.specs.Cores.{Core, start_core}
 use Rattle.machine.specs.Effects.{after}
-use Rattle.machine.specs.Events.{Event, Arm, Sample, May, IsQuiet}
+use Rattle.machine.specs.Events.{Event, Arm, IsQuiet}
 use Rattle.machine.specs.Instruments.{reading, Carries, IsSpared, AllLet}
 use Rattle.machine.specs.Laws.{IsProgram}
 use Rattle.machine.specs.Measures.{Level, passed_by, level, level_at, opened, is_timer, measured, difference, measure, measure_of}
-use Rattle.machine.specs.Readings.{reading_if, readings, ticks_of, IsMeasurable, IsSampled, sampled_first, MeasuresFor, ReadingsMeasure}
+use Rattle.machine.specs.Readings.{reading_if, readings, ticks_of, IsMeasurable, ReadingsMeasure}
 use Rattle.machine.specs.Replays.{replay, Legal, owns}
 use Rattle.machine.proofs.Beginning.{begins, starts}
 use Rattle.machine.proofs.ForceArming.{families_in, ages_in, arms_known}
 use Rattle.machine.proofs.ForceEvents.{Known, all_since, quiet_reads}
-use Rattle.machine.proofs.Invariant.{Inv}
 use Rattle.machine.proofs.Levels.{level-append}
 use Rattle.machine.proofs.Opened.{AreWithin, within_run}
 use Rattle.machine.proofs.Replaying.{replay-append, owns-append, legal-parts}
-use Rattle.machine.proofs.Steps.{all_events, fixed, within}
-use Rattle.machine.proofs.Told.{Stand, Tells}
+use Rattle.machine.proofs.Steps.{all_events, fixed}
+use Rattle.machine.proofs.Told.{Tells}
 
 -- ---- one reading
 

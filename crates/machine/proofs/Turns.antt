@@ -527,8 +527,8 @@ module _ (t : Words) (g : Ground t) (budget : ℕ) (code : Code) (rows : List Ro
         tk.2,
         ap (program_word t) k.home ∙ m.here,
         subst (λ a. SameStep (is_jump m.word) (own_place m.word) to m.moved (exec_of w a h x.regs p) (exec_of m.word y.pc h y.regs p)) (sym pc)
-        (subst (λ rs. SameStep (is_jump m.word) (own_place m.word) to m.moved (exec_of w (to + 4 * own_place m.word) h rs p) (exec_of m.word y.pc h y.regs p)) (sym is)
-        (subst (λ a. SameStep (is_jump m.word) (own_place m.word) to m.moved (exec_of w (to + 4 * own_place m.word) h ((m.moves).before (own_place m.word) k.regs) p) (exec_of m.word a h y.regs p)) (sym k.home) same0)),
+            (subst (λ rs. SameStep (is_jump m.word) (own_place m.word) to m.moved (exec_of w (to + 4 * own_place m.word) h rs p) (exec_of m.word y.pc h y.regs p)) (sym is)
+            (subst (λ a. SameStep (is_jump m.word) (own_place m.word) to m.moved (exec_of w (to + 4 * own_place m.word) h ((m.moves).before (own_place m.word) k.regs) p) (exec_of m.word a h y.regs p)) (sym k.home) same0)),
       )
 
   at_tick : (b : Piece) → In b ps → IsBase b → (b.row.status ≡ Written → ⊥) → x.inside ≡ true → (k : AtMoved t budget b x y) → k.j ≡ own_place (k.m).word → Owes (Some (b.row.len - 3 - k.j)) (fetched t code x)

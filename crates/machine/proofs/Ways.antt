@@ -1,14 +1,12 @@
 -- From block to block, what a hart's bank tells of an instrument in force.
-use Rattle.std.proofs.Common.{◌≡◌, ℕ, ◌+◌, ◌-◌, ◌*◌, ◌%◌, ◌^◌, ◌<◌, ◌≤◌, List, length, Option, Some, None, refl, sym, ap, ◌∙◌, subst, arith, ⊎_elim, inl, inr}
-use Rattle.std.specs.Prelude.{Bool, true, false, slice_get, ◌⊎◌}
+use Rattle.std.proofs.Common.{◌≡◌, ℕ, ◌+◌, ◌-◌, ◌^◌, ◌<◌, ◌≤◌, List, length, Some, None, sym, ap, ◌∙◌, subst, arith, ⊎_elim, inl, inr}
+use Rattle.std.specs.Prelude.{Bool, ◌⊎◌}
 use Rattle.std.proofs.lemmas.Bool.{cases_lt, cases_order}
 use Rattle.pn_types.specs.declared.placed.Placed.{Placed}
 use Rattle.pn_types.specs.declared.placed.PlacedSite.{PlacedSite}
 use Rattle.pn_types.specs.declared.plan.Plan.{Plan}
-use Rattle.pn_types.specs.declared.plan.Site.{Site}
 use Rattle.rv_word.specs.Plain.{Words, PlainHart}
 use Rattle.rv_word.specs.Registers.{arguments_of}
-use Rattle.tramp_spec.specs.Blocks.{tail_of}
 use Rattle.tramp_spec.specs.Bodies.{Stands, finished}
 use Rattle.tramp_spec.specs.Codes.{Code}
 use Rattle.tramp_spec.specs.Harts.{Hart, bench_of}
@@ -16,13 +14,12 @@ use Rattle.tramp_spec.specs.Slots.{places_of}
 use Rattle.tramp_spec.specs.Statements.{body_of}
 use Rattle.tramp_spec.specs.declared.mark.MarkedWord.{MarkedWord}
 use Rattle.prim_code.specs.Standing.{SameSlots}
-use Rattle.machine.specs.Cores.{In, Row, Live}
+use Rattle.machine.specs.Cores.{In, Row}
 use Rattle.machine.specs.Instruments.{IsMiniOf, Spares}
 use Rattle.machine.specs.Measures.{Level, site_values, site_at}
 use Rattle.machine.proofs.Force.{acted, Mine, Ready, Way}
 use Rattle.machine.proofs.Homes.{one_block}
 use Rattle.machine.proofs.Invariant.{Piece, Linked, LiveOf, Leads, Static, Saved}
-use Rattle.machine.proofs.Lists.{same_some}
 use Rattle.machine.proofs.Told.{Stand, Stood, starts, behind, same_told, unmoved, works}
 
 -- the arguments are the program's

@@ -4,4 +4,7 @@
 
 mod laws;
 
-pub use laws::{arming_sets, erasure, first_turns, leaves_soon, levels_go_on, measures_add, readings_measure, replays_go_on};
+pub use laws::{
+    arming_sets, erasure, first_turns, leaves_soon, levels_go_on, measures_add, readings_measure,
+    replays_go_on,
+};
