@@ -36,8 +36,8 @@ use Rattle.machine.proofs.Homes.{base_shape}
 use Rattle.machine.proofs.Invariant.{Ground, Piece, IsBase, Linked, Leads, Static, Saved, Outside, AtSave, AtSaved, AtMoved, AtLeave, BasePlace, InMini, HartOk, Dynamic, Door}
 use Rattle.machine.proofs.Texts.{text_cases}
 use Rattle.machine.proofs.Told.{Stand, Stood, starts, same_told, ticks_on}
-use Rattle.machine.proofs.Turns as turns
-use Rattle.machine.proofs.Turns.{Brings}
+use Rattle.machine.proofs.Nexts as nexts
+use Rattle.machine.proofs.Nexts.{Brings}
 use Rattle.machine.proofs.Ways.{rests, onto_mini, onto_tail}
 
 -- ---- a tick leaves the bank
@@ -130,12 +130,12 @@ module _ (i : Placed) (plan : Plan) (families ages : ℕ → ℕ) (t : Words) (g
       near r = ⊎_elim
           (λ (e : get code x.pc ≡ Some (own r.0)).
           let n = done (exec_of r.0 x.pc h x.regs p) x.regs p in
-          ticks (Some (own r.0)) (turns.fetch_text t g budget code rows ps clock st h x y p d on (Some (own r.0)) o.outside r.2 e) refl
+          ticks (Some (own r.0)) (nexts.fetch_text t g budget code rows ps clock st h x y p d on (Some (own r.0)) o.outside r.2 e) refl
           (rest (own_word r.0 (ap (get code) (sym o.pc) ∙ e)) k) (inl (own_outside n.next n.regs r.0 (program_pc code rows x) x o.outside)))
           (λ (e : (b : Piece) × In b ps × IsBase b × (b.row.point ≡ x.pc) × (b.row.status ≡ Live) × Door code b).
           let b = e.0 in
-          let f = turns.fetch_text t g budget code rows ps clock st h x y p d on (Some (enter (e.5).jump)) o.outside r.2 (ap (get code) (sym e.3) ∙ (e.5).stands) in
-          let q = turns.entering t g budget code rows ps clock st h x y p d on b e.1 e.3 e.5 o l f in
+          let f = nexts.fetch_text t g budget code rows ps clock st h x y p d on (Some (enter (e.5).jump)) o.outside r.2 (ap (get code) (sym e.3) ∙ (e.5).stands) in
+          let q = nexts.entering t g budget code rows ps clock st h x y p d on b e.1 e.3 e.5 o l f in
           brought (record x { pc = b.row.at; inside = true }) q.0
           (inr (inl (record {
             k = record { b = b; is_in = e.1; base = e.2; was = λ w. let u = e.4 in absurd cc; inside = refl; place = inl q.1 };
@@ -150,12 +150,12 @@ module _ (i : Placed) (plan : Plan) (families ages : ℕ → ℕ) (t : Words) (g
           (st.words x.pc r.0 r.1)
 
       far : (program_word t x.pc ≡ None) × (is_text_word t x.pc ≡ false) → Owes (fetched t code x)
-      far r = ticks None (turns.fetch_none t g budget code rows ps clock st h x y p d on o.outside r.1) refl (rest (no_word (ap (program_word t) (sym o.pc) ∙ r.0)) k) (inl refl)
+      far r = ticks None (nexts.fetch_none t g budget code rows ps clock st h x y p d on o.outside r.1) refl (rest (no_word (ap (program_word t) (sym o.pc) ∙ r.0)) k) (inl refl)
 
   -- ---- a jump of the tool
 
   stands_first : (m : Piece) → In m ps → Linked m → Stands m.body m.row.at (bench_of x)
-  stands_first m hm k = record { aligned = (st.places m hm).aligned; fits = turns.body_fits t g budget code rows ps clock st h x y p d on m hm k; file = d.first; bank = d.bank }
+  stands_first m hm k = record { aligned = (st.places m hm).aligned; fits = nexts.body_fits t g budget code rows ps clock st h x y p d on m hm k; file = d.first; bank = d.bank }
 
   hop : (b : Piece) (n q : ℕ) (live : Bool) (w : ℕ) → In b ps → IsBase b → (b.row.status ≡ Written → ⊥) → x.inside ≡ true → y.pc ≡ b.row.point → x.ticks < budget → Saved x y → Hops x.pc q w → fetched t code x ≡ Some (tool w) → Leads ps b.row.at n q live
       → Way i plan families ages budget y v b.row.at n x.bank x.ticks → Owes (fetched t code x)
@@ -163,17 +163,17 @@ module _ (i : Placed) (plan : Plan) (families ages : ℕ → ℕ) (t : Words) (g
     where
       tail : (le.lo ≡ 0) × (q ≡ tail_of b.row.at) → Owes (fetched t code x)
       tail r =
-          let k = turns.to_tail t g budget code rows ps clock st h x y p d on b q w hb e l sv hops f r.1 in
+          let k = nexts.to_tail t g budget code rows ps clock st h x y p d on b q w hb e l sv hops f r.1 in
           brought (record x { pc = q }) k.0
           (inr (inl (record { k = record { b = b; is_in = hb; base = bs; was = was; inside = ins; place = inr (inr (inl k.1)) }; told = onto_tail i plan families ages t code rows ps clock st rd budget cap x y v b.row.at n q live le r.0 way })))
 
       mini : (m : Piece) × In m ps × Linked m × (m.family ≡ b.row.at) × (m.age ≡ le.lo) × (m.row.at ≡ q) × (live ≡ true → m.row.status ≡ Live) → Owes (fetched t code x)
       mini r =
           let m = r.0 in
-          let fm = turns.family_is t g budget code rows ps clock st h x y p d on b m b.row.at hb refl r.1 r.2 r.3 in
-          brought (record x { pc = q }) (turns.to_mini t g budget code rows ps clock st h x y p d on m q w r.1 hops f r.5)
+          let fm = nexts.family_is t g budget code rows ps clock st h x y p d on b m b.row.at hb refl r.1 r.2 r.3 in
+          brought (record x { pc = q }) (nexts.to_mini t g budget code rows ps clock st h x y p d on m q w r.1 hops f r.5)
           (inr (inr (record {
-            k = turns.in_first t g budget code rows ps clock st h x y p d on b m q was ins e l sv r.1 r.2 fm r.5;
+            k = nexts.in_first t g budget code rows ps clock st h x y p d on b m q was ins e l sv r.1 r.2 fm r.5;
             way = onto_mini i plan families ages t code rows ps clock st rd budget cap x y v b.row.at n q live le m r.1 r.2 r.3 r.4 (sym fm.point ∙ sym e) (stands_first m r.1 r.2) l sv way;
           })))
 
@@ -203,7 +203,7 @@ module _ (i : Placed) (plan : Plan) (families ages : ℕ → ℕ) (t : Words) (g
 
   save : (b : Piece) → In b ps → IsBase b → (b.row.status ≡ Written → ⊥) → x.inside ≡ true → AtSave budget b x y → Ahead i plan families ages budget y v b.row.at x.bank x.ticks → Owes (fetched t code x)
   save b hb bs was ins k a =
-      let q = turns.saving t g budget code rows ps clock st h x y p d on b hb bs ins k in
+      let q = nexts.saving t g budget code rows ps clock st h x y p d on b hb bs ins k in
       let z : Hart = record x { pc = next x.pc; bank = set_bank x.bank 1 (reg x.regs 5) } in
       brought (record x { pc = next x.pc; bank = set_bank x.bank 1 (reg x.regs 5) }) q.0
       (inr (inl (record {
@@ -216,17 +216,17 @@ module _ (i : Placed) (plan : Plan) (families ages : ℕ → ℕ) (t : Words) (g
 
   head : (b : Piece) → In b ps → IsBase b → (b.row.status ≡ Written → ⊥) → x.inside ≡ true → AtSaved budget b (b.row.at + 4) x y → Ahead i plan families ages budget y v b.row.at x.bank x.ticks → Owes (fetched t code x)
   head b hb bs was ins k a =
-      let q = turns.heading t g budget code rows ps clock st h x y p d on b hb bs ins k.pc in
+      let q = nexts.heading t g budget code rows ps clock st h x y p d on b hb bs ins k.pc in
       hop b clock b.next (is_current b.row.status) q.0 hb bs was ins k.home k.before k.saved q.2 q.1 (st.heads b hb bs) (way_ahead b a)
 
   tail : (b : Piece) → In b ps → IsBase b → (b.row.status ≡ Written → ⊥) → x.inside ≡ true → AtSaved budget b (tail_of b.row.at) x y → Stood i budget (acted plan y v) x.bank x.ticks → Owes (fetched t code x)
   tail b hb bs was ins k a =
-      let q = turns.restoring t g budget code rows ps clock st h x y p d on b hb bs ins k in
+      let q = nexts.restoring t g budget code rows ps clock st h x y p d on b hb bs ins k in
       brought _ q.0 (inr (inl (record { k = record { b = b; is_in = hb; base = bs; was = was; inside = ins; place = inr (inr (inr (inl q.1))) }; told = a })))
 
   silent : (b : Piece) → In b ps → IsBase b → (b.row.status ≡ Written → ⊥) → x.inside ≡ true → (k : AtMoved t budget b x y) → k.j < own_place (k.m).word → Stood i budget (acted plan y v) x.bank x.ticks → Owes (fetched t code x)
   silent b hb bs was ins k l a =
-      let q = turns.moving t g budget code rows ps clock st h x y p d on b hb bs ins k l in
+      let q = nexts.moving t g budget code rows ps clock st h x y p d on b hb bs ins k l in
       brought q.0 q.1
       (inr (inl (record {
         k = record { b = b; is_in = hb; base = bs; was = was; inside = q.6 ∙ ins; place = inr (inr (inr (inl q.7))) };
@@ -235,15 +235,15 @@ module _ (i : Placed) (plan : Plan) (families ages : ℕ → ℕ) (t : Words) (g
 
   tick : (b : Piece) → In b ps → IsBase b → (b.row.status ≡ Written → ⊥) → x.inside ≡ true → (k : AtMoved t budget b x y) → k.j ≡ own_place (k.m).word → Stood i budget (acted plan y v) x.bank x.ticks → Owes (fetched t code x)
   tick b hb bs was ins k e a =
-      let s = turns.ticking t g budget code rows ps clock st h x y p d on b hb bs ins k e in
+      let s = nexts.ticking t g budget code rows ps clock st h x y p d on b hb bs ins k e in
       let w = s.0 in
-      let by = turns.tick_place t g budget code rows ps clock st h x y p d on b ins k.m w (is_jump (k.m).word) (exec_of w x.pc h x.regs p) (exec_of (k.m).word y.pc h y.regs p) s.3 s.5 in
+      let by = nexts.tick_place t g budget code rows ps clock st h x y p d on b ins k.m w (is_jump (k.m).word) (exec_of w x.pc h x.regs p) (exec_of (k.m).word y.pc h y.regs p) s.3 s.5 in
       ticks (Some (own w)) s.1 refl a
       (subst (λ o. Behind (own_step (done (exec_of w x.pc h x.regs p) x.regs p) w (program_pc code rows x) x).hart (after_done (done (plain.fetched o h y p) y.regs p) y).hart) (sym s.4)
       (⊎_elim (λ z. inl z) (λ z. inr (b, hb, bs, was, z.0, z.1)) by))
 
   leave : (b : Piece) → In b ps → IsBase b → x.inside ≡ true → AtLeave t b x y → Stand i budget v x.bank x.ticks → Owes (fetched t code x)
-  leave b hb bs ins k a = brought (record x { pc = y.pc; inside = false }) (turns.leaving t g budget code rows ps clock st h x y p d on b hb bs ins k) (inl (refl, a))
+  leave b hb bs ins k a = brought (record x { pc = y.pc; inside = false }) (nexts.leaving t g budget code rows ps clock st h x y p d on b hb bs ins k) (inl (refl, a))
 
   in_place : (b : Piece) → In b ps → IsBase b → (b.row.status ≡ Written → ⊥) → x.inside ≡ true → (k : BasePlace t budget b x y) → BaseTells i plan families ages v k → Owes (fetched t code x)
   in_place b hb bs was ins (inl k) a = save b hb bs was ins k a
@@ -259,7 +259,7 @@ module _ (i : Placed) (plan : Plan) (families ages : ℕ → ℕ) (t : Words) (g
     where
       ends : k.i ≡ length (k.m).body → Owes (fetched t code x)
       ends e =
-          let q = turns.ending t g budget code rows ps clock st h x y p d on k e in
+          let q = nexts.ending t g budget code rows ps clock st h x y p d on k e in
           let fm = k.family in
           let bank : end_of k ≡ x.bank = finish_end k.f (k.m).body (k.m).row.at k.i (bench_of x) x.ticks e in
           let le : Leads ps (k.b).row.at (k.m).age (k.m).next (is_live (k.m).row.status) = subst (λ a. Leads ps a (k.m).age (k.m).next (is_live (k.m).row.status)) (sym fm.at) (st.chains k.m k.is_in k.linked) in
@@ -269,9 +269,9 @@ module _ (i : Placed) (plan : Plan) (families ages : ℕ → ℕ) (t : Words) (g
       leaps : (f j : ℕ) (z : Bench) → k.f ≡ suc f → (l : Leap (k.m).body (k.m).row.at x.ticks k.i (bench_of x) j z) → Safe f (k.m).body (k.m).row.at j z x.ticks → Owes (fetched t code x)
       leaps f j z ef l s =
           let bank = ap (λ n. finish n (k.m).body (k.m).row.at k.i (bench_of x) x.ticks) ef ∙ finish_leap f (k.m).body (k.m).row.at k.i j (bench_of x) z x.ticks l in
-          brought (record x { pc = (k.m).row.at + 4 * j; regs = z.regs; bank = z.bank }) (turns.leaping t g budget code rows ps clock st h x y p d on k j z l)
+          brought (record x { pc = (k.m).row.at + 4 * j; regs = z.regs; bank = z.bank }) (nexts.leaping t g budget code rows ps clock st h x y p d on k j z l)
           (inr (inr (record {
-            k = turns.leapt t g budget code rows ps clock st h x y p d on k f j z l s;
+            k = nexts.leapt t g budget code rows ps clock st h x y p d on k f j z l s;
             way = subst (λ n. Way i plan families ages budget y v (k.m).family (k.m).age n x.ticks) bank way;
           })))
 

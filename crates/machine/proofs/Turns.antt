@@ -1,48 +1,38 @@
 -- A turn of a hart keeps what is kept of it.
-use Rattle.std.proofs.Common.{◌≡◌, ℕ, zero, suc, ◌+◌, ◌-◌, ◌*◌, ◌%◌, ◌^◌, ◌<◌, ◌≤◌, List, [], ◌∷◌, ◌++◌, length, Option, Some, None, Ok, refl, sym, ap, ◌∙◌, subst, arith, ⊎_elim, inl, inr}
-use Rattle.std.specs.Prelude.{Bool, true, false, not, is_none, IsTrue, slice_get, ◌⊎◌, ◌&&◌, nat_lt, unwrap_or}
+use Rattle.std.proofs.Common.{◌≡◌, ℕ, zero, suc, ◌+◌, ◌-◌, ◌*◌, ◌<◌, List, length, Option, Some, None, refl, sym, ap, ◌∙◌, subst, arith, ⊎_elim, inl, inr}
+use Rattle.std.specs.Prelude.{Bool, true, false, not, is_none, IsTrue, ◌⊎◌, ◌&&◌}
 use Rattle.std.specs.FinMap.{get}
-use Rattle.std.proofs.lemmas.Bool.{true≢false, cases_lt, cases_eq, cond-true, cond-false, and_from, lt-ltb, le-leb, eq-eqb}
+use Rattle.std.proofs.lemmas.Bool.{true≢false, cases_lt, cond-false, and_from, lt-ltb}
 use Rattle.std.proofs.lemmas.Grind.{common_steps}
-use Rattle.std.proofs.lemmas.Option.{slice_get_within}
-use Rattle.pn_types.specs.declared.limits.TheConstants.{TOOL_TEXT_LEN}
-use Rattle.rv_word.specs.Names.{has_scratch, jump_of}
+use Rattle.rv_word.specs.Names.{has_scratch}
 use Rattle.rv_word.specs.Registers.{reg, with_reg}
-use Rattle.rv_word.specs.Table.{decode_of}
-use Rattle.rv_word.specs.Words.{word_of}
 use Rattle.rv_word.specs.Exec.{Prog, Outcome, Stops, Goes, done, exec_of, next}
 use Rattle.rv_word.specs.Plain.{Words, PlainHart, Alone, program_word, may_go, after_done, hart_after}
 use Rattle.rv_word.specs.Plain as plain
 use Rattle.rv_word.specs.declared.outcome.Cause.{Cause}
 use Rattle.rv_word.specs.declared.outcome.Next.TheVariants.{Go}
 use Rattle.rv_word.specs.declared.outcome.Cause.TheVariants.{FetchOutside}
-use Rattle.rv_word.specs.declared.instr.Instr.TheVariants.{Load, Store}
-use Rattle.rv_word.specs.declared.instr.LoadOp.TheVariants.{Ld}
-use Rattle.rv_word.specs.declared.instr.StoreOp.TheVariants.{Sd}
-use Rattle.tramp_spec.specs.Codes.{Code, tool_at, is_text_word, is_tool_word}
+use Rattle.tramp_spec.specs.Codes.{Code, is_text_word}
 use Rattle.tramp_spec.specs.Banks.{bank_len, saved_x5, set_bank}
 use Rattle.tramp_spec.specs.Blocks.{tail_of, moved_at}
-use Rattle.tramp_spec.specs.Bodies.{Safe, Harmless, Leap, Keeps}
-use Rattle.tramp_spec.specs.Harts.{own_hart, Hart, Solo, bench_of, stopped, ticked, own_step, other_hart, step_of, is_tick}
-use Rattle.tramp_spec.specs.Marks.{own, enter, tool, leave, is_jump}
+use Rattle.tramp_spec.specs.Bodies.{Safe, Leap}
+use Rattle.tramp_spec.specs.Harts.{own_hart, Hart, Solo, bench_of, stopped, ticked, own_step, step_of, is_tick}
+use Rattle.tramp_spec.specs.Marks.{own, enter, tool, is_jump}
 use Rattle.tramp_spec.specs.MovedWords.{own_place}
-use Rattle.tramp_spec.specs.Moves.{Agree, Alike, LeadsHome, SameStep, bench}
-use Rattle.tramp_spec.specs.Steps.{Bench, stand, step_on, with_value, with_doubleword}
-use Rattle.tramp_spec.specs.declared.mark.Mark.TheVariants.{Enter, Tool, Leave}
+use Rattle.tramp_spec.specs.Moves.{Agree, Alike, LeadsHome, SameStep}
+use Rattle.tramp_spec.specs.Steps.{Bench}
 use Rattle.tramp_spec.specs.declared.mark.MarkedWord.{MarkedWord}
-use Rattle.tramp_spec.proofs.Moving.{words_move}
 use Rattle.tramp_spec.proofs.Frame.{Same, execs}
-use Rattle.tramp_spec.proofs.Hops.{Hops, hop_steps, save_steps, restore_steps, saved_back, length_set_bank}
-use Rattle.tramp_spec.proofs.Registers.{length_with, read_back, read_but}
+use Rattle.tramp_spec.proofs.Hops.{Hops, length_set_bank}
+use Rattle.tramp_spec.proofs.Registers.{length_with}
 use Rattle.machine.specs.Cores.{In, Row, Written, Live, is_live, is_current}
 use Rattle.machine.specs.Places.{home_of, program_pc}
 use Rattle.machine.specs.Turns.{fetched}
-use Rattle.machine.proofs.Lists.{stands_at, get_append, get_before, same_some}
-use Rattle.machine.proofs.Invariant.{Ground, Piece, IsBase, Linked, base_with, BaseShape, MiniShape, Leads, HasFamily, Door, Static, Saved, Outside, AtSave, AtSaved, MovedWord, AtMoved, AtLeave, BasePlace, InMini, HartOk, Dynamic}
-use Rattle.machine.proofs.Texts.{in_text, text_low, text_cases}
+use Rattle.machine.proofs.Invariant.{Ground, Piece, IsBase, Linked, MiniShape, Leads, Door, Static, Saved, Outside, AtSave, AtSaved, MovedWord, AtMoved, AtLeave, BasePlace, InMini, HartOk, Dynamic}
+use Rattle.machine.proofs.Texts.{in_text, text_cases}
 use Rattle.machine.proofs.Lefts.{ahead, left_at, left, Below, Soon, ahead_of}
-use Rattle.machine.proofs.Homes as homes
-use Rattle.machine.proofs.Homes.{one_block, home_word, same_moved, base_len}
+use Rattle.machine.proofs.Homes.{base_shape, mini_shape, base_len}
+use Rattle.machine.proofs.Nexts.{Brings, entering, to_tail, to_mini, in_first, family_is, saving, heading, restoring, moving, exit, ticking, leaving, ending, leaping, leapt, fetch_text, fetch_none}
 
 -- ---- what a turn owes
 
@@ -56,9 +46,6 @@ OwesBy false t budget ps clock bound h z y p = Soon t budget ps clock bound z.ha
 is_none_of : (o : Option Cause) → o ≡ None → is_none o ≡ true
 is_none_of None e = refl
 is_none_of (Some c) e = absurd cc
-
-pub wrap_next : (pc : ℕ) → pc + 4 < 2 ^ 64 → next pc ≡ pc + 4
-wrap_next pc l = omega arith
 
 module _ (t : Words) (g : Ground t) (budget : ℕ) (code : Code) (rows : List Row) (ps : List Piece) (clock : ℕ) (st : Static t code rows ps clock) (h : ℕ) (x : Hart) (y : PlainHart) (p : Prog) (d : Dynamic t budget ps x y) (on : x.stop ≡ None) where
   abbrev Owes : Option ℕ → Option MarkedWord → Type 0
@@ -132,37 +119,15 @@ module _ (t : Words) (g : Ground t) (budget : ℕ) (code : Code) (rows : List Ro
 
   -- ---- words that are no ticks
 
-  -- the turn is no tick, and makes this of the hart
-  abbrev pub Brings : Hart → Type 0
-  Brings z = (o : Option MarkedWord) × (fetched t code x ≡ o) × (is_tick o ≡ false) × (step_of o h (program_pc code rows x) (record { hart = x; prog = p }) ≡ record { hart = z; prog = p })
-
-  brought : (bound : Option ℕ) (z : Hart) → Brings z → Soon t budget ps clock bound z y → Owes bound (fetched t code x)
+  brought : (bound : Option ℕ) (z : Hart) → Brings t g budget code rows ps clock st h x y p d on z → Soon t budget ps clock bound z y → Owes bound (fetched t code x)
   brought bound z b k =
       owes bound b.0 b.1
       (subst (λ c. OwesBy c t budget ps clock bound h (step_of b.0 h (program_pc code rows x) (record { hart = x; prog = p })) y p) (sym b.2)
       (subst (λ (s : Solo). OwesBy false t budget ps clock bound h s y p) (sym b.3) (k, refl)))
 
-  tool_brings : (w to : ℕ) (b : Bench) → fetched t code x ≡ Some (tool w) → step_on bank_len w x.ticks x.pc (bench_of x) ≡ Ok (stand to b) → Brings (record x { pc = to; regs = b.regs; bank = b.bank })
-  tool_brings w to b f e = (Some (tool w), f, refl, ap (λ r. record { hart = other_hart r Tool w (program_pc code rows x) x; prog = p }) e)
-
-  leave_brings : (w to : ℕ) (b : Bench) → fetched t code x ≡ Some (leave w) → step_on 0 w x.ticks x.pc (bench_of x) ≡ Ok (stand to b) → Brings (record x { pc = to; regs = b.regs; bank = b.bank; inside = false })
-  leave_brings w to b f e = (Some (leave w), f, refl, ap (λ r. record { hart = other_hart r Leave w (program_pc code rows x) x; prog = p }) e)
-
-  enter_brings : (w to : ℕ) (b : Bench) → fetched t code x ≡ Some (enter w) → step_on 0 w x.ticks x.pc (bench_of x) ≡ Ok (stand to b) → Brings (record x { pc = to; regs = b.regs; bank = b.bank; inside = true })
-  enter_brings w to b f e = (Some (enter w), f, refl, ap (λ r. record { hart = other_hart r Enter w (program_pc code rows x) x; prog = p }) e)
-
-  -- through the jump at a point to its base block
-  pub entering : (b : Piece) → In b ps → b.row.point ≡ x.pc → (door : Door code b) → Outside x y → x.ticks < budget → fetched t code x ≡ Some (enter door.jump)
-      → Brings (record x { pc = b.row.at; inside = true }) × AtSave budget b (record x { pc = b.row.at; inside = true }) y
-  entering b hb e door o l f =
-      let hop : Hops x.pc b.row.at door.jump = subst (λ a. Hops a b.row.at door.jump) e door.hops in (
-        enter_brings door.jump b.row.at (bench_of x) f (hop_steps 0 door.jump x.ticks x.pc b.row.at (bench_of x) hop (st.places b hb).aligned),
-        record { pc = refl; home = sym o.pc ∙ sym e; before = l; agree = o.agree },
-      )
-
   enters : (b : Piece) → In b ps → IsBase b → b.row.point ≡ x.pc → b.row.status ≡ Live → (door : Door code b) → Outside x y → x.ticks < budget → fetched t code x ≡ Some (enter door.jump) → Owes None (fetched t code x)
   enters b hb bs e live door o l f =
-      let k = entering b hb e door o l f in
+      let k = entering t g budget code rows ps clock st h x y p d on b hb e door o l f in
       brought None (record x { pc = b.row.at; inside = true }) k.0 (
         record {
           ticks = d.ticks;
@@ -178,149 +143,25 @@ module _ (t : Words) (g : Ground t) (budget : ℕ) (code : Code) (rows : List Ro
 
   -- ---- inside
 
-  -- what is inside is fetched where it stands
-  fetch_inside : (w : MarkedWord) → x.inside ≡ true → tool_at t ≤ x.pc → x.pc + 4 ≤ tool_at t + TOOL_TEXT_LEN → x.pc % 4 ≡ 0 → get code x.pc ≡ Some w → fetched t code x ≡ Some w
-  fetch_inside w i lo hi al e =
-      let a : (x.pc - tool_at t) % 4 ≡ 0 = omega arith in
-      let n : x.pc - tool_at t < TOOL_TEXT_LEN = omega arith in
-      let k : is_tool_word t x.pc ≡ true = and_from _ _ (and_from _ _ (le-leb _ _ lo) (lt-ltb _ _ n)) (eq-eqb _ _ a) in
-      cond-true x.inside _ _ i ∙ (cond-true (is_tool_word t x.pc) _ _ k ∙ ap (λ o. Some (unwrap_or o (tool 0))) e)
-
-  -- so is a word of a block
-  fetch_block : (b : Piece) (i : ℕ) (ws : List MarkedWord) (w : MarkedWord) → In b ps → x.inside ≡ true → x.pc ≡ b.row.at + 4 * i → i < b.row.len → get code (b.row.at + 4 * i) ≡ Some w → fetched t code x ≡ Some w
-  fetch_block b i ws w hb n e l k =
-      let pl = st.places b hb in
-      let lo = pl.low in
-      let hi = pl.high in
-      let al = pl.aligned in
-      fetch_inside w n (omega arith) (omega arith) (omega arith) (ap (get code) e ∙ k)
-
-  base_shape : (b : Piece) → In b ps → IsBase b → BaseShape t code b.row b.next
-  base_shape = homes.base_shape t code rows ps clock st
-
-  mini_shape : (m : Piece) → In m ps → Linked m → MiniShape code m.row m.body m.next
-  mini_shape = homes.mini_shape t code rows ps clock st
-
-  harmless_of : (m : Piece) → In m ps → Linked m → Harmless m.body
-  harmless_of m hm k = (mini_shape m hm k).harmless
-
-  tool_high : tool_at t + TOOL_TEXT_LEN < 2 ^ 32
-  tool_high = let e = g.high in omega arith
-
-  pub body_fits : (m : Piece) → In m ps → Linked m → m.row.at + 4 * length m.body < 2 ^ 64
-  body_fits m hm k = let s = mini_shape m hm k in let l = s.len in let hi = (st.places m hm).high in let top = tool_high in omega arith
-
-  -- on to what a jump leads to: a base block's tail
-  pub to_tail : (b : Piece) (q w : ℕ) → In b ps → y.pc ≡ b.row.point → x.ticks < budget → Saved x y → Hops x.pc q w → fetched t code x ≡ Some (tool w) → q ≡ tail_of b.row.at
-      → Brings (record x { pc = q }) × AtSaved budget b (tail_of b.row.at) (record x { pc = q }) y
-  to_tail b q w hb e l sv hop f is =
-      let al = (st.places b hb).aligned in
-      let a : q % 4 ≡ 0 = omega arith in (
-        tool_brings w q (bench_of x) f (hop_steps bank_len w x.ticks x.pc q (bench_of x) hop a),
-        record { pc = is; home = e; before = l; saved = record { agree = sv.agree; saved = sv.saved } },
-      )
-
-  -- or the first word of a mini block
-  pub to_mini : (m : Piece) (q w : ℕ) → In m ps → Hops x.pc q w → fetched t code x ≡ Some (tool w) → m.row.at ≡ q → Brings (record x { pc = q })
-  to_mini m q w hm hop f is =
-      let al = (st.places m hm).aligned in
-      let a : q % 4 ≡ 0 = omega arith in
-      tool_brings w q (bench_of x) f (hop_steps bank_len w x.ticks x.pc q (bench_of x) hop a)
-
-  pub at_first : (m : Piece) (q : ℕ) → m.row.at ≡ q → q ≡ m.row.at + 4 * 0
-  at_first m q e = omega arith
-
-  pub safe_first : (m : Piece) → In m ps → Linked m → Safe (length m.body) m.body m.row.at 0 (bench_of x) x.ticks
-  safe_first m hm k = harmless_of m hm k m.row.at x.ticks (bench_of x) (record { aligned = (st.places m hm).aligned; fits = body_fits m hm k; file = d.first; bank = d.bank })
-
-  abbrev pub in_first : (b m : Piece) (q : ℕ) → (b.row.status ≡ Written → ⊥) → x.inside ≡ true → y.pc ≡ b.row.point → x.ticks < budget → Saved x y → In m ps → Linked m → HasFamily ps m b → m.row.at ≡ q → InMini budget ps (record x { pc = q }) y
-  in_first b m q was i e l sv hm k fm is = record {
-    m = m;
-    b = b;
-    is_in = hm;
-    linked = k;
-    family = fm;
-    was = was;
-    inside = i;
-    home = e ∙ fm.point;
-    before = l;
-    saved = record { agree = sv.agree; saved = sv.saved };
-    i = 0;
-    f = length m.body;
-    pc = at_first m q is;
-    safe = safe_first m hm k;
-  }
-
-  -- the base block of a mini block's family
-  pub family_is : (b m : Piece) (fam : ℕ) → In b ps → b.row.at ≡ fam → In m ps → Linked m → m.family ≡ fam → HasFamily ps m b
-  family_is b m fam hb at hm k e =
-      let fm = st.families m hm k in
-      let same : fm.0 ≡ b = one_block t code rows ps clock st fm.0 b (fm.1).is_in hb ((fm.1).at ∙ (e ∙ sym at)) in
-      subst (λ z. HasFamily ps m z) same fm.1
-
+  -- on to what a jump leads to
   hop_on : (most : ℕ) (b : Piece) (fam n q : ℕ) (live : Bool) (w : ℕ) → In b ps → IsBase b → (b.row.status ≡ Written → ⊥) → b.row.at ≡ fam → x.inside ≡ true → y.pc ≡ b.row.point → x.ticks < budget → Saved x y → Hops x.pc q w → fetched t code x ≡ Some (tool w) → Leads ps fam n q live
       → b.row.len - 2 + ahead ps fam n < most → Owes (Some most) (fetched t code x)
   hop_on most b fam n q live w hb bs was at i e l sv hop f le room = ⊎_elim tail mini le.to
     where
-      base : Brings (record x { pc = q }) → (k : HartOk t budget ps (record x { pc = q }) y) → Below ps clock (Some most) k → Owes (Some most) (fetched t code x)
+      base : Brings t g budget code rows ps clock st h x y p d on (record x { pc = q }) → (k : HartOk t budget ps (record x { pc = q }) y) → Below ps clock (Some most) k → Owes (Some most) (fetched t code x)
       base br k u = brought (Some most) (record x { pc = q }) br (record { ticks = d.ticks; stop = d.stop; first = d.first; second = d.second; bank = d.bank; down = λ k z. absurd cc; hart = λ z. k }, λ z. u)
 
       tail : (le.lo ≡ 0) × (q ≡ tail_of fam) → Owes (Some most) (fetched t code x)
       tail r =
-          let k = to_tail b q w hb e l sv hop f (r.1 ∙ ap tail_of (sym at)) in
+          let k = to_tail t g budget code rows ps clock st h x y p d on b q w hb e l sv hop f (r.1 ∙ ap tail_of (sym at)) in
           base k.0 (inr (inl (record { b = b; is_in = hb; base = bs; was = was; inside = i; place = inr (inr (inl k.1)) }))) (omega arith)
 
       mini : (m : Piece) × In m ps × Linked m × (m.family ≡ fam) × (m.age ≡ le.lo) × (m.row.at ≡ q) × (live ≡ true → m.row.status ≡ Live) → Owes (Some most) (fetched t code x)
       mini r =
-          base (to_mini r.0 q w r.1 hop f r.5) (inr (inr (in_first b r.0 q was i e l sv r.1 r.2 (family_is b r.0 fam hb at r.1 r.2 r.3) r.5)))
+          base (to_mini t g budget code rows ps clock st h x y p d on r.0 q w r.1 hop f r.5) (inr (inr (in_first t g budget code rows ps clock st h x y p d on b r.0 q was i e l sv r.1 r.2 (family_is t g budget code rows ps clock st h x y p d on b r.0 fam hb at r.1 r.2 r.3) r.5)))
           (let g = ahead_of ps fam n r.0 r.1 r.2 r.3 (let e4 = r.4 in let lo = le.below in omega arith) in let fe : (r.0).family ≡ fam = r.3 in let here = ap (λ f. ahead ps f (r.0).age) fe in omega arith)
 
   -- ---- in a base block
-
-  -- the word of a base block is that of its point
-  moved_word : (b : Piece) → In b ps → IsBase b → MovedWord t b
-  moved_word b hb bs =
-      let s = base_shape b hb bs in
-      let q = in_text t b.row.point s.word s.here in
-      let at = q.at in
-      let low = q.low in
-      let under = text_low t b.row.point s.word s.here in
-      let pl = st.places b hb in
-      let lo = pl.low in
-      let hi = pl.high in
-      let al = pl.aligned in
-      let len = s.len in
-      let ga = g.aligned in
-      let gh = g.high in
-      let gs = g.short in
-      record {
-        word = s.word;
-        here = s.here;
-        moved = s.moved;
-        movable = s.movable;
-        moves = words_move s.word b.row.point (moved_at b.row.at) s.moved (g.plain q.i s.word q.is) (g.narrow q.i s.word q.is) (omega arith) (omega arith) (omega arith) (omega arith) (omega arith) s.movable;
-      }
-
-  -- the moved word of number j is fetched
-  fetch_moved : (b : Piece) (hb : In b ps) (bs : IsBase b) (m : MovedWord t b) (j : ℕ) (w : MarkedWord) → x.inside ≡ true → x.pc ≡ moved_at b.row.at + 4 * j → slice_get m.moved j ≡ Some w
-      → (fetched t code x ≡ Some w) × (get code x.pc ≡ Some w) × (x.pc < b.row.at + 4 * b.row.len)
-  fetch_moved b hb bs m j w i e k =
-      let s = base_shape b hb bs in
-      let k' : slice_get s.moved j ≡ Some w = subst (λ ws. slice_get ws j ≡ Some w) (same_moved t code b m s) k in
-      let l = slice_get_within s.moved j w k' in
-      let len = s.len in
-      let a : x.pc ≡ b.row.at + 4 * suc (suc (suc j)) = omega arith in
-      let st' = stands_at code b.row.at (base_with s.jump s.moved) (suc (suc (suc j))) w s.stands k' in
-      (fetch_block b (suc (suc (suc j))) (base_with s.jump s.moved) w hb i a (omega arith) st', ap (get code) a ∙ st', omega arith)
-
-  fetch_base : (b : Piece) (hb : In b ps) (bs : IsBase b) (n : ℕ) (w : MarkedWord) → x.inside ≡ true → x.pc ≡ b.row.at + 4 * n → n < 3 → slice_get (base_with (base_shape b hb bs).jump (base_shape b hb bs).moved) n ≡ Some w → fetched t code x ≡ Some w
-  fetch_base b hb bs n w i e l k =
-      let s = base_shape b hb bs in
-      let len = s.len in
-      fetch_block b n (base_with s.jump s.moved) w hb i e (omega arith) (stands_at code b.row.at (base_with s.jump s.moved) n w s.stands k)
-
-  pc_low : (b : Piece) (n : ℕ) → In b ps → x.pc ≡ b.row.at + 4 * n → n < b.row.len → x.pc + 4 < 2 ^ 64
-  pc_low b n hb e l = let hi = (st.places b hb).high in let top = tool_high in omega arith
 
   in_base : (b : Piece) → In b ps → IsBase b → (b.row.status ≡ Written → ⊥) → (z : Hart) → z.stop ≡ None → z.ticks ≡ x.ticks → length z.regs ≡ 32 → length z.bank ≡ bank_len → z.inside ≡ true → (k : BasePlace t budget b z y) → (most : ℕ) → left_at ps clock b k < most → Soon t budget ps clock (Some most) z y
   in_base b hb bs was z on' et lr lb i k most u = (
@@ -336,117 +177,36 @@ module _ (t : Words) (g : Ground t) (budget : ℕ) (code : Code) (rows : List Ro
     λ q. u,
   )
 
-  -- x5 is saved
-  pub saving : (b : Piece) → In b ps → IsBase b → x.inside ≡ true → AtSave budget b x y
-      → Brings (record x { pc = next x.pc; bank = set_bank x.bank 1 (reg x.regs 5) }) × AtSaved budget b (b.row.at + 4) (record x { pc = next x.pc; bank = set_bank x.bank 1 (reg x.regs 5) }) y
-  saving b hb bs i k =
-      let s = base_shape b hb bs in
-      let len = s.len in
-      let pc : x.pc ≡ b.row.at + 4 * 0 = (let e = k.pc in omega arith) in
-      let low = pc_low b 0 hb pc (omega arith) in
-      let nx : next x.pc ≡ b.row.at + 4 = (let e = k.pc in omega arith) in (
-        tool_brings (word_of (Store Sd 0 5 8)) (next x.pc) (with_doubleword (bench_of x) 1 (reg x.regs 5)) (fetch_base b hb bs 0 (tool (word_of (Store Sd 0 5 8))) i pc (omega arith) refl) (save_steps x.ticks x.pc (bench_of x)),
-        record { pc = nx; home = k.home; before = k.before; saved = record { agree = λ r l n. k.agree r l; saved = saved_back x.bank (reg x.regs 5) d.bank ∙ k.agree 5 (omega arith) } },
-      )
-
   at_save : (b : Piece) → In b ps → IsBase b → (b.row.status ≡ Written → ⊥) → x.inside ≡ true → AtSave budget b x y → Owes (Some (b.row.len + ahead ps b.row.at clock)) (fetched t code x)
   at_save b hb bs was i k =
-      let q = saving b hb bs i k in
-      let len = (base_shape b hb bs).len in
+      let q = saving t g budget code rows ps clock st h x y p d on b hb bs i k in
+      let len = (base_shape t code rows ps clock st b hb bs).len in
       brought (Some (b.row.len + ahead ps b.row.at clock)) (record x { pc = next x.pc; bank = set_bank x.bank 1 (reg x.regs 5) }) q.0
       (in_base b hb bs was (record x { pc = next x.pc; bank = set_bank x.bank 1 (reg x.regs 5) }) on refl d.first (length_set_bank x.bank 1 (reg x.regs 5) ∙ d.bank) i
       (inr (inl q.1)) (b.row.len + ahead ps b.row.at clock) (omega arith))
 
-  -- the jump of a base block's head is fetched
-  pub heading : (b : Piece) → In b ps → IsBase b → x.inside ≡ true → x.pc ≡ b.row.at + 4 → (w : ℕ) × (fetched t code x ≡ Some (tool w)) × Hops x.pc b.next w
-  heading b hb bs i e =
-      let s = base_shape b hb bs in
-      let pc : x.pc ≡ b.row.at + 4 * 1 = omega arith in
-      (s.jump, fetch_base b hb bs 1 (tool s.jump) i pc (omega arith) refl, subst (λ a. Hops a b.next s.jump) (sym e) s.hops)
-
   at_head : (b : Piece) → In b ps → IsBase b → (b.row.status ≡ Written → ⊥) → x.inside ≡ true → AtSaved budget b (b.row.at + 4) x y → Owes (Some (b.row.len - 1 + ahead ps b.row.at clock)) (fetched t code x)
   at_head b hb bs was i k =
-      let len = (base_shape b hb bs).len in
-      let q = heading b hb bs i k.pc in
+      let len = (base_shape t code rows ps clock st b hb bs).len in
+      let q = heading t g budget code rows ps clock st h x y p d on b hb bs i k.pc in
       hop_on (b.row.len - 1 + ahead ps b.row.at clock) b b.row.at clock b.next (is_current b.row.status) q.0 hb bs was refl i k.home k.before k.saved q.2 q.1 (st.heads b hb bs) (omega arith)
-
-  -- x5 is restored
-  pub restoring : (b : Piece) → In b ps → IsBase b → x.inside ≡ true → AtSaved budget b (tail_of b.row.at) x y
-      → Brings (record x { pc = next x.pc; regs = with_reg x.regs 5 (saved_x5 x.bank) }) × AtMoved t budget b (record x { pc = next x.pc; regs = with_reg x.regs 5 (saved_x5 x.bank) }) y
-  restoring b hb bs i k =
-      let s = base_shape b hb bs in
-      let len = s.len in
-      let pc : x.pc ≡ b.row.at + 4 * 2 = (let e = k.pc in omega arith) in
-      let low = pc_low b 2 hb pc (omega arith) in
-      let v = saved_x5 x.bank in
-      let m = moved_word b hb bs in
-      let nx : next x.pc ≡ moved_at b.row.at + 4 * 0 = (let e = k.pc in omega arith) in
-      let size : length (with_reg x.regs 5 v) ≡ 32 = length_with x.regs 5 v ∙ d.first in
-      let room : nat_lt 5 (length x.regs) ≡ true = ap (nat_lt 5) d.first in
-      let sv = k.saved in
-      let agree : Agree (with_reg x.regs 5 v) y.regs = λ r l. ⊎_elim
-      (λ (e : r ≡ 5). ap (reg (with_reg x.regs 5 v)) e ∙ (read_back x.regs 5 v refl room ∙ (sv.saved ∙ ap (reg y.regs) (sym e))))
-      (λ (e : r ≡ 5 → ⊥). read_but x.regs 5 r v e ∙ sv.agree r l e) (cases_eq r 5) in (
-        tool_brings (word_of (Load Ld 5 0 8)) (next x.pc) (with_value (bench_of x) 5 v) (fetch_base b hb bs 2 (tool (word_of (Load Ld 5 0 8))) i pc (omega arith) refl) (restore_steps x.ticks x.pc (bench_of x)),
-        record {
-          m = m;
-          j = 0;
-          low = omega arith;
-          pc = nx;
-          home = k.home;
-          before = k.before;
-          regs = with_reg x.regs 5 v;
-          size = size;
-          agree = agree;
-          is = sym ((m.moves).start (with_reg x.regs 5 v));
-        },
-      )
 
   at_tail : (b : Piece) → In b ps → IsBase b → (b.row.status ≡ Written → ⊥) → x.inside ≡ true → AtSaved budget b (tail_of b.row.at) x y → Owes (Some (b.row.len - 2)) (fetched t code x)
   at_tail b hb bs was i k =
-      let q = restoring b hb bs i k in
-      let len = (base_shape b hb bs).len in
+      let q = restoring t g budget code rows ps clock st h x y p d on b hb bs i k in
+      let len = (base_shape t code rows ps clock st b hb bs).len in
       brought (Some (b.row.len - 2)) (record x { pc = next x.pc; regs = with_reg x.regs 5 (saved_x5 x.bank) }) q.0
       (in_base b hb bs was (record x { pc = next x.pc; regs = with_reg x.regs 5 (saved_x5 x.bank) }) on refl (length_with x.regs 5 (saved_x5 x.bank) ∙ d.first) d.bank i
       (inr (inr (inr (inl q.1)))) (b.row.len - 2) (omega arith))
 
-  -- a moved word before the tick
-  pub moving : (b : Piece) → In b ps → IsBase b → x.inside ≡ true → (k : AtMoved t budget b x y) → k.j < own_place (k.m).word
-      → (z : Hart) × Brings z × (z.stop ≡ x.stop) × (z.ticks ≡ x.ticks) × (length z.regs ≡ 32) × (z.bank ≡ x.bank) × (z.inside ≡ x.inside) × (q : AtMoved t budget b z y) × (k.j < q.j) × (k.j < length (k.m).moved)
-  moving b hb bs i k l =
-      let m = k.m in
-      let to = moved_at b.row.at in
-      let s = (m.moves).silent k.j l in
-      let step : step_on bank_len s.0 x.ticks x.pc (bench_of x) ≡ Ok (stand (to + 4 * (k.j + 1)) (bench ((m.moves).before (k.j + 1) k.regs) x.bank)) =
-      subst (λ pc. step_on bank_len s.0 x.ticks pc (bench_of x) ≡ Ok (stand (to + 4 * (k.j + 1)) (bench ((m.moves).before (k.j + 1) k.regs) x.bank))) (sym k.pc)
-      (subst (λ rs. step_on bank_len s.0 x.ticks (to + 4 * k.j) (bench rs x.bank) ≡ Ok (stand (to + 4 * (k.j + 1)) (bench ((m.moves).before (k.j + 1) k.regs) x.bank))) (sym k.is) (s.2 k.regs x.bank x.ticks k.size)) in
-      let up : k.j + 1 ≤ own_place m.word = omega arith in
-      let tk = (m.moves).tick in
-      let inside = slice_get_within m.moved (own_place m.word) (own tk.0) tk.1 in (
-        record x { pc = to + 4 * (k.j + 1); regs = (m.moves).before (k.j + 1) k.regs },
-        tool_brings s.0 (to + 4 * (k.j + 1)) (bench ((m.moves).before (k.j + 1) k.regs) x.bank) (fetch_moved b hb bs m k.j (tool s.0) i k.pc s.1).0 step,
-        refl,
-        refl,
-        (m.moves).size (k.j + 1) k.regs up ∙ k.size,
-        refl,
-        refl,
-        record { m = m; j = k.j + 1; low = up; pc = refl; home = k.home; before = k.before; regs = k.regs; size = k.size; agree = k.agree; is = refl },
-        omega arith,
-        omega arith,
-      )
-
   at_silent : (b : Piece) → In b ps → IsBase b → (b.row.status ≡ Written → ⊥) → x.inside ≡ true → (k : AtMoved t budget b x y) → k.j < own_place (k.m).word → Owes (Some (b.row.len - 3 - k.j)) (fetched t code x)
   at_silent b hb bs was i k l =
-      let q = moving b hb bs i k l in
-      let size : b.row.len ≡ 3 + length (k.m).moved = base_len t code b k.m (base_shape b hb bs) in
+      let q = moving t g budget code rows ps clock st h x y p d on b hb bs i k l in
+      let size : b.row.len ≡ 3 + length (k.m).moved = base_len t code b k.m (base_shape t code rows ps clock st b hb bs) in
       brought (Some (b.row.len - 3 - k.j)) q.0 q.1
       (in_base b hb bs was q.0 (q.2 ∙ on) q.3 q.4 (ap length q.5 ∙ d.bank) (q.6 ∙ i) (inr (inr (inr (inl q.7)))) (b.row.len - 3 - k.j) (let up = q.8 in let lo = q.9 in omega arith))
 
   -- the tick: to where it leads
-  abbrev exit : (b : Piece) (m : MovedWord t b) (w : ℕ) (pc qc : ℕ) (a e : List ℕ) → Alike a e → (j left : ℕ) → own_place m.word < j → j < length m.moved → pc ≡ moved_at b.row.at + 4 * j → slice_get m.moved j ≡ Some (leave left) → jump_of (decode_of left) (moved_at b.row.at + 4 * j) ≡ Some qc
-      → AtLeave t b (ticked (own_hart (Go pc) a w (program_pc code rows x) x)) (plain.hart_after (Go qc) e y)
-  exit b m w pc qc a e s j left above low at stands home = record { m = m; j = j; above = above; low = low; pc = at; left = left; stands = stands; home = home; agree = s.agree }
-
   tick_leads : (b : Piece) → In b ps → IsBase b → (b.row.status ≡ Written → ⊥) → x.inside ≡ true → (m : MovedWord t b) (w : ℕ) (jumped : Bool) (pc qc : ℕ) (a e : List ℕ) → Alike a e → is_jump w ≡ jumped
       → LeadsHome jumped (own_place m.word) (moved_at b.row.at) m.moved pc qc
       → Soon t budget ps clock (Some (b.row.len - 3 - own_place m.word)) (ticked (own_hart (Go pc) a w (program_pc code rows x) x)) (plain.hart_after (Go qc) e y)
@@ -467,7 +227,7 @@ module _ (t : Words) (g : Ground t) (budget : ℕ) (code : Code) (rows : List Ro
       let out : is_jump w ≡ false = tj ∙ k.0 in
       let above = k.3 in
       let low = k.4 in
-      let size : b.row.len ≡ 3 + length m.moved = base_len t code b m (base_shape b hb bs) in (
+      let size : b.row.len ≡ 3 + length m.moved = base_len t code b m (base_shape t code rows ps clock st b hb bs) in (
         record {
           ticks = ap (λ n. n + 1) d.ticks;
           stop = d.stop;
@@ -481,7 +241,7 @@ module _ (t : Words) (g : Ground t) (budget : ℕ) (code : Code) (rows : List Ro
             base = bs;
             was = was;
             inside = grind (arith, common_steps, i, out);
-            place = inr (inr (inr (inr (exit b m w pc qc a e s k.1 k.2 k.3 k.4 k.5 k.6 k.7))));
+            place = inr (inr (inr (inr (exit t g budget code rows ps clock st h x y p d on b m w pc qc a e s k.1 k.2 k.3 k.4 k.5 k.6 k.7))));
           }));
         },
         λ z. omega arith,
@@ -494,47 +254,10 @@ module _ (t : Words) (g : Ground t) (budget : ℕ) (code : Code) (rows : List Ro
   tick_outcome b hb bs was i m w jumped (Goes pc a q) (Stops c) home tj s = absurd s
   tick_outcome b hb bs was i m w jumped (Goes pc a q) (Goes qc e r) home tj s = (tick_leads b hb bs was i m w jumped pc qc a e s.1 tj s.2, s.0)
 
-  -- behind it the hart is outside, or at a word that leaves
-  pub tick_place : (b : Piece) → x.inside ≡ true → (m : MovedWord t b) (w : ℕ) (jumped : Bool) (o u : Outcome) → is_jump w ≡ jumped → SameStep jumped (own_place m.word) (moved_at b.row.at) m.moved o u
-      → ((own_step (done o x.regs p) w (program_pc code rows x) x).hart.inside ≡ false)
-      ⊎ (((own_step (done o x.regs p) w (program_pc code rows x) x).hart.inside ≡ true) × AtLeave t b (own_step (done o x.regs p) w (program_pc code rows x) x).hart (after_done (done u y.regs p) y).hart)
-  tick_place b i m w jumped (Stops c) u tj s = inl refl
-  tick_place b i m w jumped (Goes pc a q) (Stops c) tj s = absurd s
-  tick_place b i m w jumped (Goes pc a q) (Goes qc e r) tj s = ⊎_elim
-      (λ (k : (jumped ≡ true) × (pc ≡ qc)). let out : is_jump w ≡ true = tj ∙ k.0 in inl (grind (arith, common_steps, i, out)))
-      (λ (k : (jumped ≡ false) × (j : ℕ) × (left : ℕ) × (own_place m.word < j) × (j < length m.moved) × (pc ≡ moved_at b.row.at + 4 * j) × (slice_get m.moved j ≡ Some (leave left)) × (jump_of (decode_of left) (moved_at b.row.at + 4 * j) ≡ Some qc)).
-      let out : is_jump w ≡ false = tj ∙ k.0 in inr (grind (arith, common_steps, i, out), exit b m w pc qc a e s.1 k.1 k.2 k.3 k.4 k.5 k.6 k.7))
-      s.2
-
-  -- the word of the tick, and the program's, lead to the same
-  pub ticking : (b : Piece) → In b ps → IsBase b → x.inside ≡ true → (k : AtMoved t budget b x y) → k.j ≡ own_place (k.m).word
-      → (w : ℕ) × (fetched t code x ≡ Some (own w)) × (program_pc code rows x ≡ y.pc) × (is_jump w ≡ is_jump (k.m).word) × (program_word t y.pc ≡ Some (k.m).word)
-      × SameStep (is_jump (k.m).word) (own_place (k.m).word) (moved_at b.row.at) (k.m).moved (exec_of w x.pc h x.regs p) (exec_of (k.m).word y.pc h y.regs p)
-  ticking b hb bs i k e =
-      let m = k.m in
-      let to = moved_at b.row.at in
-      let tk = (m.moves).tick in
-      let w = tk.0 in
-      let pc : x.pc ≡ to + 4 * own_place m.word = k.pc ∙ ap (λ j. to + 4 * j) e in
-      let is : x.regs ≡ (m.moves).before (own_place m.word) k.regs = k.is ∙ ap (λ j. (m.moves).before j k.regs) e in
-      let f = fetch_moved b hb bs m (own_place m.word) (own w) i pc tk.1 in
-      let at = (let z = k.pc in let lo : b.row.at ≤ x.pc = omega arith in lo) in
-      let home : program_pc code rows x ≡ y.pc = cond-true x.inside (home_of code rows x.pc) x.pc i ∙ (home_word t code rows ps clock st b x.pc (own w) hb at f.2 f.1 ∙ sym k.home) in
-      let same0 = tk.3 k.regs y.regs h p (record { agree = k.agree; first = k.size; second = d.second }) in (
-        w,
-        f.0,
-        home,
-        tk.2,
-        ap (program_word t) k.home ∙ m.here,
-        subst (λ a. SameStep (is_jump m.word) (own_place m.word) to m.moved (exec_of w a h x.regs p) (exec_of m.word y.pc h y.regs p)) (sym pc)
-            (subst (λ rs. SameStep (is_jump m.word) (own_place m.word) to m.moved (exec_of w (to + 4 * own_place m.word) h rs p) (exec_of m.word y.pc h y.regs p)) (sym is)
-            (subst (λ a. SameStep (is_jump m.word) (own_place m.word) to m.moved (exec_of w (to + 4 * own_place m.word) h ((m.moves).before (own_place m.word) k.regs) p) (exec_of m.word a h y.regs p)) (sym k.home) same0)),
-      )
-
   at_tick : (b : Piece) → In b ps → IsBase b → (b.row.status ≡ Written → ⊥) → x.inside ≡ true → (k : AtMoved t budget b x y) → k.j ≡ own_place (k.m).word → Owes (Some (b.row.len - 3 - k.j)) (fetched t code x)
   at_tick b hb bs was i k e =
       let m = k.m in
-      let s = ticking b hb bs i k e in
+      let s = ticking t g budget code rows ps clock st h x y p d on b hb bs i k e in
       let w = s.0 in
       let both0 = tick_outcome b hb bs was i m w (is_jump m.word) (exec_of w x.pc h x.regs p) (exec_of m.word y.pc h y.regs p) s.2 s.3 s.5 in
       let both = subst (λ j. Soon t budget ps clock (Some (b.row.len - 3 - j)) (own_step (done (exec_of w x.pc h x.regs p) x.regs p) w (program_pc code rows x) x).hart (after_done (done (exec_of m.word y.pc h y.regs p) y.regs p) y).hart × ((own_step (done (exec_of w x.pc h x.regs p) x.regs p) w (program_pc code rows x) x).prog ≡ (after_done (done (exec_of m.word y.pc h y.regs p) y.regs p) y).prog)) (sym e) both0 in
@@ -544,25 +267,9 @@ module _ (t : Words) (g : Ground t) (budget : ℕ) (code : Code) (rows : List Ro
       let r : to' (program_word t y.pc) = subst to' (sym s.4) both in
       owes (Some (b.row.len - 3 - k.j)) (Some (own w)) s.1 (can_go k.before, r.0, r.1)
 
-  -- back to the program
-  pub leaving : (b : Piece) → In b ps → IsBase b → x.inside ≡ true → AtLeave t b x y → Brings (record x { pc = y.pc; inside = false })
-  leaving b hb bs i k =
-      let m = k.m in
-      let to = moved_at b.row.at in
-      let l = (m.moves).leaves k.j k.above k.low in
-      let same : leave l.0 ≡ leave k.left = same_some (slice_get m.moved k.j) (leave l.0) (leave k.left) l.2 k.stands in
-      let word : l.0 ≡ k.left = ap (λ (w : MarkedWord). w.word) same in
-      let home : l.1 ≡ y.pc = same_some (jump_of (decode_of k.left) (to + 4 * k.j)) l.1 y.pc (subst (λ w. jump_of (decode_of w) (to + 4 * k.j) ≡ Some l.1) word l.3) k.home in
-      let step0 = l.4 (bench_of x) x.ticks in
-      let step : step_on 0 k.left x.ticks x.pc (bench_of x) ≡ Ok (stand y.pc (bench_of x)) =
-      subst (λ a. step_on 0 k.left x.ticks a (bench_of x) ≡ Ok (stand y.pc (bench_of x))) (sym k.pc)
-      (subst (λ w. step_on 0 w x.ticks (to + 4 * k.j) (bench_of x) ≡ Ok (stand y.pc (bench_of x))) word
-      (subst (λ a. step_on 0 l.0 x.ticks (to + 4 * k.j) (bench_of x) ≡ Ok (stand a (bench_of x))) home step0)) in
-      leave_brings k.left y.pc (bench_of x) (fetch_moved b hb bs m k.j (leave k.left) i k.pc k.stands).0 step
-
   at_leave : (b : Piece) → In b ps → IsBase b → x.inside ≡ true → (k : AtLeave t b x y) → Owes (Some (b.row.len - 3 - k.j)) (fetched t code x)
   at_leave b hb bs i k =
-      brought (Some (b.row.len - 3 - k.j)) (record x { pc = y.pc; inside = false }) (leaving b hb bs i k) (
+      brought (Some (b.row.len - 3 - k.j)) (record x { pc = y.pc; inside = false }) (leaving t g budget code rows ps clock st h x y p d on b hb bs i k) (
         record {
           ticks = d.ticks;
           stop = d.stop;
@@ -587,57 +294,11 @@ module _ (t : Words) (g : Ground t) (budget : ℕ) (code : Code) (rows : List Ro
 
   -- ---- in a mini block
 
-  -- a word of the block is fetched
-  fetch_mini : (k : InMini budget ps x y) (j : ℕ) (w : MarkedWord) → j ≡ k.i → j < (k.m).row.len → slice_get ((k.m).body ++ tool (mini_shape k.m k.is_in k.linked).jump ∷ []) j ≡ Some w → fetched t code x ≡ Some w
-  fetch_mini k j w e l q =
-      let s = mini_shape k.m k.is_in k.linked in
-      fetch_block k.m j ((k.m).body ++ tool s.jump ∷ []) w k.is_in k.inside (k.pc ∙ ap (λ n. (k.m).row.at + 4 * n) (sym e)) l (stands_at code (k.m).row.at ((k.m).body ++ tool s.jump ∷ []) j w s.stands q)
-
-  -- behind the body it is the jump
-  pub ending : (k : InMini budget ps x y) → k.i ≡ length (k.m).body → (w : ℕ) × (fetched t code x ≡ Some (tool w)) × Hops x.pc (k.m).next w
-  ending k e =
-      let s = mini_shape k.m k.is_in k.linked in
-      let len = s.len in
-      let pc : x.pc ≡ (k.m).row.at + 4 * length (k.m).body = k.pc ∙ ap (λ n. (k.m).row.at + 4 * n) e in
-      (s.jump, fetch_mini k (length (k.m).body) (tool s.jump) (sym e) (omega arith) (get_append (k.m).body (tool s.jump)), subst (λ a. Hops a (k.m).next s.jump) (sym pc) s.hops)
-
-  -- in the body the hart goes on to another word of it
-  pub leaping : (k : InMini budget ps x y) (j : ℕ) (z : Bench) → Leap (k.m).body (k.m).row.at x.ticks k.i (bench_of x) j z → Brings (record x { pc = (k.m).row.at + 4 * j; regs = z.regs; bank = z.bank })
-  leaping k j z l =
-      let s = mini_shape k.m k.is_in k.linked in
-      let len = s.len in
-      let in_body = slice_get_within (k.m).body k.i (tool l.word) l.here in
-      let step : step_on bank_len l.word x.ticks x.pc (bench_of x) ≡ Ok (stand ((k.m).row.at + 4 * j) z) =
-      subst (λ a. step_on bank_len l.word x.ticks a (bench_of x) ≡ Ok (stand ((k.m).row.at + 4 * j) z)) (sym k.pc) l.step in
-      tool_brings l.word ((k.m).row.at + 4 * j) z (fetch_mini k k.i (tool l.word) refl (omega arith) (get_before (k.m).body (tool s.jump ∷ []) k.i (tool l.word) l.here)) step
-
-  pub saved_on : (k : InMini budget ps x y) (z : Bench) → Keeps (bench_of x) z → Saved (record x { regs = z.regs; bank = z.bank }) y
-  saved_on k z ke = let sv = k.saved in record { agree = λ r u n. ke.regs r n (λ e. omega arith) ∙ sv.agree r u n; saved = ke.saved ∙ sv.saved }
-
-  abbrev pub leapt : (k : InMini budget ps x y) (f j : ℕ) (z : Bench) → Leap (k.m).body (k.m).row.at x.ticks k.i (bench_of x) j z → Safe f (k.m).body (k.m).row.at j z x.ticks
-      → InMini budget ps (record x { pc = (k.m).row.at + 4 * j; regs = z.regs; bank = z.bank }) y
-  leapt k f j z l s = record {
-    m = k.m;
-    b = k.b;
-    is_in = k.is_in;
-    linked = k.linked;
-    family = k.family;
-    was = k.was;
-    inside = k.inside;
-    home = k.home;
-    before = k.before;
-    saved = record { agree = (saved_on k z l.keeps).agree; saved = (saved_on k z l.keeps).saved };
-    i = j;
-    f = f;
-    pc = refl;
-    safe = s;
-  }
-
   inside_mini : (k : InMini budget ps x y) → Owes (Some (left {t = t} ps clock (inr (inr k)))) (fetched t code x)
   inside_mini k = by k.f k.safe
     where
       shape : MiniShape code (k.m).row (k.m).body (k.m).next
-      shape = mini_shape k.m k.is_in k.linked
+      shape = mini_shape t code rows ps clock st k.m k.is_in k.linked
 
       most : ℕ
       most = (k.m).row.len - k.i + ahead ps (k.m).family (k.m).age + ((k.b).row.len - 2)
@@ -645,14 +306,14 @@ module _ (t : Words) (g : Ground t) (budget : ℕ) (code : Code) (rows : List Ro
       ends : k.i ≡ length (k.m).body → Owes (Some most) (fetched t code x)
       ends e =
           let len = shape.len in
-          let q = ending k e in
+          let q = ending t g budget code rows ps clock st h x y p d on k e in
           hop_on most k.b (k.m).family (k.m).age (k.m).next (is_live (k.m).row.status) q.0 (k.family).is_in (k.family).base k.was (k.family).at k.inside (k.home ∙ sym (k.family).point) k.before k.saved q.2 q.1 (st.chains k.m k.is_in k.linked) (omega arith)
 
       leaps : (f j : ℕ) (z : Bench) → Leap (k.m).body (k.m).row.at x.ticks k.i (bench_of x) j z → Safe f (k.m).body (k.m).row.at j z x.ticks → Owes (Some most) (fetched t code x)
       leaps f j z l s =
           let len = shape.len in
           let ke = l.keeps in
-          brought (Some most) (record x { pc = (k.m).row.at + 4 * j; regs = z.regs; bank = z.bank }) (leaping k j z l) (
+          brought (Some most) (record x { pc = (k.m).row.at + 4 * j; regs = z.regs; bank = z.bank }) (leaping t g budget code rows ps clock st h x y p d on k j z l) (
             record {
               ticks = d.ticks;
               stop = d.stop;
@@ -660,7 +321,7 @@ module _ (t : Words) (g : Ground t) (budget : ℕ) (code : Code) (rows : List Ro
               second = d.second;
               bank = ke.room ∙ d.bank;
               down = λ c q. absurd cc;
-              hart = λ q. inr (inr (leapt k f j z l s));
+              hart = λ q. inr (inr (leapt t g budget code rows ps clock st h x y p d on k f j z l s));
             },
             λ z. let on = l.on in let within = l.within in omega arith,
           )
@@ -672,12 +333,6 @@ module _ (t : Words) (g : Ground t) (budget : ℕ) (code : Code) (rows : List Ro
 
   -- ---- together
 
-  pub fetch_text : (o : Option MarkedWord) → x.inside ≡ false → is_text_word t x.pc ≡ true → get code x.pc ≡ o → fetched t code x ≡ o
-  fetch_text o i l e = cond-false x.inside _ _ i ∙ (cond-true (is_text_word t x.pc) (get code x.pc) None l ∙ e)
-
-  pub fetch_none : x.inside ≡ false → is_text_word t x.pc ≡ false → fetched t code x ≡ None
-  fetch_none i l = cond-false x.inside _ _ i ∙ cond-false (is_text_word t x.pc) (get code x.pc) None l
-
   outside : Outside x y → x.ticks < budget → Owes None (fetched t code x)
   outside o l = ⊎_elim near far (text_cases t x.pc)
     where
@@ -686,14 +341,14 @@ module _ (t : Words) (g : Ground t) (budget : ℕ) (code : Code) (rows : List Ro
           let q = in_text t x.pc r.0 r.1 in
           ⊎_elim
           (λ (e : get code x.pc ≡ Some (own r.0)).
-          owes None (Some (own r.0)) (fetch_text (Some (own r.0)) o.outside r.2 e)
+          owes None (Some (own r.0)) (fetch_text t g budget code rows ps clock st h x y p d on (Some (own r.0)) o.outside r.2 e)
           (own_outside r.0 (g.plain q.i r.0 q.is) o.outside o.pc o.agree l (ap (program_word t) (sym o.pc) ∙ r.1)))
           (λ (e : (b : Piece) × In b ps × IsBase b × (b.row.point ≡ x.pc) × (b.row.status ≡ Live) × Door code b).
-          enters e.0 e.1 e.2 e.3 e.4 e.5 o l (fetch_text (Some (enter (e.5).jump)) o.outside r.2 (ap (get code) (sym e.3) ∙ (e.5).stands)))
+          enters e.0 e.1 e.2 e.3 e.4 e.5 o l (fetch_text t g budget code rows ps clock st h x y p d on (Some (enter (e.5).jump)) o.outside r.2 (ap (get code) (sym e.3) ∙ (e.5).stands)))
           (st.words x.pc r.0 r.1)
 
       far : (program_word t x.pc ≡ None) × (is_text_word t x.pc ≡ false) → Owes None (fetched t code x)
-      far r = owes None None (fetch_none o.outside r.1) (none_outside o.outside o.pc l (ap (program_word t) (sym o.pc) ∙ r.0))
+      far r = owes None None (fetch_none t g budget code rows ps clock st h x y p d on o.outside r.1) (none_outside o.outside o.pc l (ap (program_word t) (sym o.pc) ∙ r.0))
 
   -- where the hart is inside, fewer turns are left behind the turn
   abbrev most_of : HartOk t budget ps x y → Option ℕ
