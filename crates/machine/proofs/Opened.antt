@@ -14,7 +14,7 @@ use Rattle.tramp_spec.specs.Banks.{bank_len}
 use Rattle.tramp_spec.specs.Slots.{Place, width, IsSlotOf, ArePlaces, set_place, set_places, initials, running, read_place}
 use Rattle.prim_code.specs.Standing.{HasValue, StandFor}
 use Rattle.prim_code.proofs.Keeping.{stays, reads}
-use Rattle.machine.specs.Readings.{ArmingSets}
+use Rattle.machine.specs.Arming.{ArmingSets}
 use Rattle.machine.proofs.Arming.{length_place, length_places}
 use Rattle.machine.proofs.ForceEvents.{set_leaves}
 use Rattle.machine.proofs.Lists.{get_set_same, get_set_other, same_some}

@@ -9,6 +9,7 @@ pub mod Same
 pub mod Measures
 pub mod Instruments
 pub mod Laws
+pub mod Arming
 pub mod Readings
 pub mod FirstTurns
 pub mod Leaving

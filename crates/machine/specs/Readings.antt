@@ -1,4 +1,4 @@
--- The law of readings: what an instrument in force reads is what its plan measures on the unpatched program. And what arming sets.
+-- The law of readings: what an instrument in force reads is what its plan measures on the unpatched program.
 use Rattle.std.specs.Prelude.{◌≡◌, ℕ, ◌+◌, ◌%◌, ◌^◌, ◌<◌, ◌≤◌, ◌==◌, true, Option, Some, None, List, [], ◌∷◌, ◌++◌, length, slice_get, slice_index}
 use Rattle.std.specs.List.{AllByRecursion, IsDistinct}
 use Rattle.pn_types.specs.declared.image.Image.{Image}
@@ -72,18 +72,3 @@ abbrev pub ReadingsMeasure : Type 0
 ReadingsMeasure =
     (image : Image) (n budget : ℕ) (i : Placed) (plan : Plan) (harts : List ℕ) (es : List Event) → IsProgram image → budget ≤ MAX_BUDGET → IsMeasurable plan → Legal es (start_core image n budget)
     → (r : IsSampled i plan es (start_core image n budget)) → MeasuresFor harts (program_of image) (start image n) r
-
--- ---- arming
-
--- the slots of these places stand for the values, each timer reads 0, and no other doubleword has changed
-pub record AreSet (ps : List Place) (values : List ℕ) (spare ticks : ℕ) (bank next : List ℕ) : Type 0 where
-  pub stand : StandFor ps spare values next
-  pub timers : (n : ℕ) (p : Place) → slice_get ps n ≡ Some p → p.timer ≡ true → read_place true p.slot ticks next ≡ 0
-  pub others : (q : ℕ) → (IsSlotOf ps q → ⊥) → slice_index next q ≡ slice_index bank q
-  pub size : length next ≡ length bank
-
--- So it is behind an arming.
-abbrev pub ArmingSets : Type 0
-ArmingSets =
-    (ps : List Place) (values bank : List ℕ) (spare ticks : ℕ) → ArePlaces ps → length values ≡ length ps → length bank ≡ bank_len → ticks < 2 ^ 64 → AllByRecursion (λ v. v + spare < 2 ^ 64) values
-    → AreSet ps values spare ticks bank (set_places ps values ticks bank)

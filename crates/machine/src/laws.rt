@@ -4,7 +4,8 @@ ghost use Rattle.machine.specs.FirstTurns.{FirstTurns};
 ghost use Rattle.machine.specs.Leaving.{LeavesSoon};
 ghost use Rattle.machine.specs.Laws.{Erasure, ReplaysGoOn};
 ghost use Rattle.machine.specs.Measures.{LevelsGoOn, MeasuresAdd};
-ghost use Rattle.machine.specs.Readings.{ArmingSets, ReadingsMeasure};
+ghost use Rattle.machine.specs.Arming.{ArmingSets};
+ghost use Rattle.machine.specs.Readings.{ReadingsMeasure};
 
 /// Erasure. Take any image whose text is of words of 32 bits that never name x31, any number of harts and budget, and any list of
 /// events each of which may happen when it comes: turns, also inside trampolines, and blocks that are written, linked,
