@@ -32,3 +32,4 @@ pub mod ForceEvents
 pub mod Opened
 pub mod ForceArming
 pub mod Readings
+pub mod LoopCounted

@@ -13,3 +13,4 @@ pub mod Arming
 pub mod Readings
 pub mod FirstTurns
 pub mod Leaving
+pub mod LoopCounted

@@ -1,5 +1,5 @@
 -- The law of readings: what an instrument in force reads is what its plan measures on the unpatched program.
-use Rattle.std.specs.Prelude.{◌≡◌, ℕ, ◌+◌, ◌%◌, ◌^◌, ◌<◌, ◌≤◌, ◌==◌, true, Option, Some, None, List, [], ◌∷◌, ◌++◌, length, slice_get, slice_index}
+use Rattle.std.specs.Prelude.{◌≡◌, ℕ, ◌+◌, ◌%◌, ◌^◌, ◌<◌, ◌≤◌, ◌==◌, Option, Some, None, List, [], ◌∷◌, ◌++◌, length, slice_get}
 use Rattle.std.specs.List.{AllByRecursion, IsDistinct}
 use Rattle.pn_types.specs.declared.image.Image.{Image}
 use Rattle.pn_types.specs.declared.limits.TheConstants.{MAX_BUDGET}
@@ -8,11 +8,8 @@ use Rattle.pn_types.specs.declared.plan.Plan.{Plan}
 use Rattle.rv_word.specs.Plain.{Words, Plain}
 use Rattle.rv_mem.specs.Start.{program_of}
 use Rattle.rv_exec.specs.Start.{start}
-use Rattle.tramp_spec.specs.Banks.{bank_len}
 use Rattle.tramp_spec.specs.Harts.{Hart}
-use Rattle.tramp_spec.specs.Slots.{Place, ArePlaces, IsSlotOf, set_places, read_place}
 use Rattle.prim_code.specs.Fitting.{AreStmtsOf}
-use Rattle.prim_code.specs.Standing.{StandFor}
 use Rattle.machine.specs.Cores.{Core, start_core}
 use Rattle.machine.specs.Events.{Event, Arm, Sample, May}
 use Rattle.machine.specs.Instruments.{reading, Carries, InForce}

@@ -3,6 +3,7 @@
 ghost use Rattle.machine.specs.FirstTurns.{FirstTurns};
 ghost use Rattle.machine.specs.Leaving.{LeavesSoon};
 ghost use Rattle.machine.specs.Laws.{Erasure, ReplaysGoOn};
+ghost use Rattle.machine.specs.LoopCounted.{LoopCounted};
 ghost use Rattle.machine.specs.Measures.{LevelsGoOn, MeasuresAdd};
 ghost use Rattle.machine.specs.Arming.{ArmingSets};
 ghost use Rattle.machine.specs.Readings.{ReadingsMeasure};
@@ -53,4 +54,9 @@ pub fn measures_add()
 /// Thirteen turns of three words, the first of which is patched and counted.
 pub fn first_turns()
     ensures { FirstTurns }
+{}
+
+/// Three rounds of a loop of one word, which an instrument counts: it is armed, and reads 3.
+pub fn loop_counted()
+    ensures { LoopCounted }
 {}

@@ -5,6 +5,6 @@
 mod laws;
 
 pub use laws::{
-    arming_sets, erasure, first_turns, leaves_soon, levels_go_on, measures_add, readings_measure,
-    replays_go_on,
+    arming_sets, erasure, first_turns, leaves_soon, levels_go_on, loop_counted, measures_add,
+    readings_measure, replays_go_on,
 };
