@@ -91,9 +91,6 @@ module _ (i : Placed) (plan : Plan) (families ages : ℕ → ℕ) where
   known_as c s v w e k = record { inv = k.inv; ready = k.ready; reads = λ h x y ex ey. subst (Reads i plan families ages c.program c.budget (k.inv).ps x y) (e h) (k.reads h x y ex ey) }
 
   module _ (c : Core) (s : Plain) (v : ℕ → Level) (k : Known c s v) where
-    abbrev ps : List Piece
-    ps = (k.inv).ps
-
     -- ---- an event of the tool
 
     known : (keep fresh : Piece → Type 0) (f : Row → Status) (but : ℕ → Type 0) (d : Core) → Kept keep fresh f but (k.inv).ps c d s

@@ -204,7 +204,6 @@ module _ (i : Placed) (plan : Plan) (families ages : ℕ → ℕ) (t : Words) (g
   save : (b : Piece) → In b ps → IsBase b → (b.row.status ≡ Written → ⊥) → x.inside ≡ true → AtSave budget b x y → Ahead i plan families ages budget y v b.row.at x.bank x.ticks → Owes (fetched t code x)
   save b hb bs was ins k a =
       let q = nexts.saving t g budget code rows ps clock st h x y p d on b hb bs ins k in
-      let z : Hart = record x { pc = next x.pc; bank = set_bank x.bank 1 (reg x.regs 5) } in
       brought (record x { pc = next x.pc; bank = set_bank x.bank 1 (reg x.regs 5) }) q.0
       (inr (inl (record {
         k = record { b = b; is_in = hb; base = bs; was = was; inside = ins; place = inr (inl q.1) };

@@ -115,7 +115,6 @@ within_turn t budget h s (Some y) e m w j z ez =
     ⊎_elim
     (λ (same : j ≡ h).
     let is : z ≡ a.hart = same_some (slice_get (slice_set s.harts h a.hart) h) z a.hart (ap (slice_get (slice_set s.harts h a.hart)) (sym same) ∙ ez) (get_set_same s.harts h y a.hart e) in
-    let d = plain.turn_alone t h (record { hart = y; prog = s.prog }) in
     let up : z.ticks ≡ y.ticks + 1 = ap (λ (u : PlainHart). u.ticks) is ∙ one_more _ _ y in
     omega arith)
     (λ (away : j ≡ h → ⊥). w j z (sym (get_set_other s.harts h j a.hart away) ∙ ez))

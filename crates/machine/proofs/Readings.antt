@@ -63,7 +63,6 @@ module _ (t : Words) (plan : Plan) (h : ℕ) (a b c : List ℕ) (s : Plain) wher
   level_second : level_at t plan h (length a) (length a + (length b + length c)) (a ++ (b ++ c)) s ≡ level t plan h c (run_from t b (run_from t a s)) (level t plan h b (run_from t a s) (opened plan (run_from t a s) h))
   level_second =
       let turns : take (length a) (a ++ (b ++ c)) ≡ a = take-append_seam a (b ++ c) in
-      let long = length-append b c in
       let all : take (length a + (length b + length c)) (a ++ (b ++ c)) ≡ a ++ (b ++ c) =
       take-append-add a (b ++ c) (length b + length c) ∙ ap (λ l. a ++ l) (take-append-add b c (length c) ∙ ap (λ l. b ++ l) (whole c)) in
       ap (λ l. level t plan h (drop (length a) (take (length a + (length b + length c)) (a ++ (b ++ c)))) (run_from t l s) (opened plan (run_from t l s) h)) turns
@@ -250,9 +249,6 @@ module _ (image : Image) (n budget : ℕ) (i : Placed) (plan : Plan) (harts : Li
   pub so : difference (readings i harts (replay (before ++ Arm i ∷ first) c0)) (readings i harts (replay (before ++ Arm i ∷ (first ++ rest)) c0))
       ≡ measure t plan harts (ticks_of before c0) (ticks_of (before ++ Arm i ∷ first) c0) (ticks_of (before ++ Arm i ∷ (first ++ rest)) c0) (owns (before ++ Arm i ∷ (first ++ rest)) c0) s0
   so =
-      let a = owns before c0 in
-      let b = owns first armed in
-      let c = owns rest c2 in
       let e1 : ticks_of (before ++ Arm i ∷ first) c0 ≡ length (owns before c0) + length (owns first armed) = ap length turns_first ∙ length-append (owns before c0) (owns first armed) in
       let e2 : ticks_of (before ++ Arm i ∷ (first ++ rest)) c0 ≡ length (owns before c0) + (length (owns first armed) + length (owns rest c2)) =
       ap length turns_all ∙ (length-append (owns before c0) (owns first armed ++ owns rest c2) ∙ ap (λ n. length (owns before c0) + n) (length-append (owns first armed) (owns rest c2))) in
@@ -265,7 +261,6 @@ module _ (image : Image) (n budget : ℕ) (i : Placed) (plan : Plan) (harts : Li
 
 pub readings_measure : ReadingsMeasure
 readings_measure image n budget i plan harts es p cap m legal r =
-    let c = start_core image n budget in
     let f = r.force in
     let is : es ≡ f.before ++ Arm i ∷ (r.first ++ r.rest) = f.is ∙ ap (λ l. f.before ++ Arm i ∷ l) r.parts in
     subst
