@@ -36,6 +36,7 @@ use Rattle.machine.proofs.Homes.{base_shape}
 use Rattle.machine.proofs.Invariant.{Ground, Piece, IsBase, Linked, Leads, Static, Saved, Outside, AtSave, AtSaved, AtMoved, AtLeave, BasePlace, InMini, HartOk, Dynamic, Door}
 use Rattle.machine.proofs.Texts.{text_cases}
 use Rattle.machine.proofs.Told.{Stand, Stood, starts, same_told, ticks_on}
+use Rattle.machine.proofs.Fetching.{body_fits, fetch_text, fetch_none}
 use Rattle.machine.proofs.Nexts as nexts
 use Rattle.machine.proofs.Nexts.{Brings}
 use Rattle.machine.proofs.Ways.{rests, onto_mini, onto_tail}
@@ -130,11 +131,11 @@ module _ (i : Placed) (plan : Plan) (families ages : ℕ → ℕ) (t : Words) (g
       near r = ⊎_elim
           (λ (e : get code x.pc ≡ Some (own r.0)).
           let n = done (exec_of r.0 x.pc h x.regs p) x.regs p in
-          ticks (Some (own r.0)) (nexts.fetch_text t g budget code rows ps clock st h x y p d on (Some (own r.0)) o.outside r.2 e) refl
+          ticks (Some (own r.0)) (fetch_text t g budget code rows ps clock st h x y p d on (Some (own r.0)) o.outside r.2 e) refl
           (rest (own_word r.0 (ap (get code) (sym o.pc) ∙ e)) k) (inl (own_outside n.next n.regs r.0 (program_pc code rows x) x o.outside)))
           (λ (e : (b : Piece) × In b ps × IsBase b × (b.row.point ≡ x.pc) × (b.row.status ≡ Live) × Door code b).
           let b = e.0 in
-          let f = nexts.fetch_text t g budget code rows ps clock st h x y p d on (Some (enter (e.5).jump)) o.outside r.2 (ap (get code) (sym e.3) ∙ (e.5).stands) in
+          let f = fetch_text t g budget code rows ps clock st h x y p d on (Some (enter (e.5).jump)) o.outside r.2 (ap (get code) (sym e.3) ∙ (e.5).stands) in
           let q = nexts.entering t g budget code rows ps clock st h x y p d on b e.1 e.3 e.5 o l f in
           brought (record x { pc = b.row.at; inside = true }) q.0
           (inr (inl (record {
@@ -150,12 +151,12 @@ module _ (i : Placed) (plan : Plan) (families ages : ℕ → ℕ) (t : Words) (g
           (st.words x.pc r.0 r.1)
 
       far : (program_word t x.pc ≡ None) × (is_text_word t x.pc ≡ false) → Owes (fetched t code x)
-      far r = ticks None (nexts.fetch_none t g budget code rows ps clock st h x y p d on o.outside r.1) refl (rest (no_word (ap (program_word t) (sym o.pc) ∙ r.0)) k) (inl refl)
+      far r = ticks None (fetch_none t g budget code rows ps clock st h x y p d on o.outside r.1) refl (rest (no_word (ap (program_word t) (sym o.pc) ∙ r.0)) k) (inl refl)
 
   -- ---- a jump of the tool
 
   stands_first : (m : Piece) → In m ps → Linked m → Stands m.body m.row.at (bench_of x)
-  stands_first m hm k = record { aligned = (st.places m hm).aligned; fits = nexts.body_fits t g budget code rows ps clock st h x y p d on m hm k; file = d.first; bank = d.bank }
+  stands_first m hm k = record { aligned = (st.places m hm).aligned; fits = body_fits t g budget code rows ps clock st h x y p d on m hm k; file = d.first; bank = d.bank }
 
   hop : (b : Piece) (n q : ℕ) (live : Bool) (w : ℕ) → In b ps → IsBase b → (b.row.status ≡ Written → ⊥) → x.inside ≡ true → y.pc ≡ b.row.point → x.ticks < budget → Saved x y → Hops x.pc q w → fetched t code x ≡ Some (tool w) → Leads ps b.row.at n q live
       → Way i plan families ages budget y v b.row.at n x.bank x.ticks → Owes (fetched t code x)

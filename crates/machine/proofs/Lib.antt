@@ -7,6 +7,7 @@ pub mod Invariant
 pub mod Homes
 pub mod Texts
 pub mod Lefts
+pub mod Fetching
 pub mod Nexts
 pub mod Turns
 pub mod Blocks

@@ -1,11 +1,9 @@
 -- What a turn makes of a hart, by where it stands.
-use Rattle.std.proofs.Common.{◌≡◌, ℕ, suc, ◌+◌, ◌-◌, ◌*◌, ◌%◌, ◌^◌, ◌<◌, ◌≤◌, List, [], ◌∷◌, ◌++◌, length, Option, Some, None, Ok, refl, sym, ap, ◌∙◌, subst, arith, ⊎_elim, inl, inr}
-use Rattle.std.specs.Prelude.{Bool, true, false, slice_get, ◌⊎◌, nat_lt, unwrap_or}
-use Rattle.std.specs.FinMap.{get}
-use Rattle.std.proofs.lemmas.Bool.{cases_eq, cond-true, cond-false, and_from, lt-ltb, le-leb, eq-eqb}
+use Rattle.std.proofs.Common.{◌≡◌, ℕ, ◌+◌, ◌*◌, ◌%◌, ◌<◌, ◌≤◌, List, [], ◌∷◌, length, Option, Some, None, Ok, refl, sym, ap, ◌∙◌, subst, arith, ⊎_elim, inl, inr}
+use Rattle.std.specs.Prelude.{Bool, true, false, slice_get, ◌⊎◌, nat_lt}
+use Rattle.std.proofs.lemmas.Bool.{cases_eq, cond-true}
 use Rattle.std.proofs.lemmas.Grind.{common_steps}
 use Rattle.std.proofs.lemmas.Option.{slice_get_within}
-use Rattle.pn_types.specs.declared.limits.TheConstants.{TOOL_TEXT_LEN}
 use Rattle.rv_word.specs.Names.{jump_of}
 use Rattle.rv_word.specs.Registers.{reg, with_reg}
 use Rattle.rv_word.specs.Table.{decode_of}
@@ -17,10 +15,10 @@ use Rattle.rv_word.specs.declared.outcome.Next.TheVariants.{Go}
 use Rattle.rv_word.specs.declared.instr.Instr.TheVariants.{Load, Store}
 use Rattle.rv_word.specs.declared.instr.LoadOp.TheVariants.{Ld}
 use Rattle.rv_word.specs.declared.instr.StoreOp.TheVariants.{Sd}
-use Rattle.tramp_spec.specs.Codes.{Code, tool_at, is_text_word, is_tool_word}
+use Rattle.tramp_spec.specs.Codes.{Code}
 use Rattle.tramp_spec.specs.Banks.{bank_len, saved_x5, set_bank}
 use Rattle.tramp_spec.specs.Blocks.{tail_of, moved_at}
-use Rattle.tramp_spec.specs.Bodies.{Safe, Harmless, Leap, Keeps}
+use Rattle.tramp_spec.specs.Bodies.{Safe, Leap, Keeps}
 use Rattle.tramp_spec.specs.Harts.{own_hart, Hart, bench_of, ticked, own_step, other_hart, step_of, is_tick}
 use Rattle.tramp_spec.specs.Marks.{own, enter, tool, leave, is_jump}
 use Rattle.tramp_spec.specs.MovedWords.{own_place}
@@ -28,18 +26,16 @@ use Rattle.tramp_spec.specs.Moves.{Agree, Alike, SameStep, bench}
 use Rattle.tramp_spec.specs.Steps.{Bench, stand, step_on, with_value, with_doubleword}
 use Rattle.tramp_spec.specs.declared.mark.Mark.TheVariants.{Enter, Tool, Leave}
 use Rattle.tramp_spec.specs.declared.mark.MarkedWord.{MarkedWord}
-use Rattle.tramp_spec.proofs.Moving.{words_move}
 use Rattle.tramp_spec.proofs.Hops.{Hops, hop_steps, save_steps, restore_steps, saved_back}
 use Rattle.tramp_spec.proofs.Registers.{length_with, read_back, read_but}
 use Rattle.machine.specs.Cores.{In, Row, Written}
 use Rattle.machine.specs.Places.{home_of, program_pc}
 use Rattle.machine.specs.Turns.{fetched}
-use Rattle.machine.proofs.Lists.{stands_at, get_append, get_before, same_some}
-use Rattle.machine.proofs.Invariant.{Ground, Piece, IsBase, Linked, base_with, BaseShape, MiniShape, HasFamily, Door, Static, Saved, Outside, AtSave, AtSaved, MovedWord, AtMoved, AtLeave, InMini, Dynamic}
-use Rattle.machine.proofs.Texts.{in_text, text_low}
+use Rattle.machine.proofs.Lists.{get_append, get_before, same_some}
+use Rattle.machine.proofs.Invariant.{Ground, Piece, IsBase, Linked, HasFamily, Door, Static, Saved, Outside, AtSave, AtSaved, MovedWord, AtMoved, AtLeave, InMini, Dynamic}
 use Rattle.machine.proofs.Lefts.{left}
-use Rattle.machine.proofs.Homes as homes
-use Rattle.machine.proofs.Homes.{one_block, home_word, same_moved, base_len}
+use Rattle.machine.proofs.Fetching.{harmless_of, body_fits, moved_word, fetch_moved, fetch_base, pc_low, fetch_mini}
+use Rattle.machine.proofs.Homes.{one_block, base_shape, mini_shape, home_word}
 
 module _ (t : Words) (g : Ground t) (budget : ℕ) (code : Code) (rows : List Row) (ps : List Piece) (clock : ℕ) (st : Static t code rows ps clock) (h : ℕ) (x : Hart) (y : PlainHart) (p : Prog) (d : Dynamic t budget ps x y) (on : x.stop ≡ None) where
   -- ---- words that are no ticks
@@ -66,41 +62,9 @@ module _ (t : Words) (g : Ground t) (budget : ℕ) (code : Code) (rows : List Ro
         record { pc = refl; home = sym o.pc ∙ sym e; before = l; agree = o.agree },
       )
 
-  -- ---- inside
+  -- ---- where a jump leads to
 
-  -- what is inside is fetched where it stands
-  fetch_inside : (w : MarkedWord) → x.inside ≡ true → tool_at t ≤ x.pc → x.pc + 4 ≤ tool_at t + TOOL_TEXT_LEN → x.pc % 4 ≡ 0 → get code x.pc ≡ Some w → fetched t code x ≡ Some w
-  fetch_inside w i lo hi al e =
-      let a : (x.pc - tool_at t) % 4 ≡ 0 = omega arith in
-      let n : x.pc - tool_at t < TOOL_TEXT_LEN = omega arith in
-      let k : is_tool_word t x.pc ≡ true = and_from _ _ (and_from _ _ (le-leb _ _ lo) (lt-ltb _ _ n)) (eq-eqb _ _ a) in
-      cond-true x.inside _ _ i ∙ (cond-true (is_tool_word t x.pc) _ _ k ∙ ap (λ o. Some (unwrap_or o (tool 0))) e)
-
-  -- so is a word of a block
-  fetch_block : (b : Piece) (i : ℕ) (ws : List MarkedWord) (w : MarkedWord) → In b ps → x.inside ≡ true → x.pc ≡ b.row.at + 4 * i → i < b.row.len → get code (b.row.at + 4 * i) ≡ Some w → fetched t code x ≡ Some w
-  fetch_block b i ws w hb n e l k =
-      let pl = st.places b hb in
-      let lo = pl.low in
-      let hi = pl.high in
-      let al = pl.aligned in
-      fetch_inside w n (omega arith) (omega arith) (omega arith) (ap (get code) e ∙ k)
-
-  base_shape : (b : Piece) → In b ps → IsBase b → BaseShape t code b.row b.next
-  base_shape = homes.base_shape t code rows ps clock st
-
-  mini_shape : (m : Piece) → In m ps → Linked m → MiniShape code m.row m.body m.next
-  mini_shape = homes.mini_shape t code rows ps clock st
-
-  harmless_of : (m : Piece) → In m ps → Linked m → Harmless m.body
-  harmless_of m hm k = (mini_shape m hm k).harmless
-
-  tool_high : tool_at t + TOOL_TEXT_LEN < 2 ^ 32
-  tool_high = let e = g.high in omega arith
-
-  pub body_fits : (m : Piece) → In m ps → Linked m → m.row.at + 4 * length m.body < 2 ^ 64
-  body_fits m hm k = let s = mini_shape m hm k in let l = s.len in let hi = (st.places m hm).high in let top = tool_high in omega arith
-
-  -- on to what a jump leads to: a base block's tail
+  -- a base block's tail
   pub to_tail : (b : Piece) (q w : ℕ) → In b ps → y.pc ≡ b.row.point → x.ticks < budget → Saved x y → Hops x.pc q w → fetched t code x ≡ Some (tool w) → q ≡ tail_of b.row.at
       → Brings (record x { pc = q }) × AtSaved budget b (tail_of b.row.at) (record x { pc = q }) y
   to_tail b q w hb e l sv hop f is =
@@ -110,7 +74,7 @@ module _ (t : Words) (g : Ground t) (budget : ℕ) (code : Code) (rows : List Ro
         record { pc = is; home = e; before = l; saved = record { agree = sv.agree; saved = sv.saved } },
       )
 
-  -- or the first word of a mini block
+  -- the first word of a mini block
   pub to_mini : (m : Piece) (q w : ℕ) → In m ps → Hops x.pc q w → fetched t code x ≡ Some (tool w) → m.row.at ≡ q → Brings (record x { pc = q })
   to_mini m q w hm hop f is =
       let al = (st.places m hm).aligned in
@@ -121,7 +85,7 @@ module _ (t : Words) (g : Ground t) (budget : ℕ) (code : Code) (rows : List Ro
   at_first m q e = omega arith
 
   pub safe_first : (m : Piece) → In m ps → Linked m → Safe (length m.body) m.body m.row.at 0 (bench_of x) x.ticks
-  safe_first m hm k = harmless_of m hm k m.row.at x.ticks (bench_of x) (record { aligned = (st.places m hm).aligned; fits = body_fits m hm k; file = d.first; bank = d.bank })
+  safe_first m hm k = harmless_of t g budget code rows ps clock st h x y p d on m hm k m.row.at x.ticks (bench_of x) (record { aligned = (st.places m hm).aligned; fits = body_fits t g budget code rows ps clock st h x y p d on m hm k; file = d.first; bank = d.bank })
 
   abbrev pub in_first : (b m : Piece) (q : ℕ) → (b.row.status ≡ Written → ⊥) → x.inside ≡ true → y.pc ≡ b.row.point → x.ticks < budget → Saved x y → In m ps → Linked m → HasFamily ps m b → m.row.at ≡ q → InMini budget ps (record x { pc = q }) y
   in_first b m q was i e l sv hm k fm is = record {
@@ -150,81 +114,36 @@ module _ (t : Words) (g : Ground t) (budget : ℕ) (code : Code) (rows : List Ro
 
   -- ---- in a base block
 
-  -- the word of a base block is that of its point
-  moved_word : (b : Piece) → In b ps → IsBase b → MovedWord t b
-  moved_word b hb bs =
-      let s = base_shape b hb bs in
-      let q = in_text t b.row.point s.word s.here in
-      let at = q.at in
-      let low = q.low in
-      let under = text_low t b.row.point s.word s.here in
-      let pl = st.places b hb in
-      let lo = pl.low in
-      let hi = pl.high in
-      let al = pl.aligned in
-      let len = s.len in
-      let ga = g.aligned in
-      let gh = g.high in
-      let gs = g.short in
-      record {
-        word = s.word;
-        here = s.here;
-        moved = s.moved;
-        movable = s.movable;
-        moves = words_move s.word b.row.point (moved_at b.row.at) s.moved (g.plain q.i s.word q.is) (g.narrow q.i s.word q.is) (omega arith) (omega arith) (omega arith) (omega arith) (omega arith) s.movable;
-      }
-
-  -- the moved word of number j is fetched
-  fetch_moved : (b : Piece) (hb : In b ps) (bs : IsBase b) (m : MovedWord t b) (j : ℕ) (w : MarkedWord) → x.inside ≡ true → x.pc ≡ moved_at b.row.at + 4 * j → slice_get m.moved j ≡ Some w
-      → (fetched t code x ≡ Some w) × (get code x.pc ≡ Some w) × (x.pc < b.row.at + 4 * b.row.len)
-  fetch_moved b hb bs m j w i e k =
-      let s = base_shape b hb bs in
-      let k' : slice_get s.moved j ≡ Some w = subst (λ ws. slice_get ws j ≡ Some w) (same_moved t code b m s) k in
-      let l = slice_get_within s.moved j w k' in
-      let len = s.len in
-      let a : x.pc ≡ b.row.at + 4 * suc (suc (suc j)) = omega arith in
-      let st' = stands_at code b.row.at (base_with s.jump s.moved) (suc (suc (suc j))) w s.stands k' in
-      (fetch_block b (suc (suc (suc j))) (base_with s.jump s.moved) w hb i a (omega arith) st', ap (get code) a ∙ st', omega arith)
-
-  fetch_base : (b : Piece) (hb : In b ps) (bs : IsBase b) (n : ℕ) (w : MarkedWord) → x.inside ≡ true → x.pc ≡ b.row.at + 4 * n → n < 3 → slice_get (base_with (base_shape b hb bs).jump (base_shape b hb bs).moved) n ≡ Some w → fetched t code x ≡ Some w
-  fetch_base b hb bs n w i e l k =
-      let s = base_shape b hb bs in
-      let len = s.len in
-      fetch_block b n (base_with s.jump s.moved) w hb i e (omega arith) (stands_at code b.row.at (base_with s.jump s.moved) n w s.stands k)
-
-  pc_low : (b : Piece) (n : ℕ) → In b ps → x.pc ≡ b.row.at + 4 * n → n < b.row.len → x.pc + 4 < 2 ^ 64
-  pc_low b n hb e l = let hi = (st.places b hb).high in let top = tool_high in omega arith
-
   -- x5 is saved
   pub saving : (b : Piece) → In b ps → IsBase b → x.inside ≡ true → AtSave budget b x y
       → Brings (record x { pc = next x.pc; bank = set_bank x.bank 1 (reg x.regs 5) }) × AtSaved budget b (b.row.at + 4) (record x { pc = next x.pc; bank = set_bank x.bank 1 (reg x.regs 5) }) y
   saving b hb bs i k =
-      let s = base_shape b hb bs in
+      let s = base_shape t code rows ps clock st b hb bs in
       let len = s.len in
       let pc : x.pc ≡ b.row.at + 4 * 0 = (let e = k.pc in omega arith) in
-      let low = pc_low b 0 hb pc (omega arith) in
+      let low = pc_low t g budget code rows ps clock st h x y p d on b 0 hb pc (omega arith) in
       let nx : next x.pc ≡ b.row.at + 4 = (let e = k.pc in omega arith) in (
-        tool_brings (word_of (Store Sd 0 5 8)) (next x.pc) (with_doubleword (bench_of x) 1 (reg x.regs 5)) (fetch_base b hb bs 0 (tool (word_of (Store Sd 0 5 8))) i pc (omega arith) refl) (save_steps x.ticks x.pc (bench_of x)),
+        tool_brings (word_of (Store Sd 0 5 8)) (next x.pc) (with_doubleword (bench_of x) 1 (reg x.regs 5)) (fetch_base t g budget code rows ps clock st h x y p d on b hb bs 0 (tool (word_of (Store Sd 0 5 8))) i pc (omega arith) refl) (save_steps x.ticks x.pc (bench_of x)),
         record { pc = nx; home = k.home; before = k.before; saved = record { agree = λ r l n. k.agree r l; saved = saved_back x.bank (reg x.regs 5) d.bank ∙ k.agree 5 (omega arith) } },
       )
 
   -- the jump of a base block's head is fetched
   pub heading : (b : Piece) → In b ps → IsBase b → x.inside ≡ true → x.pc ≡ b.row.at + 4 → (w : ℕ) × (fetched t code x ≡ Some (tool w)) × Hops x.pc b.next w
   heading b hb bs i e =
-      let s = base_shape b hb bs in
+      let s = base_shape t code rows ps clock st b hb bs in
       let pc : x.pc ≡ b.row.at + 4 * 1 = omega arith in
-      (s.jump, fetch_base b hb bs 1 (tool s.jump) i pc (omega arith) refl, subst (λ a. Hops a b.next s.jump) (sym e) s.hops)
+      (s.jump, fetch_base t g budget code rows ps clock st h x y p d on b hb bs 1 (tool s.jump) i pc (omega arith) refl, subst (λ a. Hops a b.next s.jump) (sym e) s.hops)
 
   -- x5 is restored
   pub restoring : (b : Piece) → In b ps → IsBase b → x.inside ≡ true → AtSaved budget b (tail_of b.row.at) x y
       → Brings (record x { pc = next x.pc; regs = with_reg x.regs 5 (saved_x5 x.bank) }) × AtMoved t budget b (record x { pc = next x.pc; regs = with_reg x.regs 5 (saved_x5 x.bank) }) y
   restoring b hb bs i k =
-      let s = base_shape b hb bs in
+      let s = base_shape t code rows ps clock st b hb bs in
       let len = s.len in
       let pc : x.pc ≡ b.row.at + 4 * 2 = (let e = k.pc in omega arith) in
-      let low = pc_low b 2 hb pc (omega arith) in
+      let low = pc_low t g budget code rows ps clock st h x y p d on b 2 hb pc (omega arith) in
       let v = saved_x5 x.bank in
-      let m = moved_word b hb bs in
+      let m = moved_word t g budget code rows ps clock st h x y p d on b hb bs in
       let nx : next x.pc ≡ moved_at b.row.at + 4 * 0 = (let e = k.pc in omega arith) in
       let size : length (with_reg x.regs 5 v) ≡ 32 = length_with x.regs 5 v ∙ d.first in
       let room : nat_lt 5 (length x.regs) ≡ true = ap (nat_lt 5) d.first in
@@ -232,7 +151,7 @@ module _ (t : Words) (g : Ground t) (budget : ℕ) (code : Code) (rows : List Ro
       let agree : Agree (with_reg x.regs 5 v) y.regs = λ r l. ⊎_elim
       (λ (e : r ≡ 5). ap (reg (with_reg x.regs 5 v)) e ∙ (read_back x.regs 5 v refl room ∙ (sv.saved ∙ ap (reg y.regs) (sym e))))
       (λ (e : r ≡ 5 → ⊥). read_but x.regs 5 r v e ∙ sv.agree r l e) (cases_eq r 5) in (
-        tool_brings (word_of (Load Ld 5 0 8)) (next x.pc) (with_value (bench_of x) 5 v) (fetch_base b hb bs 2 (tool (word_of (Load Ld 5 0 8))) i pc (omega arith) refl) (restore_steps x.ticks x.pc (bench_of x)),
+        tool_brings (word_of (Load Ld 5 0 8)) (next x.pc) (with_value (bench_of x) 5 v) (fetch_base t g budget code rows ps clock st h x y p d on b hb bs 2 (tool (word_of (Load Ld 5 0 8))) i pc (omega arith) refl) (restore_steps x.ticks x.pc (bench_of x)),
         record {
           m = m;
           j = 0;
@@ -261,7 +180,7 @@ module _ (t : Words) (g : Ground t) (budget : ℕ) (code : Code) (rows : List Ro
       let tk = (m.moves).tick in
       let inside = slice_get_within m.moved (own_place m.word) (own tk.0) tk.1 in (
         record x { pc = to + 4 * (k.j + 1); regs = (m.moves).before (k.j + 1) k.regs },
-        tool_brings s.0 (to + 4 * (k.j + 1)) (bench ((m.moves).before (k.j + 1) k.regs) x.bank) (fetch_moved b hb bs m k.j (tool s.0) i k.pc s.1).0 step,
+        tool_brings s.0 (to + 4 * (k.j + 1)) (bench ((m.moves).before (k.j + 1) k.regs) x.bank) (fetch_moved t g budget code rows ps clock st h x y p d on b hb bs m k.j (tool s.0) i k.pc s.1).0 step,
         refl,
         refl,
         (m.moves).size (k.j + 1) k.regs up ∙ k.size,
@@ -300,7 +219,7 @@ module _ (t : Words) (g : Ground t) (budget : ℕ) (code : Code) (rows : List Ro
       let w = tk.0 in
       let pc : x.pc ≡ to + 4 * own_place m.word = k.pc ∙ ap (λ j. to + 4 * j) e in
       let is : x.regs ≡ (m.moves).before (own_place m.word) k.regs = k.is ∙ ap (λ j. (m.moves).before j k.regs) e in
-      let f = fetch_moved b hb bs m (own_place m.word) (own w) i pc tk.1 in
+      let f = fetch_moved t g budget code rows ps clock st h x y p d on b hb bs m (own_place m.word) (own w) i pc tk.1 in
       let at = (let z = k.pc in let lo : b.row.at ≤ x.pc = omega arith in lo) in
       let home : program_pc code rows x ≡ y.pc = cond-true x.inside (home_of code rows x.pc) x.pc i ∙ (home_word t code rows ps clock st b x.pc (own w) hb at f.2 f.1 ∙ sym k.home) in
       let same0 = tk.3 k.regs y.regs h p (record { agree = k.agree; first = k.size; second = d.second }) in (
@@ -328,33 +247,27 @@ module _ (t : Words) (g : Ground t) (budget : ℕ) (code : Code) (rows : List Ro
       subst (λ a. step_on 0 k.left x.ticks a (bench_of x) ≡ Ok (stand y.pc (bench_of x))) (sym k.pc)
       (subst (λ w. step_on 0 w x.ticks (to + 4 * k.j) (bench_of x) ≡ Ok (stand y.pc (bench_of x))) word
       (subst (λ a. step_on 0 l.0 x.ticks (to + 4 * k.j) (bench_of x) ≡ Ok (stand a (bench_of x))) home step0)) in
-      leave_brings k.left y.pc (bench_of x) (fetch_moved b hb bs m k.j (leave k.left) i k.pc k.stands).0 step
+      leave_brings k.left y.pc (bench_of x) (fetch_moved t g budget code rows ps clock st h x y p d on b hb bs m k.j (leave k.left) i k.pc k.stands).0 step
 
   -- ---- in a mini block
-
-  -- a word of the block is fetched
-  fetch_mini : (k : InMini budget ps x y) (j : ℕ) (w : MarkedWord) → j ≡ k.i → j < (k.m).row.len → slice_get ((k.m).body ++ tool (mini_shape k.m k.is_in k.linked).jump ∷ []) j ≡ Some w → fetched t code x ≡ Some w
-  fetch_mini k j w e l q =
-      let s = mini_shape k.m k.is_in k.linked in
-      fetch_block k.m j ((k.m).body ++ tool s.jump ∷ []) w k.is_in k.inside (k.pc ∙ ap (λ n. (k.m).row.at + 4 * n) (sym e)) l (stands_at code (k.m).row.at ((k.m).body ++ tool s.jump ∷ []) j w s.stands q)
 
   -- behind the body it is the jump
   pub ending : (k : InMini budget ps x y) → k.i ≡ length (k.m).body → (w : ℕ) × (fetched t code x ≡ Some (tool w)) × Hops x.pc (k.m).next w
   ending k e =
-      let s = mini_shape k.m k.is_in k.linked in
+      let s = mini_shape t code rows ps clock st k.m k.is_in k.linked in
       let len = s.len in
       let pc : x.pc ≡ (k.m).row.at + 4 * length (k.m).body = k.pc ∙ ap (λ n. (k.m).row.at + 4 * n) e in
-      (s.jump, fetch_mini k (length (k.m).body) (tool s.jump) (sym e) (omega arith) (get_append (k.m).body (tool s.jump)), subst (λ a. Hops a (k.m).next s.jump) (sym pc) s.hops)
+      (s.jump, fetch_mini t g budget code rows ps clock st h x y p d on k (length (k.m).body) (tool s.jump) (sym e) (omega arith) (get_append (k.m).body (tool s.jump)), subst (λ a. Hops a (k.m).next s.jump) (sym pc) s.hops)
 
   -- in the body the hart goes on to another word of it
   pub leaping : (k : InMini budget ps x y) (j : ℕ) (z : Bench) → Leap (k.m).body (k.m).row.at x.ticks k.i (bench_of x) j z → Brings (record x { pc = (k.m).row.at + 4 * j; regs = z.regs; bank = z.bank })
   leaping k j z l =
-      let s = mini_shape k.m k.is_in k.linked in
+      let s = mini_shape t code rows ps clock st k.m k.is_in k.linked in
       let len = s.len in
       let in_body = slice_get_within (k.m).body k.i (tool l.word) l.here in
       let step : step_on bank_len l.word x.ticks x.pc (bench_of x) ≡ Ok (stand ((k.m).row.at + 4 * j) z) =
       subst (λ a. step_on bank_len l.word x.ticks a (bench_of x) ≡ Ok (stand ((k.m).row.at + 4 * j) z)) (sym k.pc) l.step in
-      tool_brings l.word ((k.m).row.at + 4 * j) z (fetch_mini k k.i (tool l.word) refl (omega arith) (get_before (k.m).body (tool s.jump ∷ []) k.i (tool l.word) l.here)) step
+      tool_brings l.word ((k.m).row.at + 4 * j) z (fetch_mini t g budget code rows ps clock st h x y p d on k k.i (tool l.word) refl (omega arith) (get_before (k.m).body (tool s.jump ∷ []) k.i (tool l.word) l.here)) step
 
   pub saved_on : (k : InMini budget ps x y) (z : Bench) → Keeps (bench_of x) z → Saved (record x { regs = z.regs; bank = z.bank }) y
   saved_on k z ke = let sv = k.saved in record { agree = λ r u n. ke.regs r n (λ e. omega arith) ∙ sv.agree r u n; saved = ke.saved ∙ sv.saved }
@@ -377,11 +290,3 @@ module _ (t : Words) (g : Ground t) (budget : ℕ) (code : Code) (rows : List Ro
     pc = refl;
     safe = s;
   }
-
-  -- ---- outside
-
-  pub fetch_text : (o : Option MarkedWord) → x.inside ≡ false → is_text_word t x.pc ≡ true → get code x.pc ≡ o → fetched t code x ≡ o
-  fetch_text o i l e = cond-false x.inside _ _ i ∙ (cond-true (is_text_word t x.pc) (get code x.pc) None l ∙ e)
-
-  pub fetch_none : x.inside ≡ false → is_text_word t x.pc ≡ false → fetched t code x ≡ None
-  fetch_none i l = cond-false x.inside _ _ i ∙ cond-false (is_text_word t x.pc) (get code x.pc) None l

@@ -32,7 +32,8 @@ use Rattle.machine.proofs.Invariant.{Ground, Piece, IsBase, Linked, MiniShape, L
 use Rattle.machine.proofs.Texts.{in_text, text_cases}
 use Rattle.machine.proofs.Lefts.{ahead, left_at, left, Below, Soon, ahead_of}
 use Rattle.machine.proofs.Homes.{base_shape, mini_shape, base_len}
-use Rattle.machine.proofs.Nexts.{Brings, entering, to_tail, to_mini, in_first, family_is, saving, heading, restoring, moving, exit, ticking, leaving, ending, leaping, leapt, fetch_text, fetch_none}
+use Rattle.machine.proofs.Fetching.{fetch_text, fetch_none}
+use Rattle.machine.proofs.Nexts.{Brings, entering, to_tail, to_mini, in_first, family_is, saving, heading, restoring, moving, exit, ticking, leaving, ending, leaping, leapt}
 
 -- ---- what a turn owes
 
