@@ -33,4 +33,5 @@ pub mod ForceEvents
 pub mod Opened
 pub mod ForceArming
 pub mod Readings
+pub mod LoopLinked
 pub mod LoopCounted
