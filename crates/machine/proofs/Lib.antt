@@ -7,6 +7,8 @@ pub mod Invariant
 pub mod Homes
 pub mod Texts
 pub mod Lefts
+pub mod Fetching
+pub mod Nexts
 pub mod Turns
 pub mod Blocks
 pub mod Follow
@@ -29,3 +31,14 @@ pub mod Taking
 pub mod Firsts
 pub mod Packing
 pub mod Settled
+pub mod Told
+pub mod Force
+pub mod Ways
+pub mod ForceTurns
+pub mod ForceKeeping
+pub mod ForceEvents
+pub mod Opened
+pub mod ForceArming
+pub mod Readings
+pub mod LoopLinked
+pub mod LoopCounted

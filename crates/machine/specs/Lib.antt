@@ -9,6 +9,8 @@ pub mod Same
 pub mod Measures
 pub mod Instruments
 pub mod Laws
+pub mod Arming
+pub mod Readings
 pub mod FirstTurns
 pub mod Leaving
 pub mod States
@@ -16,3 +18,4 @@ pub mod Reached
 pub mod Codes
 pub mod Views
 pub mod Performing
+pub mod LoopCounted

@@ -9,5 +9,8 @@ mod machine;
 mod performing;
 mod settling;
 
-pub use laws::{erasure, first_turns, leaves_soon, levels_go_on, measures_add, replays_go_on};
+pub use laws::{
+    arming_sets, erasure, first_turns, leaves_soon, levels_go_on, loop_counted, measures_add,
+    readings_measure, replays_go_on,
+};
 pub use machine::Machine;
