@@ -1,10 +1,11 @@
 -- Settling: every hart is outside behind it.
-use Rattle.std.proofs.Common.{◌≡◌, ℕ, zero, suc, ◌+◌, ◌<◌, ◌≤◌, List, [], ◌∷◌, ◌++◌, length, Option, Some, None, refl, sym, ap, ◌∙◌, subst, arith, ⊎_elim, inl, inr}
+use Rattle.std.proofs.Common.{◌≡◌, ℕ, zero, suc, ◌+◌, ◌<◌, ◌≤◌, ◌-◌, ◌*◌, List, [], ◌∷◌, ◌++◌, length, Option, Some, None, refl, sym, ap, ◌∙◌, ap₂, subst, arith, ⊎_elim, inl, inr}
 use Rattle.std.specs.Prelude.{Bool, true, false, cond, not, is_none, IsTrue, slice_get, slice_set, ◌⊎◌, ◌||◌, ◌==◌}
 use Rattle.std.proofs.lemmas.Bool.{true≢false, cases_eq, cond-true, cond-false}
+use Rattle.std.proofs.lemmas.List.{length-append}
 use Rattle.std.proofs.lemmas.Grind.{common_steps}
 use Rattle.std.proofs.lemmas.Option.{slice_get_within}
-use Rattle.rv_word.specs.Plain.{Words}
+use Rattle.pn_types.specs.declared.limits.TheConstants.{TOOL_TEXT_LEN}
 use Rattle.rv_word.specs.declared.outcome.Cause.{Cause}
 use Rattle.tramp_spec.specs.Harts.{Hart}
 use Rattle.machine.specs.Cores.{Row, Core, start_core}
@@ -13,12 +14,12 @@ use Rattle.machine.specs.Events.{Event, Turn, IsQuiet}
 use Rattle.machine.specs.Leaving.{words_at, is_out, is_out_now, OutWithin, OutSoon}
 use Rattle.machine.specs.Reached.{IsReached}
 use Rattle.machine.specs.Replays.{replay, owns, Legal}
-use Rattle.machine.specs.States.{words_in, leaving, settling_from, settling}
+use Rattle.machine.specs.States.{Machine, with_core, words_in, leaving, settling_from, settling}
 use Rattle.machine.specs.Turns.{turn, ticks_next, turn_by, may_turn, is_runnable}
 use Rattle.machine.proofs.Leaving.{leaves_soon}
 use Rattle.machine.proofs.Lists.{get_set_other, length_slice_set}
 use Rattle.machine.proofs.Reaches.{good, reaches_more}
-use Rattle.machine.proofs.Replaying.{replay-append, legal-append}
+use Rattle.machine.proofs.Replaying.{replay-append, owns-append, legal-append}
 use Rattle.machine.proofs.Steps.{within}
 
 -- many events more
@@ -157,18 +158,94 @@ rest_left n k h c s e = sym (ap (λ m. replay (leaving m h c) c) s ∙ ap (λ es
 abbrev Counts : ℕ → ℕ → ℕ → List Event → Core → Type 0
 Counts count owned total es c = count + owned + length es ≡ total + length (owns es c)
 
-counts_turn : (tick : Bool) (h count owned total : ℕ) (es : List Event) (d : Core) → count + owned + suc (length es) ≡ total + length (cond tick (h ∷ []) [] ++ owns es d) → Counts (count + cond (not tick) 1 0) owned total es d
-counts_turn true h count owned total es d e = let f : count + owned + suc (length es) ≡ total + suc (length (owns es d)) = e in omega arith
-counts_turn false h count owned total es d e = omega arith
+-- the count behind a turn
+abbrev pub IsCount : ℕ → Bool → ℕ → Type 0
+IsCount count true next = next ≡ count
+IsCount count false next = next ≡ count + 1
 
-pub counts_left : (n k h count owned total : ℕ) (c : Core) (tick : Bool) → n ≡ suc k → is_out c h ≡ false → tick ≡ ticks_next c h → Counts count owned total (leaving n h c) c → Counts (count + cond (not tick) 1 0) owned total (leaving k h (turn c h)) (turn c h)
-counts_left n k h count owned total c tick s e t counted =
+counts_turn : (tick : Bool) (h count next owned total : ℕ) (es : List Event) (d : Core) → IsCount count tick next → count + owned + suc (length es) ≡ total + length (cond tick (h ∷ []) [] ++ owns es d) → Counts next owned total es d
+counts_turn true h count next owned total es d n e = let f : count + owned + suc (length es) ≡ total + suc (length (owns es d)) = e in omega arith
+counts_turn false h count next owned total es d n e = omega arith
+
+pub counts_left : (n k h count next owned total : ℕ) (c : Core) (tick : Bool) → n ≡ suc k → is_out c h ≡ false → tick ≡ ticks_next c h → IsCount count tick next → Counts count owned total (leaving n h c) c → Counts next owned total (leaving k h (turn c h)) (turn c h)
+counts_left n k h count next owned total c tick s e t is counted =
     let first : Counts count owned total (Turn h ∷ leaving k h (turn c h)) c = subst (λ es. Counts count owned total es c) (ap (λ m. leaving m h c) s ∙ one_left k h c e) counted in
-    counts_turn tick h count owned total (leaving k h (turn c h)) (turn c h) (subst (λ b. count + owned + suc (length (leaving k h (turn c h))) ≡ total + length (cond b (h ∷ []) [] ++ owns (leaving k h (turn c h)) (turn c h))) (sym t) first)
+    counts_turn tick h count next owned total (leaving k h (turn c h)) (turn c h) is (subst (λ b. count + owned + suc (length (leaving k h (turn c h))) ≡ total + length (cond b (h ∷ []) [] ++ owns (leaving k h (turn c h)) (turn c h))) (sym t) first)
 
 pub turn_len : (c : Core) (h : ℕ) → length (turn c h).harts ≡ length c.harts
 turn_len c h = (turn_same (slice_get c.harts h) c h).len
 
-pub one_more : (count turns : ℕ) (tick : Bool) → count ≤ turns → count + cond (not tick) 1 0 ≤ turns + 1
-one_more count turns true l = omega arith
-one_more count turns false l = omega arith
+pub one_more : (count next turns : ℕ) (tick : Bool) → IsCount count tick next → count ≤ turns → next ≤ turns + 1
+one_more count next turns true n l = omega arith
+one_more count next turns false n l = omega arith
+
+pub is_count : (count next : ℕ) (tick : Bool) → ((tick ≡ false) × (next ≡ count + 1)) ⊎ ((tick ≡ true) × (next ≡ count)) → IsCount count tick next
+is_count count next true (inl e) = absurd (true≢false e.0)
+is_count count next true (inr e) = e.1
+is_count count next false (inl e) = e.1
+is_count count next false (inr e) = absurd (true≢false (sym e.0))
+
+-- ---- hart by hart
+
+-- hart h is next, among so many turns that weren't ticks
+pub record Settling (most count h : ℕ) (old now : Machine) : Type 0 where
+  pub coming : replay (settling_from (length old.core.harts - h) h now.core) now.core ≡ replay (settling old.core) old.core
+  pub room : now.room ≡ old.room
+  pub many : length now.core.harts ≡ length old.core.harts
+  pub rows : now.core.rows ≡ old.core.rows
+  pub words : most ≡ words_in old.core.rows
+  pub few : most ≤ 98304
+  pub counted : Counts count (length (owns (settling old.core) old.core)) (length (settling old.core)) (settling_from (length old.core.harts - h) h now.core) now.core
+  pub bound : count ≤ 98304 * h
+
+pub settling_first : (old : Machine) (most : ℕ) → most ≡ words_in old.core.rows → 4 * words_in old.core.rows ≤ TOOL_TEXT_LEN → Settling most 0 0 old old
+settling_first old most w l =
+    let all : length old.core.harts - 0 ≡ length old.core.harts = omega arith in
+    let first : settling_from (length old.core.harts - 0) 0 old.core ≡ settling old.core = ap (λ m. settling_from m 0 old.core) all in
+    let len = ap (λ (es : List Event). length es) first in
+    let own = ap (λ (es : List Event). length (owns es old.core)) first in
+    record { coming = ap (λ es. replay es old.core) first; room = refl; many = refl; rows = refl; words = w; few = omega arith; counted = omega arith; bound = omega arith }
+
+-- one hart more
+pub settling_step : (most count h left : ℕ) (old now new : Machine) → Settling most count h old now → h < length old.core.harts → new ≡ with_core now (replay (leaving most h now.core) now.core)
+    → left + length (owns (leaving most h now.core) now.core) ≡ length (leaving most h now.core) → left ≤ most → Settling most (count + left) (h + 1) old new
+settling_step most count h taken old now new s l e counted low = subst (Settling most (count + taken) (h + 1) old) (sym e) after
+  where
+    after : Settling most (count + taken) (h + 1) old (with_core now (replay (leaving most h now.core) now.core))
+    after =
+        let c = now.core in
+        let d = replay (leaving most h c) c in
+        let total = length (settling old.core) in
+        let ticks = length (owns (settling old.core) old.core) in
+        let one : length old.core.harts - h ≡ suc (length old.core.harts - (h + 1)) = omega arith in
+        let words : most ≡ words_in c.rows = s.words ∙ ap words_in (sym s.rows) in
+        let is : settling_from (length old.core.harts - h) h c ≡ leaving most h c ++ settling_from (length old.core.harts - (h + 1)) (h + 1) d = ap (λ m. settling_from m h c) one ∙ ap (λ m. leaving m h c ++ settling_from (length old.core.harts - (h + 1)) (h + 1) (replay (leaving m h c) c)) (sym words) in
+        let others = settling_from (length old.core.harts - (h + 1)) (h + 1) d in
+        let len : length (settling_from (length old.core.harts - h) h c) ≡ length (leaving most h c) + length others = ap (λ (l : List Event). length l) is ∙ length-append (leaving most h c) others in
+        let own : length (owns (settling_from (length old.core.harts - h) h c) c) ≡ length (owns (leaving most h c) c) + length (owns others d) = ap (λ (l : List Event). length (owns l c)) is ∙ (ap (λ (l : List ℕ). length l) (owns-append (leaving most h c) others c) ∙ length-append (owns (leaving most h c) c) (owns others d)) in
+        let same = (left most h c).same in
+        let before = s.counted in
+        let bound = s.bound in
+        let few = s.few in
+        record {
+          coming = sym (replay-append (leaving most h c) others c) ∙ (sym (ap (λ l. replay l c) is) ∙ s.coming);
+          room = s.room;
+          many = same.len ∙ s.many;
+          rows = same.rows ∙ s.rows;
+          words = s.words;
+          few = s.few;
+          counted = omega arith;
+          bound = omega arith;
+        }
+
+-- no hart is left
+pub settling_end : (most count h : ℕ) (old now : Machine) → Settling most count h old now → length old.core.harts ≤ h
+    → (now ≡ with_core old (replay (settling old.core) old.core)) × (count + length (owns (settling old.core) old.core) ≡ length (settling old.core))
+settling_end most count h old now s l =
+    let zero : length old.core.harts - h ≡ 0 = omega arith in
+    let nothing : settling_from (length old.core.harts - h) h now.core ≡ [] = ap (λ m. settling_from m h now.core) zero in
+    let core : now.core ≡ replay (settling old.core) old.core = sym (ap (λ es. replay es now.core) nothing) ∙ s.coming in
+    let counted = s.counted in
+    let len = ap (λ (es : List Event). length es) nothing in
+    let own = ap (λ (es : List Event). length (owns es now.core)) nothing in
+    (ap₂ (λ (c : Core) (r : ℕ). record { core = c; room = r }) core s.room, omega arith)

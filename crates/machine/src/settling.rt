@@ -35,8 +35,9 @@ impl Machine {
             if self.is_out(hart) {
                 return count;
             }
-            let is_tick = self.turn(hart);
-            count += !is_tick as u64;
+            if !self.turn(hart) {
+                count += 1;
+            }
         }
         count
     }

@@ -1,11 +1,11 @@
-use Rattle.std.proofs.Common.{◌≡◌, ◌+◌, ◌-◌, ◌<◌, List, suc, ◌∙◌, refl, sym, ap, subst, length, arith}
-use Rattle.std.specs.Prelude.{cond, not}
+use Rattle.std.proofs.Common.{◌≡◌, ◌+◌, ◌-◌, ◌<◌, List, suc, ◌∙◌, refl, sym, ap, subst, length, arith, inl, inr}
 use Rattle.machine.specs.Cores.{Core}
 use Rattle.machine.specs.Events.{Event}
 use Rattle.machine.specs.Replays.{owns, replay}
 use Rattle.machine.specs.States.{Machine, leaving}
 use Rattle.machine.specs.Turns.{turn}
-use Rattle.machine.proofs.Settled.{none_left, rest_left, counts_left, one_more, turn_len}
+use Rattle.machine.proofs.Settled.{none_left, rest_left, counts_left, is_count, one_more, turn_len}
+use Rattle.machine.proofs.machine.Machine.leave.Goals.{then-not-turn, else-not-turn}
 use Rattle.machine.proofs.machine.Machine.leave.Goals as goal
 
 pub returns-then-is_out-clause-counted : goal.returns-then-is_out-clause-counted
@@ -27,13 +27,14 @@ loop-preserved c =
     let goes = c.loop-test.true in
     let one : n - c.loop.counter ≡ suc k = omega arith in
     let out = sym c.is_out.ensures ∙ c.if-is_out.false in
-    let new = c.turn-is_tick.ensures.turned in
+    let new = c.turn.ensures.turned in
     let rest : replay (leaving k h (turn d h)) (turn d h) ≡ replay (leaving n h old) old = rest_left (n - c.loop.counter) k h d one out ∙ c.loop.invariant.rest in
-    let counted = counts_left (n - c.loop.counter) k h c.loop.count (length (owns (leaving n h old) old)) (length (leaving n h old)) d c.turn-is_tick.result one out c.turn-is_tick.ensures.tick c.loop.invariant.counted in
+    let is = is_count c.loop.count c.if-not-turn.count c.turn.result (elim c.if-not-turn.branch [ then-not-turn w ↦ inl (w.if-not-turn.true, w.count-is) | else-not-turn w ↦ inr (w.if-not-turn.false, w.count-is) ]) in
+    let counted = counts_left (n - c.loop.counter) k h c.loop.count c.if-not-turn.count (length (owns (leaving n h old) old)) (length (leaving n h old)) d c.turn.result one out c.turn.ensures.tick is c.loop.invariant.counted in
     record {
       rest = subst (λ (m : Machine). replay (leaving k h m.core) m.core ≡ replay (leaving n h old) old) (sym new) rest;
       room = ap (λ (m : Machine). m.room) new ∙ c.loop.invariant.room;
       many = ap (λ (m : Machine). length m.core.harts) new ∙ (turn_len d h ∙ c.loop.invariant.many);
-      counted = subst (λ (m : Machine). c.loop.count + cond (not c.turn-is_tick.result) 1 0 + length (owns (leaving n h old) old) + length (leaving k h m.core) ≡ length (leaving n h old) + length (owns (leaving k h m.core) m.core)) (sym new) counted;
-      bound = one_more c.loop.count c.loop.counter c.turn-is_tick.result c.loop.invariant.bound;
+      counted = subst (λ (m : Machine). c.if-not-turn.count + length (owns (leaving n h old) old) + length (leaving k h m.core) ≡ length (leaving n h old) + length (owns (leaving k h m.core) m.core)) (sym new) counted;
+      bound = one_more c.loop.count c.if-not-turn.count c.loop.counter c.turn.result is c.loop.invariant.bound;
     }
