@@ -22,3 +22,4 @@ pub mod Sames
 pub mod Beginning
 pub mod Erasing
 pub mod Leaving
+pub mod BlockLists

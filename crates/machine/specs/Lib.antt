@@ -15,3 +15,4 @@ pub mod States
 pub mod Reached
 pub mod Codes
 pub mod Views
+pub mod Links
