@@ -23,3 +23,5 @@ pub mod Beginning
 pub mod Erasing
 pub mod Leaving
 pub mod BlockLists
+pub mod Reaching
+pub mod Owning
