@@ -25,3 +25,5 @@ pub mod Leaving
 pub mod BlockLists
 pub mod Reaching
 pub mod Owning
+pub mod Calls
+pub mod Inside

@@ -1,5 +1,5 @@
 -- For proofs alone: the words of blocks in the tool text.
-use Rattle.std.specs.Prelude.{ℕ, ◌*◌, ◌^◌, ◌<◌, if◌then◌else◌, IsTrue, List, [], ◌∷◌}
+use Rattle.std.specs.Prelude.{ℕ, ◌*◌, ◌^◌, ◌<◌, ◌==◌, if◌then◌else◌, IsTrue, Bool, false, Option, Some, None, List, [], ◌∷◌}
 use Rattle.rv_word.specs.Plain.{Words}
 use Rattle.tramp_spec.specs.Codes.{is_tool_word}
 use Rattle.code_store.specs.Owners.{Owners, owners_without}
@@ -21,3 +21,8 @@ pub record HasLink (program : Words) (r : Row) : Type 0 where
 abbrev pub owners_left : ℕ → List Row → Owners → Owners
 owners_left p [] owners = owners
 owners_left p (r ∷ rs) owners = owners_left p rs (if is_kept p r then owners else owners_without r.at r.len owners)
+
+-- the owner is the point
+abbrev pub is_of : ℕ → Option ℕ → Bool
+is_of p None = false
+is_of p (Some q) = q == p

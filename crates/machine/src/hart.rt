@@ -1,3 +1,5 @@
+ghost use Rattle.std.specs.Prelude.{◌≡◌};
+
 use rv_exec::Regs;
 use rv_word::Cause;
 use std::marker::Model;
@@ -26,4 +28,20 @@ impl Model for HartState {
     ghost view = { λ h. record { pc = h.pc; regs = h.regs; ticks = h.ticks; stop = h.stop; inside = h.inside; bank = h.bank.items } };
 
     ghost invariant = { λ h. length h.bank.items ≡ bank_len };
+}
+
+impl HartState {
+    /// It is inside a trampoline.
+    pub fn is_inside(&self) -> bool
+        ensures { result ≡ self.now.inside }
+    {
+        self.inside
+    }
+
+    /// The address of its next word.
+    pub fn pc(&self) -> u64
+        ensures { result ≡ self.now.pc }
+    {
+        self.pc
+    }
 }

@@ -6,6 +6,7 @@ mod block_list;
 mod hart;
 mod laws;
 mod machine;
+mod patching;
 
 pub use laws::{erasure, first_turns, leaves_soon, levels_go_on, measures_add, replays_go_on};
 pub use machine::Machine;
