@@ -1,6 +1,6 @@
 -- The list of blocks, row by row.
-use Rattle.std.proofs.Common.{◌≡◌, ℕ, zero, suc, ◌+◌, ◌<◌, ◌≤◌, List, [], ◌∷◌, length, get_or, drop, Option, Some, None, refl, sym, ap, ◌∙◌, subst, arith, inl, inr}
-use Rattle.std.specs.Prelude.{Bool, true, false, cond, find, filter, map, slice_set, unwrap_or}
+use Rattle.std.proofs.Common.{◌≡◌, ℕ, zero, suc, ◌+◌, ◌<◌, ◌≤◌, List, [], ◌∷◌, length, get_or, Option, Some, None, refl, ap, ◌∙◌, subst, arith, inl, inr}
+use Rattle.std.specs.Prelude.{Bool, true, false, cond, find, map, slice_set, unwrap_or}
 use Rattle.std.specs.FinMap.{get}
 use Rattle.std.specs.Option.{option_map}
 use Rattle.rv_word.specs.Names.{jump_of}
@@ -10,11 +10,9 @@ use Rattle.tramp_spec.specs.Blocks.{target_or}
 use Rattle.tramp_spec.specs.Codes.{Code, fetched_at, is_tool_word}
 use Rattle.tramp_spec.specs.Marks.{tool}
 use Rattle.tramp_spec.specs.declared.mark.MarkedWord.{MarkedWord}
-use Rattle.code_store.specs.Owners.{Owners, owners_without}
 use Rattle.machine.specs.Cores.{In, Row, Status}
-use Rattle.machine.specs.Effects.{is_kept, with_status}
+use Rattle.machine.specs.Effects.{with_status}
 use Rattle.machine.specs.Events.{target_at}
-use Rattle.machine.specs.Links.{owners_left}
 use Rattle.machine.specs.Views.{BlockList, row_of, status_of}
 use Rattle.machine.specs.declared.block_list.BlockRow.{BlockRow}
 use Rattle.machine.specs.declared.block_list.BlockStatus.{BlockStatus}
@@ -30,23 +28,6 @@ found_at f false x o r e = e
 pub find_map : {A B : Type 0} (f : A → B) (q : B → Bool) (xs : List A) → option_map f (find (λ x. q (f x)) xs) ≡ find q (map f xs)
 find_map f q [] = refl
 find_map f q (x ∷ xs) = found_at f (q (f x)) x (find (λ y. q (f y)) xs) (find q (map f xs)) (find_map f q xs)
-
--- a row further
-pub find_hit : {A B : Type 0} (f : A → B) (q : B → Bool) (xs : List A) (i : ℕ) (x : A) → i < length xs → x ≡ get_or xs i x → q (f x) ≡ true → find q (map f (drop i xs)) ≡ Some (f x)
-find_hit f q [] i x l e t = absurd (omega arith)
-find_hit f q (y ∷ xs) zero x l e t = ap (λ b. cond b (Some (f y)) (find q (map f xs))) (ap (λ z. q (f z)) (sym e) ∙ t) ∙ ap (λ z. Some (f z)) (sym e)
-find_hit f q (y ∷ xs) (suc i) x l e t = find_hit f q xs i x (omega arith) e t
-
-pub find_past : {A B : Type 0} (f : A → B) (q : B → Bool) (xs : List A) (i : ℕ) (x : A) → i < length xs → x ≡ get_or xs i x → q (f x) ≡ false → find q (map f (drop (i + 1) xs)) ≡ find q (map f (drop i xs))
-find_past f q [] i x l e t = absurd (omega arith)
-find_past f q (y ∷ xs) zero x l e t = sym (ap (λ b. cond b (Some (f y)) (find q (map f xs))) (ap (λ z. q (f z)) (sym e) ∙ t))
-find_past f q (y ∷ xs) (suc i) x l e t = let k : suc i + 1 ≡ suc (i + 1) = omega arith in ap (λ n. find q (map f (drop n (y ∷ xs)))) k ∙ find_past f q xs i x (omega arith) e t
-
-pub find_end : {A B : Type 0} (f : A → B) (q : B → Bool) (xs : List A) (i : ℕ) → length xs ≤ i → find q (map f (drop i xs)) ≡ None
-find_end f q [] zero l = refl
-find_end f q [] (suc i) l = refl
-find_end f q (y ∷ xs) zero l = absurd (omega arith)
-find_end f q (y ∷ xs) (suc i) l = find_end f q xs i (omega arith)
 
 -- an element by its place
 pub in_read : {A B : Type 0} (f : A → B) (xs : List A) (i : ℕ) (x : A) → i < length xs → x ≡ get_or xs i x → In (f x) (map f xs)
@@ -94,23 +75,6 @@ partly_more f (suc i) (z ∷ zs) (r ∷ rs) d y e l to =
 
 pub status_put : (f : Row → Status) (x : BlockRow) (b : BlockStatus) → status_of b ≡ f (row_of x) → row_of (record x { status = b }) ≡ with_status f (row_of x)
 status_put f x b e = ap (λ s. record { point = x.point; at = x.at; len = x.len; base = x.base; status = s }) e
-
--- ---- owners
-
--- one row more is freed, or kept
-pub left_more : {A : Type 0} (g : A → Row) (p : ℕ) (xs : List A) (i : ℕ) (x : A) (owners : Owners) → i < length xs → x ≡ get_or xs i x
-    → owners_left p (map g (drop (i + 1) xs)) (cond (is_kept p (g x)) owners (owners_without (g x).at (g x).len owners)) ≡ owners_left p (map g (drop i xs)) owners
-left_more g p [] i x owners l e = absurd (omega arith)
-left_more g p (y ∷ xs) zero x owners l e = ap (λ z. owners_left p (map g xs) (cond (is_kept p (g z)) owners (owners_without (g z).at (g z).len owners))) e
-left_more g p (y ∷ xs) (suc i) x owners l e =
-    let k : suc i + 1 ≡ suc (i + 1) = omega arith in
-    ap (λ n. owners_left p (map g (drop n (y ∷ xs))) (cond (is_kept p (g x)) owners (owners_without (g x).at (g x).len owners))) k ∙ left_more g p xs i x owners (omega arith) e
-
-pub left_end : {A : Type 0} (g : A → Row) (p : ℕ) (xs : List A) (i : ℕ) (owners : Owners) → length xs ≤ i → owners_left p (map g (drop i xs)) owners ≡ owners
-left_end g p [] zero owners l = refl
-left_end g p [] (suc i) owners l = refl
-left_end g p (y ∷ xs) zero owners l = absurd (omega arith)
-left_end g p (y ∷ xs) (suc i) owners l = left_end g p xs i owners (omega arith)
 
 -- ---- links
 

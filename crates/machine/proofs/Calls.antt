@@ -2,7 +2,6 @@
 use Rattle.std.proofs.Common.{◌≡◌, ℕ, ◌%◌, List, [], ◌∷◌, ◌++◌, length, Some, sym, ap, ◌∙◌, subst}
 use Rattle.std.specs.Prelude.{Bool, true, false, filter, find, map}
 use Rattle.std.specs.FinMap.{get}
-
 use Rattle.rv_word.specs.Exec.{Prog}
 use Rattle.tramp_spec.specs.Codes.{Code, put_words}
 use Rattle.tramp_spec.specs.Harts.{Hart}
@@ -16,11 +15,9 @@ use Rattle.machine.specs.Events.{Event, Free, HasShape, May, MayWrite, Write}
 use Rattle.machine.specs.Links.{HasLink, owners_left}
 use Rattle.machine.specs.Reached.{AreOwners, IsReached, owner_by}
 use Rattle.machine.specs.Views.{BlockList, IsSound, core_of}
-use Rattle.machine.proofs.Homes.{one_place, piece_of}
-use Rattle.machine.proofs.Invariant.{the_row}
 use Rattle.machine.proofs.Lists.{find_gives}
-use Rattle.machine.proofs.Owning.{has_word, owners_freed, owners_more, owners_same, word_is}
-use Rattle.machine.proofs.Reaching.{good, links, reaches_more, within}
+use Rattle.machine.proofs.Owning.{has_word, owners_freed, owners_more, owners_same, word_holds}
+use Rattle.machine.proofs.Reaching.{good, links, one_row, reaches_more, within}
 
 -- where a written block stands
 shape_aligned : (c : Core) (b : Block) (is_base : Bool) → HasShape c b is_base → b.at % 4 ≡ 0
@@ -29,16 +26,6 @@ shape_aligned c b false h = h.1.aligned
 
 pub written_place : (c : Core) (b : Block) → MayWrite c b → IsInToolText c.program b.at (length b.words)
 written_place c b may = record { aligned = shape_aligned c b b.base may.shape; low = may.low; high = may.high }
-
--- two blocks that share a word are one
-one_owner : (c : Core) → IsReached c → (x y : Row) (a : ℕ) → In x c.rows → In y c.rows → has_word a x ≡ true → has_word a y ≡ true → x ≡ y
-one_owner c k x y a hx hy wx wy =
-    let v = (good c k).1 in
-    let p = piece_of c.program c.code c.rows v.ps v.clock v.static x hx in
-    let q = piece_of c.program c.code c.rows v.ps v.clock v.static y hy in
-    let u = word_is (p.0).row.at (p.0).row.len a (sym (ap (has_word a) p.2) ∙ wx) in
-    let w = word_is (q.0).row.at (q.0).row.len a (sym (ap (has_word a) q.2) ∙ wy) in
-    p.2 ∙ (ap the_row (one_place c.program c.code c.rows v.ps v.clock v.static p.0 q.0 a p.1 q.1 u.low u.high w.low w.high) ∙ sym q.2)
 
 module _ (harts : List Hart) (prog : Prog) (store : StoredCode) (blocks : BlockList) (budget : ℕ) (k : IsSound harts prog store blocks.rows budget) where
   abbrev core : Core
@@ -53,6 +40,10 @@ module _ (harts : List Hart) (prog : Prog) (store : StoredCode) (blocks : BlockL
 
   pub all_within : (r : Row) → In r blocks.rows → IsInToolText store.program r.at r.len
   all_within r h = within core k.reached r h
+
+  -- blocks that share a word are one
+  one_owner : (x y : Row) (a : ℕ) → In x blocks.rows → In y blocks.rows → has_word a x ≡ true → has_word a y ≡ true → x ≡ y
+  one_owner x y a hx hy ex ey = let v = good core k.reached in one_row core v.0 v.1 x y a hx hy (word_holds a x ex) (word_holds a y ey)
 
   kept : (e : Event) (store' : StoredCode) (rows' : List Row) → May core e → core_of harts prog store' rows' budget ≡ after core e → AreOwners store'.owners rows' → IsSound harts prog store' rows' budget
   kept e store' rows' may same owners = record { reached = subst IsReached (sym same) (reaches_more core e k.reached may); owners = owners; reservations = k.reservations }
@@ -80,4 +71,4 @@ module _ (harts : List Hart) (prog : Prog) (store : StoredCode) (blocks : BlockL
   freed p store' blocks' may s e =
       kept (Free p) store' blocks'.rows may
       (ap (λ (z : StoredCode). core_of harts prog z blocks'.rows budget) s ∙ ap (λ (z : BlockList). core_of harts prog (record store { owners = owners_left p blocks.rows store.owners }) z.rows budget) e)
-      (λ a. ap (λ (z : StoredCode). get z.owners a) s ∙ (owners_freed store.owners blocks.rows p k.owners (one_owner core k.reached) a ∙ sym (ap (λ (z : BlockList). owner_by z.rows a) e)))
+      (λ a. ap (λ (z : StoredCode). get z.owners a) s ∙ (owners_freed store.owners blocks.rows p k.owners one_owner a ∙ sym (ap (λ (z : BlockList). owner_by z.rows a) e)))

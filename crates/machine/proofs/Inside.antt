@@ -1,23 +1,22 @@
 -- Where no hart is inside a block of a point.
-use Rattle.std.proofs.Common.{◌≡◌, ℕ, zero, suc, ◌+◌, ◌-◌, ◌*◌, ◌%◌, ◌<◌, ◌≤◌, List, [], ◌∷◌, length, Option, Some, None, refl, sym, ap, ◌∙◌, subst, arith, ⊎_elim, inl, inr}
-use Rattle.std.specs.Prelude.{Bool, true, false, find, slice_get, ◌⊎◌, ◌&&◌, ◌||◌, ◌==◌, IsTrue}
+use Rattle.std.proofs.Common.{◌≡◌, ℕ, zero, suc, ◌-◌, ◌%◌, List, [], ◌∷◌, Option, Some, None, refl, sym, ap, ◌∙◌, arith, inl, inr}
+use Rattle.std.specs.Prelude.{Bool, true, false, find, slice_get, ◌&&◌, ◌||◌}
 use Rattle.std.specs.List.{list_any}
 use Rattle.std.specs.Option.{option_map}
-use Rattle.std.proofs.lemmas.Bool.{true≢false, cases_Bool, and_from, and_parts, eq-eqb, eqb-true}
-use Rattle.rv_word.specs.Memory.{in_range}
+use Rattle.std.proofs.lemmas.Bool.{true≢false, and_from, and_parts, eq-eqb, eqb-true}
 use Rattle.rv_word.specs.Plain.{Words, PlainHart, Plain}
 use Rattle.rv_word.specs.declared.outcome.Cause.{Cause}
 use Rattle.tramp_spec.specs.Harts.{Hart}
 use Rattle.machine.specs.Cores.{In, Row, Core}
-use Rattle.machine.specs.Events.{Free, May, StandsIn}
+use Rattle.machine.specs.Events.{Free, May}
 use Rattle.machine.specs.Links.{is_of}
 use Rattle.machine.specs.Places.{holds}
 use Rattle.machine.specs.Reached.{IsReached, owner_by}
-use Rattle.machine.proofs.Homes.{covered, one_place, piece_of, row_in}
-use Rattle.machine.proofs.Invariant.{Piece, BasePlace, the_row, Static, HartOk, InBase, InMini, Dynamic, Inv}
+use Rattle.machine.proofs.Homes.{row_in}
+use Rattle.machine.proofs.Invariant.{Piece, BasePlace, HartOk, Dynamic, Inv}
 use Rattle.machine.proofs.Lists.{find_finds, find_gives}
-use Rattle.machine.proofs.Owning.{has_word, is_word, word_is}
-use Rattle.machine.proofs.Reaching.{good}
+use Rattle.machine.proofs.Owning.{has_word, is_word, word_holds}
+use Rattle.machine.proofs.Reaching.{good, one_row}
 use Rattle.machine.proofs.Standing.{in_base, in_mini}
 use Rattle.machine.proofs.Steps.{within}
 
@@ -82,11 +81,7 @@ module _ (c : Core) (s : Plain) (v : Inv c s) where
       let o = stood x q.0 i (d.hart (on x q.0 i d)) in
       let f = find_finds (has_word x.pc) c.rows (o.d).row (row_in c.program c.code c.rows v.ps v.clock v.static o.d o.is_in) o.word in
       let g = find_gives (has_word x.pc) c.rows f.0 f.1 in
-      let p = piece_of c.program c.code c.rows v.ps v.clock v.static f.0 g.0 in
-      let z = piece_of c.program c.code c.rows v.ps v.clock v.static r hr in
-      let w = word_is (p.0).row.at (p.0).row.len x.pc (sym (ap (has_word x.pc) p.2) ∙ g.1) in
-      let k = covered (z.0).row x.pc (sym (ap (λ (u : Row). holds u x.pc) z.2) ∙ e) in
-      let same : f.0 ≡ r = p.2 ∙ (ap the_row (one_place c.program c.code c.rows v.ps v.clock v.static p.0 z.0 x.pc p.1 z.1 w.low w.high k.0 k.1) ∙ sym z.2) in
+      let same = one_row c s v f.0 r x.pc g.0 hr (word_holds x.pc f.0 g.1) e in
       ap (option_map (λ (u : Row). u.point)) f.1 ∙ ap (λ (u : Row). Some u.point) same
 
 -- a hart is inside a block of the point
@@ -105,7 +100,7 @@ held c p e may =
     let b = and_parts x.inside (is_of p (owner_by c.rows x.pc)) a.3 in
     let o = is_of_true p (find (has_word x.pc) c.rows) b.1 in
     let g = find_gives (has_word x.pc) c.rows o.0 o.1 in
-    may o.0 g.0 o.2 (a.0, x, a.2, b.0, (and_parts (in_range (o.0).at (4 * (o.0).len) x.pc) ((x.pc - (o.0).at) % 4 == 0) g.1).0)
+    may o.0 g.0 o.2 (a.0, x, a.2, b.0, word_holds x.pc o.0 g.1)
 
 -- and else it is
 pub let_go : (c : Core) (p : ℕ) → IsReached c → list_any (stands_at c p) c.harts ≡ false → May c (Free p)

@@ -1,6 +1,6 @@
 -- To whom the words of the tool text belong.
-use Rattle.std.proofs.Common.{◌≡◌, ℕ, zero, suc, ◌+◌, ◌-◌, ◌*◌, ◌%◌, ◌<◌, ◌≤◌, List, [], ◌∷◌, ◌++◌, length, Option, Some, None, refl, sym, ap, ◌∙◌, subst, arith, ⊎_elim, inl, inr}
-use Rattle.std.specs.Prelude.{Bool, true, false, cond, find, filter, map, ◌⊎◌, ◌==◌, ◌&&◌, nat_le, nat_lt}
+use Rattle.std.proofs.Common.{◌≡◌, ℕ, zero, suc, ◌+◌, ◌-◌, ◌*◌, ◌%◌, ◌<◌, ◌≤◌, List, [], ◌∷◌, ◌++◌, Option, Some, None, refl, sym, ap, ◌∙◌, arith, ⊎_elim, inl, inr}
+use Rattle.std.specs.Prelude.{Bool, true, false, cond, find, filter, map, ◌==◌, ◌&&◌, nat_le, nat_lt}
 use Rattle.std.specs.Cmp.{unsigned_tied}
 use Rattle.std.specs.FinMap.{get, insert, remove, get-insert, get-remove}
 use Rattle.std.specs.Option.{option_map}
@@ -12,6 +12,7 @@ use Rattle.machine.specs.Cores.{In, Row, Status}
 use Rattle.machine.specs.Effects.{is_kept, with_status}
 use Rattle.machine.specs.Events.{Apart}
 use Rattle.machine.specs.Links.{owners_left}
+use Rattle.machine.specs.Places.{holds}
 use Rattle.machine.specs.Reached.{AreOwners, owner_by}
 use Rattle.machine.proofs.BlockLists.{find_map}
 use Rattle.machine.proofs.Lists.{find_finds, find_gives, filter_in, in_filter}
@@ -83,6 +84,9 @@ get_without at (suc n) owners a =
 -- the word at an address is a block's
 abbrev pub has_word : ℕ → Row → Bool
 has_word a r = is_word_of r.at (4 * r.len) a
+
+pub word_holds : (a : ℕ) (r : Row) → has_word a r ≡ true → holds r a ≡ true
+word_holds a r e = (and_parts (holds r a) ((a - r.at) % 4 == 0) e).0
 
 find_none : {A : Type 0} (p : A → Bool) (xs : List A) → ((x : A) → In x xs → p x ≡ false) → find p xs ≡ None
 find_none p [] f = refl

@@ -1,24 +1,24 @@
 -- What holds of every state that is reached.
-use Rattle.std.proofs.Common.{◌≡◌, ℕ, ◌+◌, ◌-◌, ◌*◌, ◌/◌, ◌%◌, ◌^◌, ◌<◌, ◌≤◌, List, [], ◌∷◌, ◌++◌, length, refl, sym, ap, ◌∙◌, subst, arith}
-use Rattle.std.specs.Prelude.{true, nat_le, nat_lt, ◌==◌}
+use Rattle.std.proofs.Common.{◌≡◌, ℕ, ◌+◌, ◌-◌, ◌*◌, ◌%◌, ◌<◌, ◌≤◌, [], ◌∷◌, ◌++◌, refl, sym, ap, ◌∙◌, subst, arith}
+use Rattle.std.specs.Prelude.{true}
 use Rattle.std.proofs.lemmas.Bool.{and_from, lt-ltb, le-leb, eq-eqb}
 use Rattle.pn_types.specs.declared.limits.TheConstants.{TOOL_TEXT_LEN}
 use Rattle.rv_mem.specs.Start.{program_of}
 use Rattle.rv_exec.specs.Run.{run_from}
 use Rattle.rv_exec.specs.Start.{start}
 use Rattle.rv_word.specs.Plain.{Words, Plain}
-use Rattle.tramp_spec.specs.Codes.{is_tool_word, is_word_of, tool_at}
-use Rattle.code_store.specs.Stores.{IsInToolText}
+use Rattle.tramp_spec.specs.Codes.{is_tool_word, tool_at}
 use Rattle.machine.specs.Cores.{In, Row, Core, start_core}
 use Rattle.machine.specs.Events.{Event, May, link_at}
 use Rattle.machine.specs.Effects.{after}
+use Rattle.machine.specs.Places.{holds}
 use Rattle.machine.specs.Links.{HasLink, IsWithin}
 use Rattle.machine.specs.Reached.{IsReached}
 use Rattle.machine.specs.Replays.{replay, Legal, owns}
 use Rattle.machine.proofs.Beginning.{begins}
 use Rattle.machine.proofs.Blocks.{link_in}
-use Rattle.machine.proofs.Homes.{piece_of}
-use Rattle.machine.proofs.Invariant.{Inv}
+use Rattle.machine.proofs.Homes.{covered, one_place, piece_of}
+use Rattle.machine.proofs.Invariant.{Piece, the_row, Inv}
 use Rattle.machine.proofs.Replaying.{legal-append, replay-append}
 use Rattle.machine.proofs.Steps.{all_events, fixed}
 
@@ -45,6 +45,18 @@ good c r =
     (run_from (program_of r.image) (owns r.events first) (start r.image r.many), subst (λ d. Inv d (run_from (program_of r.image) (owns r.events first) (start r.image r.many))) (sym r.is) a.1)
 
 -- ---- places
+
+-- blocks that share an address are one
+pub one_row : (c : Core) (s : Plain) (v : Inv c s) (x y : Row) (a : ℕ) → In x c.rows → In y c.rows → holds x a ≡ true → holds y a ≡ true → x ≡ y
+one_row c s v x y a hx hy ex ey = by (piece_of c.program c.code c.rows v.ps v.clock v.static x hx) (piece_of c.program c.code c.rows v.ps v.clock v.static y hy) (covered x a ex) (covered y a ey)
+  where
+    by : (p : Piece) × In p v.ps × (x ≡ p.row) → (q : Piece) × In q v.ps × (y ≡ q.row) → (x.at ≤ a) × (a < x.at + 4 * x.len) → (y.at ≤ a) × (a < y.at + 4 * y.len) → x ≡ y
+    by p q u w =
+        let lo = subst (λ (r : Row). r.at ≤ a) p.2 u.0 in
+        let hi = subst (λ (r : Row). a < r.at + 4 * r.len) p.2 u.1 in
+        let lo' = subst (λ (r : Row). r.at ≤ a) q.2 w.0 in
+        let hi' = subst (λ (r : Row). a < r.at + 4 * r.len) q.2 w.1 in
+        p.2 ∙ (ap the_row (one_place c.program c.code c.rows v.ps v.clock v.static p.0 q.0 a p.1 q.1 lo hi lo' hi') ∙ sym q.2)
 
 tool_word : (t : Words) (at len a n : ℕ) → at % 4 ≡ 0 → tool_at t ≤ at → at + 4 * len ≤ tool_at t + TOOL_TEXT_LEN → a ≡ at + 4 * n → a + 4 ≤ at + 4 * len → is_tool_word t a ≡ true
 tool_word t at len a n al lo hi e l =

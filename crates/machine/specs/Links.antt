@@ -1,5 +1,5 @@
 -- For proofs alone: the words of blocks in the tool text.
-use Rattle.std.specs.Prelude.{ℕ, ◌*◌, ◌^◌, ◌<◌, ◌==◌, if◌then◌else◌, IsTrue, Bool, false, Option, Some, None, List, [], ◌∷◌}
+use Rattle.std.specs.Prelude.{ℕ, ◌^◌, ◌<◌, ◌==◌, if◌then◌else◌, IsTrue, Bool, false, Option, Some, None, List, [], ◌∷◌}
 use Rattle.rv_word.specs.Plain.{Words}
 use Rattle.tramp_spec.specs.Codes.{is_tool_word}
 use Rattle.code_store.specs.Owners.{Owners, owners_without}

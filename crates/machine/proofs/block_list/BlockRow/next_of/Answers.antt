@@ -1,8 +1,8 @@
-use Rattle.std.proofs.Common.{◌≡◌, true, ◌∙◌, ap, sym, subst}
+use Rattle.std.proofs.Common.{true, ◌∙◌, ap, sym}
 use Rattle.std.specs.Prelude.{unwrap_or}
 use Rattle.rv_word.specs.Names.{jump_of}
 use Rattle.rv_word.specs.Table.{decode_of}
-use Rattle.tramp_spec.specs.Codes.{fetched_at, is_tool_word}
+use Rattle.tramp_spec.specs.Codes.{fetched_at}
 use Rattle.machine.specs.Events.{link_at}
 use Rattle.machine.specs.Views.{row_of}
 use Rattle.machine.proofs.BlockLists.{fetched_leads}

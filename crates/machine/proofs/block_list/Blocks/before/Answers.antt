@@ -1,7 +1,6 @@
 use Rattle.std.proofs.Common.{ap, get_or, ◌∙◌}
 use Rattle.std.specs.Prelude.{map}
 use Rattle.machine.specs.Views.{BlockList, row_of}
-use Rattle.machine.specs.declared.block_list.BlockRow.{BlockRow}
 use Rattle.machine.proofs.BlockLists.{no_row, row_read}
 use Rattle.machine.proofs.block_list.Blocks.before.Goals as goal
 

@@ -1,4 +1,4 @@
-use Rattle.std.proofs.Common.{◌≡◌, ◌+◌, ◌∙◌, sym, ap, subst, length, get_or, arith, ◌<◌, rules, tests}
+use Rattle.std.proofs.Common.{◌∙◌, sym, ap, subst, get_or, rules, tests}
 use Rattle.std.specs.Prelude.{map, filter}
 use Rattle.std.proofs.lemmas.Fn.{filter_same}
 use Rattle.rv_word.specs.Plain.{Words}
@@ -7,7 +7,7 @@ use Rattle.machine.specs.Effects.{is_kept}
 use Rattle.machine.specs.Links.{IsWithin}
 use Rattle.machine.specs.declared.block_list.BlockRow.{BlockRow}
 use Rattle.machine.proofs.Lists.{map_filter}
-use Rattle.machine.proofs.BlockLists.{no_row, row_read, left_more, left_end}
+use Rattle.machine.proofs.BlockLists.{no_row, row_read}
 use Rattle.machine.proofs.block_list.Blocks.remove_retired.Goals as goal
 
 pub drop_block-requires : goal.drop_block-requires

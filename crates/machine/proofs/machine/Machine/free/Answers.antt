@@ -1,5 +1,4 @@
-use Rattle.std.proofs.Common.{◌≡◌, ◌∙◌, ap, sym, subst, refl}
-use Rattle.std.specs.Prelude.{true, false, ◌&&◌, IsTrue}
+use Rattle.std.proofs.Common.{◌∙◌, sym, subst, refl}
 use Rattle.std.proofs.lemmas.Bool.{true≢false}
 use Rattle.rv_word.specs.Exec.{prog_of}
 use Rattle.machine.specs.Events.{Free, May}
