@@ -1,7 +1,8 @@
 -- The list of blocks, row by row.
-use Rattle.std.proofs.Common.{◌≡◌, ℕ, zero, suc, ◌+◌, ◌<◌, ◌≤◌, List, [], ◌∷◌, length, get_or, Option, Some, None, refl, ap, ◌∙◌, subst, arith, inl, inr}
-use Rattle.std.specs.Prelude.{Bool, true, false, cond, find, map, slice_set, unwrap_or}
+use Rattle.std.proofs.Common.{◌≡◌, ℕ, zero, suc, ◌+◌, ◌<◌, ◌≤◌, List, [], ◌∷◌, length, get_or, drop, Option, Some, None, refl, sym, ap, ◌∙◌, subst, arith, ⊎_elim, inl, inr}
+use Rattle.std.specs.Prelude.{◌&&◌, ◌==◌, Bool, true, false, cond, find, map, slice_set, unwrap_or}
 use Rattle.std.specs.FinMap.{get}
+use Rattle.std.proofs.lemmas.Bool.{true≢false, cases_Bool, and_from, and_parts, eq-eqb, eqb-true}
 use Rattle.std.specs.Option.{option_map}
 use Rattle.rv_word.specs.Names.{jump_of}
 use Rattle.rv_word.specs.Plain.{Words}
@@ -12,7 +13,8 @@ use Rattle.tramp_spec.specs.Marks.{tool}
 use Rattle.tramp_spec.specs.declared.mark.MarkedWord.{MarkedWord}
 use Rattle.machine.specs.Cores.{In, Row, Status}
 use Rattle.machine.specs.Effects.{with_status}
-use Rattle.machine.specs.Events.{target_at}
+use Rattle.machine.specs.Events.{is_linked, next_of, target_at}
+use Rattle.machine.specs.Links.{is_before}
 use Rattle.machine.specs.Views.{BlockList, row_of, status_of}
 use Rattle.machine.specs.declared.block_list.BlockRow.{BlockRow}
 use Rattle.machine.specs.declared.block_list.BlockStatus.{BlockStatus}
@@ -28,6 +30,22 @@ found_at f false x o r e = e
 pub find_map : {A B : Type 0} (f : A → B) (q : B → Bool) (xs : List A) → option_map f (find (λ x. q (f x)) xs) ≡ find q (map f xs)
 find_map f q [] = refl
 find_map f q (x ∷ xs) = found_at f (q (f x)) x (find (λ y. q (f y)) xs) (find q (map f xs)) (find_map f q xs)
+
+-- an element further
+pub find_past : {A B : Type 0} (f : A → B) (q : B → Bool) (xs : List A) (i : ℕ) (x : A) → i < length xs → x ≡ get_or xs i x → q (f x) ≡ false → find q (map f (drop (i + 1) xs)) ≡ find q (map f (drop i xs))
+find_past f q [] i x l e t = absurd (omega arith)
+find_past f q (y ∷ xs) zero x l e t = sym (ap (λ b. cond b (Some (f y)) (find q (map f xs))) (ap (λ z. q (f z)) (sym e) ∙ t))
+find_past f q (y ∷ xs) (suc i) x l e t = let k : suc i + 1 ≡ suc (i + 1) = omega arith in ap (λ n. find q (map f (drop n (y ∷ xs)))) k ∙ find_past f q xs i x (omega arith) e t
+
+-- a row of another point, or one that isn't linked, doesn't lead to the address
+pub not_before : (code : Code) (point at : ℕ) (r : Row) → (is_before code at r ≡ true → r.point ≡ point) → ((r.point == point) && is_linked r) ≡ false → is_before code at r ≡ false
+not_before code point at r of other = ⊎_elim
+    (λ t. absurd (true≢false (sym (and_from _ _ (eq-eqb r.point point (of t)) (and_parts (is_linked r) (next_of code r == at) t).0) ∙ other)))
+    (λ f. f) (cases_Bool (is_before code at r))
+
+-- nor does one whose next is another
+pub not_next : (code : Code) (at : ℕ) (r : Row) → (next_of code r ≡ at → ⊥) → is_before code at r ≡ false
+not_next code at r other = ⊎_elim (λ t. absurd (other (eqb-true _ at (and_parts (is_linked r) (next_of code r == at) t).1))) (λ f. f) (cases_Bool (is_before code at r))
 
 -- an element by its place
 pub in_read : {A B : Type 0} (f : A → B) (xs : List A) (i : ℕ) (x : A) → i < length xs → x ≡ get_or xs i x → In (f x) (map f xs)

@@ -8,15 +8,16 @@ use Rattle.tramp_spec.specs.Harts.{Hart}
 use Rattle.tramp_spec.specs.declared.block.Block.{Block}
 use Rattle.code_store.specs.Owners.{owners_with}
 use Rattle.code_store.specs.Stores.{IsInToolText, StoredCode}
-use Rattle.machine.specs.Cores.{In, Row, Status, Core}
+use Rattle.machine.specs.Cores.{In, Row, Status, Live, Core}
 use Rattle.machine.specs.Effects.{after, is_kept, with_status}
 use Rattle.machine.specs.Effects as effects
-use Rattle.machine.specs.Events.{Event, Free, HasShape, May, MayWrite, Write}
-use Rattle.machine.specs.Links.{HasLink, owners_left}
+use Rattle.machine.specs.Events.{Event, Free, HasMini, HasShape, May, MayWrite, Write}
+use Rattle.machine.specs.Links.{HasLink, is_before, owners_left}
 use Rattle.machine.specs.Reached.{AreOwners, IsReached, owner_by}
 use Rattle.machine.specs.Views.{BlockList, IsSound, core_of}
 use Rattle.machine.proofs.Lists.{find_gives}
 use Rattle.machine.proofs.Owning.{has_word, owners_freed, owners_more, owners_same, word_holds}
+use Rattle.machine.proofs.Unlink.{before_of}
 use Rattle.machine.proofs.Reaching.{good, links, one_row, reaches_more, within}
 
 -- where a written block stands
@@ -37,6 +38,10 @@ module _ (harts : List Hart) (prog : Prog) (store : StoredCode) (blocks : BlockL
 
   pub all_link : (r : Row) → In r blocks.rows → HasLink store.program r
   all_link r h = links core k.reached r h
+
+  -- what leads to a live mini block is of its point
+  pub before_own : (p m : ℕ) → HasMini core p m Live → (r : Row) → In r blocks.rows → is_before store.code m r ≡ true → r.point ≡ p
+  before_own p m h r hr e = let v = good core k.reached in before_of core v.0 v.1 m h.row h.listed h.mini h.at h.is r hr e ∙ h.point
 
   pub all_within : (r : Row) → In r blocks.rows → IsInToolText store.program r.at r.len
   all_within r h = within core k.reached r h

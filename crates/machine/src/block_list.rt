@@ -3,7 +3,7 @@ ghost use Rattle.std.specs.Option.{option_map};
 ghost use Rattle.machine.specs.Cores.{In, Row, is_current};
 ghost use Rattle.machine.specs.Effects.{at_set, is_kept, retired_at, with_status};
 ghost use Rattle.machine.specs.Events.{current_base, is_linked, link_at, next_of, row_at};
-ghost use Rattle.machine.specs.Links.{HasLink, IsWithin, owners_left};
+ghost use Rattle.machine.specs.Links.{HasLink, IsWithin, is_before, owners_left};
 ghost use Rattle.machine.specs.Views.{row_of, status_of};
 
 use code_store::Store;
@@ -170,13 +170,14 @@ impl Blocks {
         self.rows.iter().copied().find(|row| row.at == at)
     }
 
-    /// The linked block that leads to an address.
-    pub fn before(&self, store: &Store, at: u64) -> Option<BlockRow>
-        requires { (r : Row) → In r self.now.rows → HasLink store.now.program r }
-        ensures { option_map row_of result ≡ find (λ r. is_linked r && (next_of store.now.code r == at)) self.now.rows }
+    /// The linked block that leads to an address. Each that does so must stand for the point.
+    pub fn before(&self, store: &Store, point: u64, at: u64) -> Option<BlockRow>
+        requires links { (r : Row) → In r self.now.rows → HasLink store.now.program r }
+        requires of_point { (r : Row) → In r self.now.rows → IsTrue (is_before store.now.code at r) → r.point ≡ point }
+        ensures { option_map row_of result ≡ find (is_before store.now.code at) self.now.rows }
     {
         for row in &self.rows {
-            if row.is_linked() && row.next_of(store) == at {
+            if row.is_linked_at(point) && row.next_of(store) == at {
                 return Some(*row);
             }
         }

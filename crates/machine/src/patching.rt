@@ -74,7 +74,7 @@ impl Machine {
         requires { HasMini self.old.core point at Live }
         ensures { self.new ≡ with_core self.old (after self.old.core (UnlinkMini point at)) }
     {
-        if let Some(holder) = self.blocks.before(&self.store, at) {
+        if let Some(holder) = self.blocks.before(&self.store, point, at) {
             if let Some(mini) = self.blocks.row_at(at) {
                 let next = mini.next_of(&self.store);
                 lead_to(&mut self.store, &holder, next);

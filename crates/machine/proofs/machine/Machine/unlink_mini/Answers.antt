@@ -8,13 +8,19 @@ use Rattle.machine.specs.Effects.{at_set, lead_to, mini_unlinked, with_status}
 use Rattle.machine.specs.Events.{HasMini, UnlinkMini, before, next_of, row_at}
 use Rattle.machine.specs.States.{Machine, with_core}
 use Rattle.machine.specs.Views.{BlockList, core_of, row_of}
-use Rattle.machine.proofs.Calls.{all_link, found_links, relinked}
+use Rattle.machine.proofs.Calls.{all_link, found_links, before_own, relinked}
 use Rattle.machine.proofs.machine.Machine.unlink_mini.Goals as goal
 
-pub before-requires : goal.before-requires
-before-requires c =
+pub before-requires-clause-links : goal.before-requires-clause-links
+before-requires-clause-links c =
     let m = c.self.inside in
     all_link m.harts.items (prog_of m.mem m.resv m.out) m.store m.blocks m.budget c.self.invariant
+
+pub before-requires-clause-of_point : goal.before-requires-clause-of_point
+before-requires-clause-of_point c =
+    let m = c.self.inside in
+    let may = subst (λ (z : Machine). HasMini z.core c.args.point c.args.at Live) (sym c.self.view_is) c.requires in
+    λ r h e. before_own m.harts.items (prog_of m.mem m.resv m.out) m.store m.blocks m.budget c.self.invariant c.args.point c.args.at may r h e
 
 pub next_of-next-requires : goal.next_of-next-requires
 next_of-next-requires c =
