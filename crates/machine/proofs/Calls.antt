@@ -1,6 +1,6 @@
 -- The calls that patch keep the parts of a machine fit.
-use Rattle.std.proofs.Common.{◌≡◌, ℕ, ◌%◌, List, [], ◌∷◌, ◌++◌, length, Some, sym, ap, ◌∙◌, subst}
-use Rattle.std.specs.Prelude.{Bool, true, false, filter, find, map}
+use Rattle.std.proofs.Common.{◌≡◌, ℕ, List, [], ◌∷◌, ◌++◌, length, Some, sym, ap, ◌∙◌, subst}
+use Rattle.std.specs.Prelude.{Bool, true, filter, find, map}
 use Rattle.std.specs.FinMap.{get}
 use Rattle.rv_word.specs.Exec.{Prog}
 use Rattle.tramp_spec.specs.Codes.{Code, put_words}
@@ -11,7 +11,7 @@ use Rattle.code_store.specs.Stores.{IsInToolText, StoredCode}
 use Rattle.machine.specs.Cores.{In, Row, Status, Live, Core}
 use Rattle.machine.specs.Effects.{after, is_kept, with_status}
 use Rattle.machine.specs.Effects as effects
-use Rattle.machine.specs.Events.{Event, Free, HasMini, HasShape, May, MayWrite, Write}
+use Rattle.machine.specs.Events.{Event, Free, HasMini, May, MayWrite, Write}
 use Rattle.machine.specs.Links.{HasLink, is_before, owners_left}
 use Rattle.machine.specs.Reached.{AreOwners, IsReached, owner_by}
 use Rattle.machine.specs.Views.{BlockList, IsSound, core_of}
@@ -19,14 +19,6 @@ use Rattle.machine.proofs.Lists.{find_gives}
 use Rattle.machine.proofs.Owning.{has_word, owners_freed, owners_more, owners_same, word_holds}
 use Rattle.machine.proofs.Unlink.{before_of}
 use Rattle.machine.proofs.Reaching.{good, links, one_row, reaches_more, within}
-
--- where a written block stands
-shape_aligned : (c : Core) (b : Block) (is_base : Bool) → HasShape c b is_base → b.at % 4 ≡ 0
-shape_aligned c b true h = h.0.aligned
-shape_aligned c b false h = h.1.aligned
-
-pub written_place : (c : Core) (b : Block) → MayWrite c b → IsInToolText c.program b.at (length b.words)
-written_place c b may = record { aligned = shape_aligned c b b.base may.shape; low = may.low; high = may.high }
 
 module _ (harts : List Hart) (prog : Prog) (store : StoredCode) (blocks : BlockList) (budget : ℕ) (k : IsSound harts prog store blocks.rows budget) where
   abbrev core : Core

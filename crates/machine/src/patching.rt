@@ -57,8 +57,8 @@ impl Machine {
         });
     }
 
-    /// Links a mini block that was written, which becomes the newest of its point: the head of the point's base block leads to
-    /// it. The mini block must lead to where that head leads.
+    /// Links a mini block of a point that was written, which becomes the newest: the head of the point's base block, which must
+    /// be there and not be retired, leads to it. The mini block must lead to where that head has led.
     pub fn link_mini(&mut self, point: u64, at: u64)
         requires { MayLinkMini self.old.core point at }
         ensures { self.new ≡ with_core self.old (after self.old.core (LinkMini point at)) }
@@ -69,7 +69,8 @@ impl Machine {
         }
     }
 
-    /// Unlinks a live mini block, which is retired: the block that leads to it leads to its next. Harts that are in it go on.
+    /// Unlinks a live mini block of a point, which is retired: the block that leads to it leads to its next. Harts that are in it
+    /// go on.
     pub fn unlink_mini(&mut self, point: u64, at: u64)
         requires { HasMini self.old.core point at Live }
         ensures { self.new ≡ with_core self.old (after self.old.core (UnlinkMini point at)) }
@@ -83,7 +84,8 @@ impl Machine {
         }
     }
 
-    /// Puts the jump to its base block in the place of the point's word. The base block is live.
+    /// Puts the jump to its base block in the place of the program's word, which must stand at the point. The base block, which
+    /// must be there and not be retired, is live.
     pub fn link_point(&mut self, point: u64)
         requires { MayLinkPoint self.old.core point }
         ensures { self.new ≡ with_core self.old (after self.old.core (LinkPoint point)) }
@@ -95,8 +97,8 @@ impl Machine {
         }
     }
 
-    /// Puts the program's word back in the place of the jump at a point. Its base block and its live mini blocks are retired.
-    /// Harts that are in them go on.
+    /// Puts the program's word back in the place of the jump to a base block, which must stand at the point. The base block and
+    /// the point's live mini blocks are retired. Harts that are in them go on.
     pub fn unlink_point(&mut self, point: u64)
         requires { IsEntered self.old.core point }
         ensures { self.new ≡ with_core self.old (after self.old.core (UnlinkPoint point)) }
@@ -107,8 +109,8 @@ impl Machine {
         }
     }
 
-    /// Gives the room of the point's retired blocks back: true exactly where no hart is inside a block of the point. Else
-    /// nothing changes.
+    /// Frees the retired blocks of a point, so that others can be written in their place: true exactly where no hart is inside a
+    /// block of the point, and else nothing changes. For how many more blocks there is room stays.
     pub fn free(&mut self, point: u64) -> bool
         ensures may { IsTrue result ↔ May self.old.core (Free point) }
         ensures state { self.new ≡ if result then with_core self.old (after self.old.core (Free point)) else self.old }
