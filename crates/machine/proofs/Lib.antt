@@ -26,7 +26,7 @@ pub mod Erasing
 pub mod Leaving
 pub mod Banked
 pub mod Performed
-pub mod Reaches
+pub mod HartPlaces
 pub mod Taking
 pub mod Firsts
 pub mod Packing
@@ -42,3 +42,8 @@ pub mod ForceArming
 pub mod Readings
 pub mod LoopLinked
 pub mod LoopCounted
+pub mod BlockLists
+pub mod Reaching
+pub mod Owning
+pub mod Calls
+pub mod Inside

@@ -19,7 +19,7 @@ use Rattle.machine.specs.Turns.{turn_by}
 use Rattle.machine.proofs.Homes.{piece_of}
 use Rattle.machine.proofs.Invariant.{Placed}
 use Rattle.machine.proofs.Lists.{in_map, in_filter, in_snoc}
-use Rattle.machine.proofs.Reaches.{good}
+use Rattle.machine.proofs.Reaching.{good}
 
 abbrev pub AllApart : List Row → Type 0
 AllApart [] = Unit {0}

@@ -18,7 +18,7 @@ use Rattle.machine.specs.States.{Machine, with_core, words_in, leaving, settling
 use Rattle.machine.specs.Turns.{turn, ticks_next, turn_by, may_turn, is_runnable}
 use Rattle.machine.proofs.Leaving.{leaves_soon}
 use Rattle.machine.proofs.Lists.{get_set_other, length_slice_set}
-use Rattle.machine.proofs.Reaches.{good, reaches_more}
+use Rattle.machine.proofs.Reaching.{good, reaches_more}
 use Rattle.machine.proofs.Replaying.{replay-append, owns-append, legal-append}
 use Rattle.machine.proofs.Steps.{within}
 

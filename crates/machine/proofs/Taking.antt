@@ -17,7 +17,8 @@ use Rattle.machine.specs.Reached.{IsReached}
 use Rattle.machine.specs.Turns.{is_runnable, ticks_next, ticks_by, put_back, turn_by}
 use Rattle.machine.specs.Views.{IsSound, core_of}
 use Rattle.machine.proofs.Lists.{length_slice_set}
-use Rattle.machine.proofs.Reaches.{reaches_more, stands, home_is, below_budget}
+use Rattle.machine.proofs.HartPlaces.{stands, home_is, below_budget}
+use Rattle.machine.proofs.Reaching.{reaches_more}
 
 -- an element of a list of harts, as the code indexes it
 pub element : (xs : List Hart) (h : ℕ) (x : Hart) → h < length xs → x ≡ get_or xs h x → slice_get xs h ≡ Some x

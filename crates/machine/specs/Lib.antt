@@ -19,3 +19,4 @@ pub mod Codes
 pub mod Views
 pub mod Performing
 pub mod LoopCounted
+pub mod Links

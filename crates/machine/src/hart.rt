@@ -112,6 +112,13 @@ impl HartState {
         self.inside
     }
 
+    /// Its pc.
+    pub fn pc(&self) -> u64
+        ensures { result ≡ self.now.pc }
+    {
+        self.pc
+    }
+
     /// Whether the hart is stopped or outside.
     pub fn is_out(&self) -> bool
         ensures { result ≡ is_out_now (Some self.now) }

@@ -6,6 +6,7 @@ mod block_list;
 mod hart;
 mod laws;
 mod machine;
+mod patching;
 mod performing;
 mod settling;
 

@@ -1,4 +1,4 @@
--- What is known of a state to which some legal list of events leads.
+-- Where the harts of a state stand to which some legal list of events leads.
 use Rattle.std.proofs.Common.{◌≡◌, ℕ, ◌+◌, ◌-◌, ◌*◌, ◌%◌, ◌<◌, ◌≤◌, List, [], ◌∷◌, ◌++◌, length, Option, Some, None, refl, sym, ap, ◌∙◌, subst, arith, ⊎_elim, inl, inr}
 use Rattle.std.specs.Prelude.{Bool, true, false, cond, find, IsTrue, slice_get, ◌⊎◌, ◌==◌, nat_lt, is_none, ◌&&◌}
 use Rattle.std.specs.FinMap.{get}
@@ -24,34 +24,12 @@ use Rattle.machine.specs.Performing.{home_from, home_in_store}
 use Rattle.machine.specs.Reached.{IsReached, AreOwners, owner_by}
 use Rattle.machine.specs.Replays.{replay, Legal, owns}
 use Rattle.machine.specs.Turns.{is_runnable, ticks_next}
-use Rattle.machine.proofs.Beginning.{begins}
 use Rattle.machine.proofs.Homes.{block_is, one_place, piece_of, row_in}
 use Rattle.machine.proofs.Invariant.{Piece, Placed, BasePlace, Static, InBase, InMini, HartOk, Dynamic, Inv}
 use Rattle.machine.proofs.Lists.{find_gives, find_finds}
-use Rattle.machine.proofs.Replaying.{replay-append, legal-append}
+use Rattle.machine.proofs.Reaching.{good}
 use Rattle.machine.proofs.Standing.{in_base, in_mini}
-use Rattle.machine.proofs.Steps.{all_events, fixed, step, within}
-
--- one event more
-pub reaches_more : (c : Core) (e : Event) → IsReached c → May c e → IsReached (after c e)
-reaches_more c e r may =
-    let first : Core = start_core r.image r.many c.budget in
-    let more : Legal (r.events ++ e ∷ []) first = legal-append r.events (e ∷ []) first r.legal (subst (λ d. May d e) r.is may, tt) in
-    let budget : c.budget ≡ (after c e).budget = sym (fixed c e).1 in
-    record {
-      image = r.image;
-      many = r.many;
-      events = r.events ++ e ∷ [];
-      program = r.program;
-      legal = subst (λ b. Legal (r.events ++ e ∷ []) (start_core r.image r.many b)) budget more;
-      is = ap (λ d. after d e) r.is ∙ (sym (replay-append r.events (e ∷ []) first) ∙ ap (λ b. replay (r.events ++ e ∷ []) (start_core r.image r.many b)) budget);
-    }
-
--- what is kept at every event is known of it
-pub good : (c : Core) → IsReached c → (s : Plain) × Inv c s
-good c r =
-    let all = all_events r.events (program_of r.image) c.budget (start_core r.image r.many c.budget) (start r.image r.many) refl refl (begins r.image r.many c.budget r.program) r.legal in
-    (run_from (program_of r.image) (owns r.events (start_core r.image r.many c.budget)) (start r.image r.many), subst (λ d. Inv d (run_from (program_of r.image) (owns r.events (start_core r.image r.many c.budget)) (start r.image r.many))) (sym r.is) all.1)
+use Rattle.machine.proofs.Steps.{step, within}
 
 -- ---- a hart that is inside stands at a word of a block
 
