@@ -1,11 +1,10 @@
 -- Loads and stores of doublewords of the bank.
-use Rattle.std.proofs.Common.{◌≡◌, ℕ, ◌/◌, ◌^◌, ◌<◌, ◌≤◌, List, length, Some, Ok, Err, refl, sym, ap, ◌∙◌, arith, ⊎_elim}
-use Rattle.std.specs.Prelude.{◌==◌, Bool, true, false, cond, slice_index, slice_set}
+use Rattle.std.proofs.Common.{◌≡◌, ℕ, ◌/◌, ◌^◌, ◌≤◌, Ok, Err, ap, ◌∙◌, arith}
+use Rattle.std.specs.Prelude.{true, false}
 use Rattle.std.proofs.lemmas.Bool.{cond-true, cond-false}
-use Rattle.pn_types.specs.declared.limits.TheConstants.{BANK_LEN}
 use Rattle.rv_word.specs.Exec.{next}
 use Rattle.rv_word.specs.declared.outcome.Cause.TheVariants.{Access}
-use Rattle.tramp_spec.specs.Banks.{bank_at, bank_len, is_in_bank, set_bank}
+use Rattle.tramp_spec.specs.Banks.{bank_at, bank_len, is_in_bank}
 use Rattle.tramp_spec.specs.Steps.{Bench, stand, with_doubleword, with_value}
 use Rattle.code_store.specs.Operations.{bank_loaded, bank_stored}
 

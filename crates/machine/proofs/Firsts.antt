@@ -1,13 +1,11 @@
 -- What a machine begins with.
-use Rattle.std.proofs.Common.{◌≡◌, ℕ, zero, suc, ◌+◌, ◌-◌, ◌^◌, ◌<◌, ◌≤◌, List, [], ◌∷◌, ◌++◌, length, replicate, Option, None, refl, sym, ap, ◌∙◌, subst, arith, append_assoc}
+use Rattle.std.proofs.Common.{◌≡◌, ℕ, zero, suc, ◌+◌, ◌-◌, ◌^◌, ◌<◌, ◌≤◌, List, [], ◌∷◌, ◌++◌, length, Option, None, refl, sym, ap, ◌∙◌, subst, arith, append_assoc}
 use Rattle.std.specs.Prelude.{map}
 use Rattle.std.specs.FinMap.{get-empty}
 use Rattle.std.specs.Ordering.{nat_cmp}
 use Rattle.std.proofs.lemmas.List.{length-map, length-replicate}
-use Rattle.pn_types.specs.Images.{IsImage, text_of}
 use Rattle.pn_types.specs.declared.limits.TheConstants.{MAX_HARTS}
 use Rattle.pn_types.specs.declared.image.Image.{Image}
-use Rattle.rv_word.specs.Names.{scratch_in, words_of}
 use Rattle.rv_exec.specs.Start.{start, start_hart, harts_from}
 use Rattle.tramp_spec.specs.Harts.{Hart}
 use Rattle.code_store.specs.Stores.{first_code}

@@ -1,31 +1,25 @@
 -- Where the harts of a state stand to which some legal list of events leads.
-use Rattle.std.proofs.Common.{◌≡◌, ℕ, ◌+◌, ◌-◌, ◌*◌, ◌%◌, ◌<◌, ◌≤◌, List, [], ◌∷◌, ◌++◌, length, Option, Some, None, refl, sym, ap, ◌∙◌, subst, arith, ⊎_elim, inl, inr}
-use Rattle.std.specs.Prelude.{Bool, true, false, cond, find, IsTrue, slice_get, ◌⊎◌, ◌==◌, nat_lt, is_none, ◌&&◌}
+use Rattle.std.proofs.Common.{◌≡◌, ℕ, ◌+◌, ◌*◌, ◌%◌, ◌<◌, ◌≤◌, List, [], ◌∷◌, Option, Some, None, refl, sym, ap, ◌∙◌, subst, arith, inl, inr}
+use Rattle.std.specs.Prelude.{Bool, true, false, cond, IsTrue, slice_get, nat_lt, is_none}
 use Rattle.std.specs.FinMap.{get}
 use Rattle.std.specs.Option.{option_map}
 use Rattle.std.proofs.lemmas.Bool.{true≢false, and_parts, ltb-true}
 use Rattle.std.proofs.lemmas.Grind.{common_steps}
 use Rattle.pn_types.specs.declared.limits.TheConstants.{TOOL_TEXT_LEN}
-use Rattle.rv_word.specs.Exec.{Prog}
-use Rattle.rv_word.specs.Plain.{Words, PlainHart, Plain, can, may_go}
+use Rattle.rv_word.specs.Plain.{Words, PlainHart, Plain, may_go}
 use Rattle.rv_word.specs.declared.outcome.Cause.{Cause}
-use Rattle.rv_mem.specs.Start.{program_of}
-use Rattle.rv_exec.specs.Start.{start}
-use Rattle.rv_exec.specs.Run.{run_from, LegalFrom}
+use Rattle.rv_exec.specs.Run.{LegalFrom}
 use Rattle.code_store.specs.Owners.{Owners}
 use Rattle.tramp_spec.specs.Codes.{Code, is_word_of, is_tool_word, tool_at}
 use Rattle.tramp_spec.specs.Harts.{Hart}
-use Rattle.code_store.specs.Stores.{StoredCode}
-use Rattle.machine.specs.Cores.{In, Row, Core, start_core}
-use Rattle.machine.specs.Events.{Event, Turn, May}
-use Rattle.machine.specs.Effects.{after, owned}
-use Rattle.machine.specs.Places.{block_at, home_of_word, home_in, program_pc}
+use Rattle.machine.specs.Cores.{In, Row, Core}
+use Rattle.machine.specs.Events.{Turn}
+use Rattle.machine.specs.Places.{block_at, home_in, program_pc}
 use Rattle.machine.specs.Performing.{home_from, home_in_store}
 use Rattle.machine.specs.Reached.{IsReached, AreOwners, owner_by}
-use Rattle.machine.specs.Replays.{replay, Legal, owns}
 use Rattle.machine.specs.Turns.{is_runnable, ticks_next}
 use Rattle.machine.proofs.Homes.{block_is, one_place, piece_of, row_in}
-use Rattle.machine.proofs.Invariant.{Piece, Placed, BasePlace, Static, InBase, InMini, HartOk, Dynamic, Inv}
+use Rattle.machine.proofs.Invariant.{Piece, BasePlace, Static, HartOk, Dynamic, Inv}
 use Rattle.machine.proofs.Lists.{find_gives, find_finds}
 use Rattle.machine.proofs.Reaching.{good}
 use Rattle.machine.proofs.Standing.{in_base, in_mini}

@@ -1,14 +1,13 @@
 -- Where no hart is inside a block of a point.
-use Rattle.std.proofs.Common.{◌≡◌, ℕ, zero, suc, ◌-◌, ◌%◌, List, [], ◌∷◌, Option, Some, None, refl, sym, ap, ◌∙◌, arith, inl, inr}
+use Rattle.std.proofs.Common.{◌≡◌, ℕ, zero, suc, List, [], ◌∷◌, Option, Some, None, refl, sym, ap, ◌∙◌}
 use Rattle.std.specs.Prelude.{Bool, true, false, find, slice_get, ◌&&◌, ◌||◌}
 use Rattle.std.specs.List.{list_any}
 use Rattle.std.specs.Option.{option_map}
 use Rattle.std.proofs.lemmas.Bool.{true≢false, and_from, and_parts, eq-eqb, eqb-true}
 use Rattle.tramp_spec.specs.Harts.{Hart}
-use Rattle.machine.specs.Cores.{In, Row, Core}
+use Rattle.machine.specs.Cores.{Row, Core}
 use Rattle.machine.specs.Events.{Free, May}
 use Rattle.machine.specs.Links.{is_of}
-use Rattle.machine.specs.Places.{holds}
 use Rattle.machine.specs.Reached.{IsReached, owner_by}
 use Rattle.machine.proofs.HartPlaces.{stands}
 use Rattle.machine.proofs.Homes.{covers}

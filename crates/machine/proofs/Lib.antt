@@ -47,3 +47,5 @@ pub mod Reaching
 pub mod Owning
 pub mod Calls
 pub mod Inside
+pub mod SlotLists
+pub mod LinkedSites

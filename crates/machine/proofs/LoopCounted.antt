@@ -10,6 +10,7 @@ use Rattle.rv_exec.specs.Start.{start, start_regs, start_hart}
 use Rattle.tramp_spec.specs.Banks.{bank_len}
 use Rattle.tramp_spec.specs.Codes.{Code}
 use Rattle.tramp_spec.specs.Harts.{Hart}
+use Rattle.tramp_spec.specs.Jumps.{jump_word}
 use Rattle.tramp_spec.specs.Marks.{tool}
 use Rattle.tramp_spec.specs.Statements.{body_of}
 use Rattle.tramp_spec.specs.Steps.{perform_on}
@@ -174,7 +175,7 @@ arms = record { quiet = quiet; linked = sites }
     quiet (suc h) x e = absurd cc
 
     at_loop : HasMini linked 0x10000 0x11010 Live × IsEntered linked 0x10000
-    at_loop = (record { row = mini_row; listed = inr (inl refl); mini = refl; point = refl; at = refl; is = refl }, record { base = 0x11000; stands = stand.entered })
+    at_loop = (record { row = mini_row; listed = inr (inl refl); mini = refl; point = refl; at = refl; is = refl }, record { jump = jump_word 0x10000 0x11000; stands = stand.entered })
 
     sites : (s : PlacedSite) → In s counter.sites → HasMini linked s.at s.mini Live × IsEntered linked s.at
     sites s (inl e) = subst (λ (u : PlacedSite). HasMini linked u.at u.mini Live × IsEntered linked u.at) (sym e) at_loop

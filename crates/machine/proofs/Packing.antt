@@ -1,14 +1,12 @@
 -- The blocks that aren't freed share no word, so they have no more words than the tool text.
-use Rattle.std.proofs.Common.{◌≡◌, ℕ, zero, suc, ◌+◌, ◌-◌, ◌*◌, ◌<◌, ◌≤◌, List, [], ◌∷◌, ◌++◌, length, Option, Some, None, refl, sym, ap, ◌∙◌, subst, arith, ⊎_elim, inl, inr}
-use Rattle.std.specs.Prelude.{Bool, true, false, cond, map, filter, nat_le, ◌⊎◌}
-use Rattle.std.proofs.lemmas.Bool.{leb-true, cases_eq}
+use Rattle.std.proofs.Common.{◌≡◌, ℕ, zero, suc, ◌+◌, ◌-◌, ◌*◌, ◌≤◌, List, [], ◌∷◌, ◌++◌, length, Option, Some, None, refl, sym, ap, ◌∙◌, subst, arith, ⊎_elim, inl, inr}
+use Rattle.std.specs.Prelude.{Bool, true, false, cond, map, filter, nat_le}
 use Rattle.std.proofs.lemmas.Grind.{common_steps}
 use Rattle.std.proofs.lemmas.List.{length-map}
 use Rattle.pn_types.specs.declared.limits.TheConstants.{TOOL_TEXT_LEN}
 use Rattle.rv_word.specs.Plain.{program_word}
 use Rattle.tramp_spec.specs.Codes.{tool_at}
 use Rattle.tramp_spec.specs.Harts.{Hart}
-use Rattle.tramp_spec.specs.declared.block.Block.{Block}
 use Rattle.machine.specs.Cores.{In, Row, Status, Core, start_core}
 use Rattle.machine.specs.Effects.{after, with_status, row_of, mini_linked, mini_unlinked, point_linked, point_unlinked, is_kept}
 use Rattle.machine.specs.Events.{Event, Turn, Write, LinkMini, UnlinkMini, LinkPoint, UnlinkPoint, Free, Arm, Sample, May, Apart, current_base, row_at, before}
@@ -105,9 +103,11 @@ shift_within lo n a l x m r away q = grind (arith, common_steps)
 
 all_shift : (r : Row) (rs : List Row) → ((q : Row) → In q rs → Apart r.at r.len q.at q.len) → AllApart rs → AllApart (map (shift r) rs)
 all_shift r [] away a = tt
-all_shift r (x ∷ xs) away a =
-    (λ q h. let k = in_map (shift r) xs q h in
-    subst (λ (z : Row). Apart (shift r x).at x.len z.at z.len) (sym k.2) (shift_apart r.at r.len x.at x.len k.0.at k.0.len (away x (inl refl)) (away k.0 (inr k.1)) (a.0 k.0 k.1)), all_shift r xs (λ q h. away q (inr h)) a.1)
+all_shift r (x ∷ xs) away a = (
+  λ q h. let k = in_map (shift r) xs q h in
+      subst (λ (z : Row). Apart (shift r x).at x.len z.at z.len) (sym k.2) (shift_apart r.at r.len x.at x.len k.0.at k.0.len (away x (inl refl)) (away k.0 (inr k.1)) (a.0 k.0 k.1)),
+  all_shift r xs (λ q h. away q (inr h)) a.1,
+)
 
 packs : (k lo n : ℕ) (rs : List Row) → length rs ≡ k → AllApart rs → ((r : Row) → In r rs → Within lo n r.at r.len) → words_in rs ≤ n
 packs zero lo n [] e a w = omega arith

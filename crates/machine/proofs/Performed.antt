@@ -1,23 +1,20 @@
 -- What the operations of slots leave.
-use Rattle.std.proofs.Common.{◌≡◌, ℕ, ◌+◌, ◌^◌, ◌<◌, List, Option, Some, None, Ok, Err, refl, sym, ap, ◌∙◌, subst, ap₂, arith, ⊎_elim, inl, inr}
-use Rattle.std.specs.Prelude.{◌⊎◌, Bool, true, false, is_none, IfSome}
+use Rattle.std.proofs.Common.{◌≡◌, ℕ, ◌<◌, List, Option, Some, None, refl, sym, ap, ◌∙◌, subst, ⊎_elim, inl, inr}
+use Rattle.std.specs.Prelude.{◌⊎◌, IfSome}
 use Rattle.rv_word.specs.Exec.{Prog, Outcome, Stops, Goes, Done, done, exec_decoded, exec_of}
-use Rattle.rv_word.specs.Registers.{reg}
 use Rattle.rv_word.specs.Table.{decode_of}
-use Rattle.rv_word.specs.Values.{wrap}
 use Rattle.rv_word.specs.Words.{HasWord}
 use Rattle.rv_word.specs.declared.instr.Instr.{Instr}
 use Rattle.rv_word.specs.declared.outcome.Cause.{Cause}
-use Rattle.rv_word.specs.declared.outcome.Cause.TheVariants.{Access}
 use Rattle.rv_exec.specs.Flat.{instr_of}
 use Rattle.rv_exec.specs.Gives.{next_after}
 use Rattle.rv_exec.specs.declared.flat.Flat.{Flat}
-use Rattle.tramp_spec.specs.Banks.{bank_len, reach_of}
+use Rattle.tramp_spec.specs.Banks.{bank_len}
 use Rattle.tramp_spec.specs.declared.mark.Mark.{Mark}
 use Rattle.tramp_spec.specs.declared.mark.Mark.TheVariants.{Own, Enter, Tool, Leave}
 use Rattle.tramp_spec.specs.declared.mark.MarkedWord.{MarkedWord}
-use Rattle.code_store.specs.Operations.{Does, Executes, IsOperationBy, IsOperationOf, RunsAlike, done_as, stands_as}
-use Rattle.code_store.specs.declared.operation.Operation.TheVariants.{Run, LoadBank, StoreBank, NoAccess, Stop}
+use Rattle.code_store.specs.Operations.{Does, IsOperationBy, IsOperationOf, done_as, stands_as}
+use Rattle.code_store.specs.declared.operation.Operation.TheVariants.{Run, LoadBank, StoreBank, NoAccess}
 use Rattle.machine.specs.Performing.{Performs, PerformsBy, PerformsOther, stood_after, bench_from}
 
 -- ---- the numbers of an operation fit

@@ -1,6 +1,6 @@
 -- Settling: every hart is outside behind it.
 use Rattle.std.proofs.Common.{◌≡◌, ℕ, zero, suc, ◌+◌, ◌<◌, ◌≤◌, ◌-◌, ◌*◌, List, [], ◌∷◌, ◌++◌, length, Option, Some, None, refl, sym, ap, ◌∙◌, ap₂, subst, arith, ⊎_elim, inl, inr}
-use Rattle.std.specs.Prelude.{Bool, true, false, cond, not, is_none, IsTrue, slice_get, slice_set, ◌⊎◌, ◌||◌, ◌==◌}
+use Rattle.std.specs.Prelude.{Bool, true, false, cond, not, is_none, IsTrue, slice_get, ◌⊎◌, ◌||◌, ◌==◌}
 use Rattle.std.proofs.lemmas.Bool.{true≢false, cases_eq, cond-true, cond-false}
 use Rattle.std.proofs.lemmas.List.{length-append}
 use Rattle.std.proofs.lemmas.Grind.{common_steps}
@@ -8,7 +8,7 @@ use Rattle.std.proofs.lemmas.Option.{slice_get_within}
 use Rattle.pn_types.specs.declared.limits.TheConstants.{TOOL_TEXT_LEN}
 use Rattle.rv_word.specs.declared.outcome.Cause.{Cause}
 use Rattle.tramp_spec.specs.Harts.{Hart}
-use Rattle.machine.specs.Cores.{Row, Core, start_core}
+use Rattle.machine.specs.Cores.{Row, Core}
 use Rattle.machine.specs.Effects.{after}
 use Rattle.machine.specs.Events.{Event, Turn, IsQuiet}
 use Rattle.machine.specs.Leaving.{words_at, is_out, is_out_now, OutWithin, OutSoon}

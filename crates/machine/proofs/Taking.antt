@@ -1,8 +1,10 @@
--- Turns of the harts of a machine.
-use Rattle.std.proofs.Common.{◌≡◌, ℕ, ◌+◌, ◌^◌, ◌<◌, ◌≤◌, List, length, get_or, Option, Some, None, refl, sym, ap, ◌∙◌, subst, arith}
-use Rattle.std.specs.Prelude.{Bool, true, false, IsTrue, map, slice_get, slice_set}
+-- Turns of the harts of a machine, and arming.
+use Rattle.std.proofs.Common.{◌≡◌, ℕ, ◌+◌, ◌^◌, ◌<◌, ◌≤◌, List, length, get_or, Some, sym, ap, ◌∙◌, subst, arith}
+use Rattle.std.specs.Prelude.{true, IsTrue, map, slice_get, slice_set}
 use Rattle.std.specs.Option.{option_map}
 use Rattle.std.proofs.lemmas.Option.{slice_get-get_or}
+use Rattle.std.proofs.lemmas.List.{length-map}
+use Rattle.pn_types.specs.declared.placed.Placed.{Placed}
 use Rattle.pn_types.specs.declared.limits.TheConstants.{MAX_HARTS}
 use Rattle.rv_word.specs.Exec.{Prog}
 use Rattle.tramp_spec.specs.Codes.{fetched_at, is_tool_word}
@@ -10,11 +12,12 @@ use Rattle.tramp_spec.specs.Harts.{Hart, Solo, step_of, is_tick}
 use Rattle.code_store.specs.Stores.{StoredCode}
 use Rattle.machine.specs.Cores.{Row, Core}
 use Rattle.machine.specs.Effects.{after}
-use Rattle.machine.specs.Events.{Turn}
+use Rattle.machine.specs.Events.{Arm, MayArm, Turn}
+use Rattle.machine.specs.Links.{armed_now}
 use Rattle.machine.specs.Performing.{home_in_store, solo_of}
 use Rattle.machine.specs.Places.{program_pc}
 use Rattle.machine.specs.Reached.{IsReached}
-use Rattle.machine.specs.Turns.{is_runnable, ticks_next, ticks_by, put_back, turn_by}
+use Rattle.machine.specs.Turns.{is_runnable, ticks_by, put_back, turn_by}
 use Rattle.machine.specs.Views.{IsSound, core_of}
 use Rattle.machine.proofs.Lists.{length_slice_set}
 use Rattle.machine.proofs.HartPlaces.{stands, home_is, below_budget}
@@ -52,3 +55,14 @@ module _ (harts : List Hart) (p : Prog) (s : StoredCode) (rows : List Row) (budg
           few = subst (λ n. n ≤ MAX_HARTS) (sym (length_slice_set harts h z)) sound.few;
           countable = sound.countable;
         }
+
+-- arming keeps that the parts fit
+pub armed_sound : (harts : List Hart) (p : Prog) (s : StoredCode) (rows : List Row) (budget : ℕ) (i : Placed) → IsSound harts p s rows budget → MayArm (core_of harts p s rows budget) i → IsSound (map (armed_now i) harts) p s rows budget
+armed_sound harts p s rows budget i sound may =
+    record {
+      reached = reaches_more (core_of harts p s rows budget) (Arm i) sound.reached may;
+      owners = sound.owners;
+      reservations = sound.reservations ∙ sym (length-map harts (armed_now i));
+      few = subst (λ n. n ≤ MAX_HARTS) (sym (length-map harts (armed_now i))) sound.few;
+      countable = sound.countable;
+    }

@@ -9,7 +9,6 @@ use Rattle.rv_word.specs.Plain.{program_word}
 use Rattle.rv_word.specs.Table.{decode_of}
 use Rattle.tramp_spec.specs.Codes.{Code, tool_at}
 use Rattle.tramp_spec.specs.Marks.{own, enter}
-use Rattle.tramp_spec.specs.Jumps.{jump_word}
 use Rattle.tramp_spec.specs.Blocks.{IsBase, IsMini, tail_of, target_or}
 use Rattle.tramp_spec.specs.Harts.{Hart}
 use Rattle.tramp_spec.specs.declared.block.Block.{Block}
@@ -122,15 +121,22 @@ pub record MayLinkPoint (c : Core) (p : ℕ) : Type 0 where
   pub program : program_word c.program p ≡ Some word
   pub stands : get c.code p ≡ Some (own word)
 
--- a jump to a base block stands at a point
+-- a jump that enters stands at a point
 pub record IsEntered (c : Core) (p : ℕ) : Type 0 where
-  pub base : ℕ
-  pub stands : get c.code p ≡ Some (enter (jump_word p base))
+  pub jump : ℕ
+  pub stands : get c.code p ≡ Some (enter jump)
 
--- no hart is inside, and at each site of an instrument its mini block is live, and the jump to a base block stands
+-- a site is linked: its mini block is live, and a jump that enters stands at its point
+abbrev pub IsLinked : Core → PlacedSite → Type 0
+IsLinked c s = HasMini c s.at s.mini Live × IsEntered c s.at
+
+abbrev pub AreLinked : Core → List PlacedSite → Type 0
+AreLinked c sites = (s : PlacedSite) → In s sites → IsLinked c s
+
+-- no hart is inside, and each site of the instrument is linked
 pub record MayArm (c : Core) (i : Placed) : Type 0 where
   pub quiet : IsQuiet c
-  pub linked : (s : PlacedSite) → In s i.sites → HasMini c s.at s.mini Live × IsEntered c s.at
+  pub linked : AreLinked c i.sites
 
 -- The event may happen now.
 abbrev pub May : Core → Event → Type 0

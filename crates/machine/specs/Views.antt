@@ -1,12 +1,10 @@
 -- For proofs alone: the parts of a machine as the definitions have them.
-use Rattle.std.specs.Prelude.{◌≡◌, ℕ, ◌<◌, ◌≤◌, ◌^◌, List, length, map}
+use Rattle.std.specs.Prelude.{◌≡◌, ℕ, ◌<◌, ◌≤◌, ◌^◌, List, length}
 use Rattle.pn_types.specs.declared.limits.TheConstants.{MAX_HARTS}
-use Rattle.rv_word.specs.Memory.{Memory}
-use Rattle.rv_word.specs.Exec.{Prog, prog_of}
+use Rattle.rv_word.specs.Exec.{Prog}
 use Rattle.tramp_spec.specs.Harts.{Hart}
 use Rattle.code_store.specs.Stores.{StoredCode}
 use Rattle.machine.specs.Cores.{Status, Written, Live, Retired, Row, Core}
-use Rattle.machine.specs.States.{Machine}
 use Rattle.machine.specs.Reached.{IsReached, AreOwners}
 use Rattle.machine.specs.declared.block_list.BlockStatus.{BlockStatus}
 use Rattle.machine.specs.declared.block_list.BlockStatus.TheVariants as status

@@ -1,10 +1,10 @@
-ghost use Rattle.std.specs.Prelude.{◌≡◌, ℕ, ◌+◌, ◌-◌, ◌*◌, ◌^◌, ◌<◌, ◌≤◌, ◌&&◌, ◌==◌, not, [], ◌∷◌, ◌++◌, find, filter, map, length, max, IsTrue, OnErr, OnOk};
+ghost use Rattle.std.specs.Prelude.{◌≡◌, ℕ, ◌+◌, ◌-◌, ◌*◌, ◌^◌, ◌<◌, ◌≤◌, ◌&&◌, ◌==◌, not, [], ◌∷◌, ◌++◌, find, filter, map, length, max, IsTrue, OnErr, OnOk, Some};
 ghost use Rattle.std.specs.Option.{option_map};
 ghost use Rattle.pn_types.specs.declared.limits.TheConstants.{TOOL_TEXT_LEN};
 ghost use Rattle.machine.specs.Cores.{In, Row, is_current};
 ghost use Rattle.machine.specs.Effects.{at_set, is_kept, retired_at, with_status};
 ghost use Rattle.machine.specs.Events.{current_base, is_linked, link_at, next_of, row_at};
-ghost use Rattle.machine.specs.Links.{HasLink, IsWithin, is_before, owners_left};
+ghost use Rattle.machine.specs.Links.{HasLink, IsWithin, is_before, is_live_mini, owners_left};
 ghost use Rattle.machine.specs.States.{words_in};
 ghost use Rattle.machine.specs.Views.{row_of, status_of};
 
@@ -96,6 +96,13 @@ impl BlockRow {
         self.point != point || self.status.is_current()
     }
 
+    /// It is a live mini block of the point.
+    fn is_live_mini(&self, point: u64) -> bool
+        ensures { result ≡ is_live_mini point (Some (row_of self.now)) }
+    {
+        !self.base && self.point == point && matches!(self.status, BlockStatus::Live)
+    }
+
     /// The address of the word that leads to the next block.
     pub fn link_at(&self) -> u64
         requires { link_at (row_of self.now) < 2 ^ 64 }
@@ -182,6 +189,16 @@ impl Blocks {
         ensures { option_map row_of result ≡ row_at self.now.rows at }
     {
         self.rows.iter().copied().find(|row| row.at == at)
+    }
+
+    /// Whether a live mini block of the point begins at an address.
+    pub fn has_live_mini(&self, point: u64, at: u64) -> bool
+        ensures { result ≡ is_live_mini point (row_at self.now.rows at) }
+    {
+        match self.row_at(at) {
+            Some(row) => row.is_live_mini(point),
+            None => false,
+        }
     }
 
     /// The linked block that leads to an address. Each that does so must stand for the point.

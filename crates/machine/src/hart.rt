@@ -4,13 +4,16 @@ ghost use Rattle.tramp_spec.specs.Banks.{bank_len};
 ghost use Rattle.tramp_spec.specs.Codes.{fetched_at, is_tool_word};
 ghost use Rattle.tramp_spec.specs.Harts.{is_tick, step_of};
 ghost use Rattle.machine.specs.Cores.{first_hart};
+ghost use Rattle.machine.specs.Instruments.{reading};
 ghost use Rattle.machine.specs.Leaving.{is_out_now};
+ghost use Rattle.machine.specs.Links.{armed_now};
 ghost use Rattle.machine.specs.Performing.{home_in_store, solo_of};
 ghost use Rattle.machine.specs.Turns.{may_turn};
 
 use crate::performing::perform;
+use crate::slots::{read_first, set_variables};
 use code_store::Store;
-use pn_types::{BANK_LEN, HartNo, NoMemory};
+use pn_types::{BANK_LEN, HartNo, NoMemory, Placed};
 use rv_exec::{Output, Regs, Reservations};
 use rv_mem::Mem;
 use rv_word::{Cause, jump_target};
@@ -72,12 +75,7 @@ impl HartState {
     }
 
     /// The same, with so many doublewords in its bank.
-    fn with_bank(
-        alloc: Global,
-        pc: u64,
-        regs: Regs,
-        len: usize,
-    ) -> Result<HartState, NoMemory>
+    fn with_bank(alloc: Global, pc: u64, regs: Regs, len: usize) -> Result<HartState, NoMemory>
         requires { len ≡ bank_len }
         ensures { IfOk result (λ hart. hart ≡ first_hart (record { pc = pc; regs = regs; ticks = 0; stop = None })) }
     {
@@ -139,6 +137,20 @@ impl HartState {
         ensures { result ≡ home_in_store store.now self.now.pc self.now.inside }
     {
         home(store, self.pc, self.inside)
+    }
+
+    /// Sets the slots of an instrument in the hart's bank.
+    pub fn arm(&mut self, instrument: &Placed)
+        ensures { self.new ≡ armed_now instrument.now self.old }
+    {
+        set_variables(self.bank.as_mut_slice(), instrument, self.ticks);
+    }
+
+    /// The reading of an instrument.
+    pub fn read(&self, instrument: &Placed) -> u64
+        ensures { result ≡ reading instrument.now self.now }
+    {
+        read_first(&self.bank, instrument, self.ticks)
     }
 
     /// One turn of a hart that isn't stopped. It answers whether the turn is a tick, and takes no memory.

@@ -4,12 +4,15 @@
 
 mod block_list;
 mod hart;
+mod instruments;
 mod laws;
 mod machine;
 mod patching;
 mod performing;
 mod settling;
+mod slots;
 
+pub use instruments::Sample;
 pub use laws::{
     arming_sets, erasure, first_turns, leaves_soon, levels_go_on, loop_counted, measures_add,
     readings_measure, replays_go_on,

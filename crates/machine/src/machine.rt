@@ -77,12 +77,7 @@ fn first_harts(alloc: Global, image: &Image, harts: u32) -> Result<Vec<HartState
 impl Machine {
     /// The machine in which an image starts, on so many harts and with so many ticks for each. It has no block, and no room for
     /// one. No word of the text may name x31, which is the tool's.
-    pub fn new(
-        alloc: Global,
-        image: &Image,
-        harts: u32,
-        budget: u64,
-    ) -> Result<Machine, NoMemory>
+    pub fn new(alloc: Global, image: &Image, harts: u32, budget: u64) -> Result<Machine, NoMemory>
         requires image { IsImage image.now }
         requires unscratched { scratch_in (words_of (text_of image.now)) image.now.text_at ≡ None }
         requires harts { harts ≤ MAX_HARTS }

@@ -76,13 +76,7 @@ fn load(
 
 /// A store to a doubleword of the bank.
 #[inline(always)]
-fn store(
-    value: u64,
-    at: u64,
-    pc: &mut u64,
-    stop: &mut Option<Cause>,
-    bank: &mut [u64],
-) -> bool
+fn store(value: u64, at: u64, pc: &mut u64, stop: &mut Option<Cause>, bank: &mut [u64]) -> bool
     requires bank { length bank.old ≡ bank_len }
     requires stop { stop.old ≡ None }
     ensures goes { result ≡ is_none stop.new }

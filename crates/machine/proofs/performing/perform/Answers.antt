@@ -1,4 +1,4 @@
-use Rattle.std.proofs.Common.{◌≡◌, sym, subst}
+use Rattle.std.proofs.Common.{subst}
 use Rattle.rv_word.specs.Exec.{prog_of}
 use Rattle.code_store.specs.Operations.{IsOperationOf}
 use Rattle.machine.proofs.Performed.{runs}

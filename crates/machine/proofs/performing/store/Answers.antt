@@ -1,6 +1,6 @@
-use Rattle.std.proofs.Common.{◌≡◌, ◌<◌, ◌≤◌, ◌∙◌, refl, sym, ap, subst, length, arith}
+use Rattle.std.proofs.Common.{◌∙◌, refl, arith}
 use Rattle.tramp_spec.specs.Banks.{bank_len}
-use Rattle.machine.specs.Performing.{bench_from, stood_after}
+use Rattle.machine.specs.Performing.{bench_from}
 use Rattle.machine.proofs.Banked.{bank_small, not_stored, is_stored}
 use Rattle.machine.proofs.performing.store.Goals as goal
 

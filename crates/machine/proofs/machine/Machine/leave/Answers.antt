@@ -1,5 +1,4 @@
-use Rattle.std.proofs.Common.{◌≡◌, ◌+◌, ◌-◌, ◌<◌, List, suc, ◌∙◌, refl, sym, ap, subst, length, arith, inl, inr}
-use Rattle.machine.specs.Cores.{Core}
+use Rattle.std.proofs.Common.{◌≡◌, ◌+◌, ◌-◌, List, suc, ◌∙◌, sym, ap, subst, length, arith, inl, inr}
 use Rattle.machine.specs.Events.{Event}
 use Rattle.machine.specs.Replays.{owns, replay}
 use Rattle.machine.specs.States.{Machine, leaving}

@@ -1,12 +1,11 @@
-use Rattle.std.proofs.Common.{◌≡◌, ◌<◌, ◌^◌, ◌∙◌, List, Option, ℕ, refl, sym, ap, subst, arith}
+use Rattle.std.proofs.Common.{◌≡◌, ◌<◌, ◌^◌, List, refl, sym, subst}
 use Rattle.std.specs.Prelude.{map}
 use Rattle.std.specs.List.{AllByRecursion}
 use Rattle.rv_word.specs.Exec.{Prog, prog_of}
-use Rattle.rv_word.specs.Memory.{Memory}
 use Rattle.rv_exec.specs.Start.{start, harts_from}
 use Rattle.tramp_spec.specs.Harts.{Hart}
 use Rattle.code_store.specs.Stores.{StoredCode, first_code}
-use Rattle.machine.specs.Cores.{Row, first_hart}
+use Rattle.machine.specs.Cores.{first_hart}
 use Rattle.machine.specs.Laws.{IsProgram}
 use Rattle.machine.specs.Views.{BlockList, IsSound}
 use Rattle.machine.proofs.Firsts.{first_sound}

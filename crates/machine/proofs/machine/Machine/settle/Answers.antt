@@ -1,9 +1,8 @@
 use Rattle.std.proofs.Common.{◌≡◌, ◌+◌, ◌*◌, ◌<◌, ◌≤◌, ◌∙◌, sym, ap, subst, length, arith}
-use Rattle.pn_types.specs.declared.limits.TheConstants.{MAX_HARTS, TOOL_TEXT_LEN}
+use Rattle.pn_types.specs.declared.limits.TheConstants.{TOOL_TEXT_LEN}
 use Rattle.rv_word.specs.Exec.{prog_of}
 use Rattle.machine.specs.Events.{IsQuiet}
 use Rattle.machine.specs.Replays.{owns, replay}
-use Rattle.machine.specs.Reached.{IsReached}
 use Rattle.machine.specs.States.{Machine, leaving, settling, with_core, words_in}
 use Rattle.machine.specs.Views.{core_of}
 use Rattle.machine.proofs.Packing.{few_words}

@@ -1,7 +1,6 @@
 use Rattle.std.proofs.Common.{◌≡◌, ◌<◌, ◌∙◌, sym, ap, subst, length, get_or, set}
 use Rattle.std.specs.Prelude.{IsTrue, Some, slice_get}
 use Rattle.rv_word.specs.Exec.{prog_of}
-use Rattle.tramp_spec.specs.Harts.{Hart}
 use Rattle.machine.specs.Cores.{Core}
 use Rattle.machine.specs.Effects.{after}
 use Rattle.machine.specs.Events.{Turn}
