@@ -147,6 +147,7 @@ impl Machine {
         requires runnable { IsTrue (is_runnable self.old.core hart) }
         ensures turned { self.new ≡ with_core self.old (after self.old.core (Turn hart)) }
         ensures tick { result ≡ ticks_next self.old.core hart }
+        ensures harts { length self.new.core.harts ≡ length self.old.core.harts }
     {
         self.harts[hart.get() as usize].take_turn(
             hart,

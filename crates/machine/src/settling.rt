@@ -14,6 +14,7 @@ impl Machine {
         ensures settled { self.new ≡ with_core self.old (replay (settling self.old.core) self.old.core) }
         ensures counted { result + length (owns (settling self.old.core) self.old.core) ≡ length (settling self.old.core) }
         ensures quiet { IsQuiet self.new.core }
+        ensures harts { length self.new.core.harts ≡ length self.old.core.harts }
     {
         let most = self.blocks.words();
         let mut count = 0;

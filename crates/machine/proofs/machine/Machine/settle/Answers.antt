@@ -65,3 +65,6 @@ returns-clause-quiet c =
     let all : length c.args.self.now.core.harts ≤ c.loop-hart.hart = (let l = c.loop-hart-test.false in let all = c.len-hart-end.ensures in let view = ap (λ (m : Machine). length m.core.harts) c.self.view_is in omega arith) in
     let is = (settling_end c.words-most.result c.loop-hart.count c.loop-hart.hart c.args.self.now c.loop-hart.self c.loop-hart.invariant all).0 in
     subst (λ (m : Machine). IsQuiet m.core) (sym is) (subst (λ (m : Machine). IsQuiet (replay (settling m.core) m.core)) c.self.view_is (settled_quiet (core_of s.harts.items (prog_of s.mem s.resv s.out) s.store s.blocks.rows s.budget) c.self.invariant.reached))
+
+pub returns-clause-harts : goal.returns-clause-harts
+returns-clause-harts c = c.loop-hart.invariant.many

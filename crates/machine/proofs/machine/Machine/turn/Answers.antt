@@ -1,5 +1,6 @@
 use Rattle.std.proofs.Common.{◌≡◌, ◌<◌, ◌∙◌, sym, ap, subst, length, get_or, set}
 use Rattle.std.specs.Prelude.{IsTrue, Some, slice_get}
+use Rattle.std.proofs.lemmas.List.{length-set}
 use Rattle.rv_word.specs.Exec.{prog_of}
 use Rattle.machine.specs.Cores.{Core}
 use Rattle.machine.specs.Effects.{after}
@@ -64,3 +65,8 @@ returns-clause-tick c =
     let l : h < length s.harts.items = subst (λ (m : Machine). h < length m.core.harts) (sym c.self.view_is) c.requires.hart in
     let ex : slice_get s.harts.items h ≡ Some x = element s.harts.items h x l (c.index_mut.ensures.value ∙ ap (λ i. get_or s.harts.items i x) c.get.ensures.number) in
     c.take_turn.ensures.tick ∙ (ap (λ o. ticks_by o (core_of s.harts.items (prog_of s.mem s.resv s.out) s.store s.blocks.rows s.budget)) (sym ex) ∙ ap (λ (m : Machine). ticks_next m.core h) c.self.view_is)
+
+pub returns-clause-harts : goal.returns-clause-harts
+returns-clause-harts c =
+    let s = c.self.inside in
+    length-set s.harts.items c.get.result c.take_turn.new.self ∙ ap (λ (m : Machine). length m.core.harts) c.self.view_is
