@@ -6,3 +6,4 @@ pub mod Ties
 pub mod Doings
 pub mod Booked
 pub mod Steps
+pub mod Keeping
