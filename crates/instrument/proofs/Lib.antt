@@ -7,3 +7,6 @@ pub mod Doings
 pub mod Booked
 pub mod Steps
 pub mod Keeping
+pub mod Force
+pub mod Off
+pub mod Neats

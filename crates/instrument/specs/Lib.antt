@@ -1,2 +1,7 @@
 pub mod Books
 pub mod Handing
+pub mod Fits
+pub mod Admission
+pub mod Placements
+pub mod Scenes
+pub mod Laws
