@@ -194,12 +194,12 @@ splits before (e ∷ es) f q = by e q (splits (before ++ e ∷ []) es f)
 
 -- ---- when a Free may be done
 
-any_in : {A : Type 0} (p : A → Bool) (xs : List A) (x : A) → In x xs → p x ≡ true → list_any p xs ≡ true
+pub any_in : {A : Type 0} (p : A → Bool) (xs : List A) (x : A) → In x xs → p x ≡ true → list_any p xs ≡ true
 any_in p [] x h e = absurd h
 any_in p (y ∷ ys) x (inl i) e = or_left (p y) (list_any p ys) (ap p (sym i) ∙ e)
 any_in p (y ∷ ys) x (inr h) e = or_right (p y) (list_any p ys) (any_in p ys x h e)
 
-get_in : {A : Type 0} (xs : List A) (i : ℕ) (x : A) → slice_get xs i ≡ Some x → In x xs
+pub get_in : {A : Type 0} (xs : List A) (i : ℕ) (x : A) → slice_get xs i ≡ Some x → In x xs
 get_in [] i x e = absurd cc
 get_in (y ∷ ys) zero x e = let z : y ≡ x = cc in inl (sym z)
 get_in (y ∷ ys) (suc i) x e = inr (get_in ys i x e)

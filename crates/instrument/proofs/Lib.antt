@@ -10,3 +10,6 @@ pub mod Keeping
 pub mod Force
 pub mod Off
 pub mod Neats
+pub mod MovedLens
+pub mod Fitting
+pub mod Siting

@@ -51,7 +51,7 @@ neat_left : (o : Option Room) (q : ℕ) (xs : List Room) → Neat xs → Neat (r
 neat_left (Some o) q xs n = n
 neat_left None q xs n = neat_hold (base_leaves q) xs n
 
-neat_more : (xs ys : List Room) → Neat xs → Neat ys → ((x y : Room) → In x xs → In y ys → Apart x.at x.len y.at y.len) → Neat (xs ++ ys)
+pub neat_more : (xs ys : List Room) → Neat xs → Neat ys → ((x y : Room) → In x xs → In y ys → Apart x.at x.len y.at y.len) → Neat (xs ++ ys)
 neat_more xs ys n m f = record {
   apart = subst AllApart (sym (map_append room_row xs ys)) (apart_append (map room_row xs) (map room_row ys) n.apart m.apart
       (λ a b ha hb. let x = in_map room_row xs a ha in let y = in_map room_row ys b hb in
