@@ -223,11 +223,11 @@ step_spares p m (Dropped x) st k can l h n =
           (held_on p m (mini_leaves x.at) st.book.rooms h (other_leaves x h.x (λ i. n (i ∙ h.at))));
     }
 step_spares p m Handed st k can l h n =
-    handed (Sparing p m) st k (record { events = tt; linked = l; held = h }) (λ q es w. record { events = tt; linked = l; held = h })
-    (λ w e es b f. entry_spares p m st.core w.plain w.inv w.fr w.tied st.book.rooms l h e es b f st refl refl)
+    handed (Sparing p m) st k (record { events = tt; linked = l; held = h }) (λ q es w sub. record { events = tt; linked = l; held = h })
+    (λ w e es b f sub. entry_spares p m st.core w.plain w.inv w.fr w.tied st.book.rooms l h e es b f st refl refl)
 step_spares p m Swept st k can l h n =
     swept (Sparing p m) st k can (record { events = tt; linked = l; held = h })
-    (λ w e es b f. entry_spares p m st.core w.plain w.inv w.fr w.tied st.book.rooms l h e es b f st refl refl)
+    (λ w e es b f sub. entry_spares p m st.core w.plain w.inv w.fr w.tied st.book.rooms l h e es b f st refl refl)
 
 spared_more : (p m : ℕ) (xs ys : List Event) → AllSpared p m xs → AllSpared p m ys → AllSpared p m (xs ++ ys)
 spared_more p m [] ys a b = b

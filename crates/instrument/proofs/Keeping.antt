@@ -24,7 +24,7 @@ use Rattle.instrument.specs.declared.room.Hold.{Hold}
 use Rattle.instrument.specs.declared.room.Hold.TheVariants.{Held, Leaving, Unlinked}
 use Rattle.instrument.specs.declared.room.Room.{Room}
 use Rattle.instrument.proofs.Stages.{block_row, is_now, Fresh, Idle, Ready, Stage, stage, puts, pending, next, Sound, ending, AllApart, is_other_mini, is_other_base, is_held_room, room_row, standing, rooms_done}
-use Rattle.instrument.proofs.Folds.{append_assoc, in_append, append_left, apart_across, append_nil, filter_filter, find_filter}
+use Rattle.instrument.proofs.Folds.{append_assoc, in_append, append_left, append_right, apart_across, append_nil, filter_filter, find_filter}
 use Rattle.instrument.proofs.Claims.{Sized, sized_of}
 use Rattle.instrument.proofs.Rows.{same_row, base_of, pending_at}
 use Rattle.instrument.proofs.Ties.{Tied}
@@ -261,41 +261,53 @@ to_front t rows fr rooms agenda f q b =
 pub to_back : (t : Words) (rows : List Row) (fr : Fresh) (rooms : List Room) (p : ℕ) (es : List Entry) → Booked t rows fr rooms (Free p ∷ es) → Booked t rows fr rooms (es ++ Free p ∷ [])
 to_back t rows fr rooms p es b = give_free t rows fr rooms es [] p (subst (Booked t rows fr rooms) (sym (append_nil es)) (take_free t rows fr rooms [] es p b))
 
--- by the entry that is handed out, whatever is to be shown of what it leads to
-pub handed : (P : Out → Type 0) (st : State) → Kept st → P (out [] st)
-    → ((p : ℕ) (es : List Entry) → Kept (record { core = st.core; book = a_book st.book.rooms (es ++ Free p ∷ []) }) → P (out [] (record { core = st.core; book = a_book st.book.rooms (es ++ Free p ∷ []) })))
-    → ((k : Kept st) (e : Entry) (es : List Entry) → Booked st.core.program st.core.rows k.fr st.book.rooms (e ∷ es) → ((p : ℕ) → e ≡ Free p → May st.core (events.Free p)) → P (done e es st))
-    → P (hand st.book.agenda st)
-handed P st k none refused f = at_front st.book.agenda k.book
+-- what is to be shown where an entry is done, whether it was the first one or a Free behind others
+abbrev pub Doing : (Out → Type 0) → State → Type 0
+Doing P st =
+    (k : Kept st) (e : Entry) (es : List Entry) → Booked st.core.program st.core.rows k.fr st.book.rooms (e ∷ es) → ((p : ℕ) → e ≡ Free p → May st.core (events.Free p))
+    → ((z : Entry) → In z (e ∷ es) → In z st.book.agenda) → P (done e es st)
+
+-- and where a Free is put back
+abbrev pub Refusing : (Out → Type 0) → State → Type 0
+Refusing P st =
+    (p : ℕ) (es : List Entry) → Kept (record { core = st.core; book = a_book st.book.rooms (es ++ Free p ∷ []) }) → ((z : Entry) → In z (Free p ∷ es) → In z st.book.agenda)
+    → P (out [] (record { core = st.core; book = a_book st.book.rooms (es ++ Free p ∷ []) }))
+
+pub handed : (P : Out → Type 0) (st : State) → Kept st → P (out [] st) → Refusing P st → Doing P st → P (hand st.book.agenda st)
+handed P st k none refused f = at_front st.book.agenda k.book (λ z h. h)
   where
-    doing : (e : Entry) (es : List Entry) → ((p : ℕ) → e ≡ Free p → ⊥) → Booked st.core.program st.core.rows k.fr st.book.rooms (e ∷ es) → P (done e es st)
-    doing e es g b = f k e es b (no_free st.core e g)
+    doing : (e : Entry) (es : List Entry) → ((p : ℕ) → e ≡ Free p → ⊥) → Booked st.core.program st.core.rows k.fr st.book.rooms (e ∷ es) → ((z : Entry) → In z (e ∷ es) → In z st.book.agenda) → P (done e es st)
+    doing e es g b sub = f k e es b (no_free st.core e g) sub
 
-    at_free : (p : ℕ) (es : List Entry) (o : Bool) → is_barred st.core p ≡ o → Booked st.core.program st.core.rows k.fr st.book.rooms (Free p ∷ es) → P (release o p es st)
-    at_free p es false e b = f k (Free p) es b (free_is st.core p (unbarred st.core p e))
-    at_free p es true e b = refused p es (record { plain = k.plain; inv = k.inv; fr = k.fr; tied = k.tied; book = to_back st.core.program st.core.rows k.fr st.book.rooms p es b })
+    at_free : (p : ℕ) (es : List Entry) (o : Bool) → is_barred st.core p ≡ o → Booked st.core.program st.core.rows k.fr st.book.rooms (Free p ∷ es) → ((z : Entry) → In z (Free p ∷ es) → In z st.book.agenda) → P (release o p es st)
+    at_free p es false e b sub = f k (Free p) es b (free_is st.core p (unbarred st.core p e)) sub
+    at_free p es true e b sub = refused p es (record { plain = k.plain; inv = k.inv; fr = k.fr; tied = k.tied; book = to_back st.core.program st.core.rows k.fr st.book.rooms p es b }) sub
 
-    at_entry : (e : Entry) (es : List Entry) → Booked st.core.program st.core.rows k.fr st.book.rooms (e ∷ es) → P (hand_entry e es st)
-    at_entry (Free p) es b = at_free p es (is_barred st.core p) refl b
-    at_entry (WriteBase d) es b = doing (WriteBase d) es (λ q i. absurd cc) b
-    at_entry (WriteMini d) es b = doing (WriteMini d) es (λ q i. absurd cc) b
-    at_entry (LinkMini p m) es b = doing (LinkMini p m) es (λ q i. absurd cc) b
-    at_entry (LinkPoint p at) es b = doing (LinkPoint p at) es (λ q i. absurd cc) b
-    at_entry (UnlinkMini p m) es b = doing (UnlinkMini p m) es (λ q i. absurd cc) b
-    at_entry (UnlinkPoint p at) es b = doing (UnlinkPoint p at) es (λ q i. absurd cc) b
+    at_entry : (e : Entry) (es : List Entry) → Booked st.core.program st.core.rows k.fr st.book.rooms (e ∷ es) → ((z : Entry) → In z (e ∷ es) → In z st.book.agenda) → P (hand_entry e es st)
+    at_entry (Free p) es b sub = at_free p es (is_barred st.core p) refl b sub
+    at_entry (WriteBase d) es b sub = doing (WriteBase d) es (λ q i. absurd cc) b sub
+    at_entry (WriteMini d) es b sub = doing (WriteMini d) es (λ q i. absurd cc) b sub
+    at_entry (LinkMini p m) es b sub = doing (LinkMini p m) es (λ q i. absurd cc) b sub
+    at_entry (LinkPoint p at) es b sub = doing (LinkPoint p at) es (λ q i. absurd cc) b sub
+    at_entry (UnlinkMini p m) es b sub = doing (UnlinkMini p m) es (λ q i. absurd cc) b sub
+    at_entry (UnlinkPoint p at) es b sub = doing (UnlinkPoint p at) es (λ q i. absurd cc) b sub
 
-    at_front : (es : List Entry) → Booked st.core.program st.core.rows k.fr st.book.rooms es → P (hand es st)
-    at_front [] b = none
-    at_front (e ∷ es) b = at_entry e es b
+    at_front : (es : List Entry) → Booked st.core.program st.core.rows k.fr st.book.rooms es → ((z : Entry) → In z es → In z st.book.agenda) → P (hand es st)
+    at_front [] b sub = none
+    at_front (e ∷ es) b sub = at_entry e es b sub
 
-pub swept : (P : Out → Type 0) (st : State) → Kept st → IsQuiet st.core → P (out [] st)
-    → ((k : Kept st) (e : Entry) (es : List Entry) → Booked st.core.program st.core.rows k.fr st.book.rooms (e ∷ es) → ((p : ℕ) → e ≡ Free p → May st.core (events.Free p)) → P (done e es st))
-    → P (sweep (first_free [] st.book.agenda) st)
+pub swept : (P : Out → Type 0) (st : State) → Kept st → IsQuiet st.core → P (out [] st) → Doing P st → P (sweep (first_free [] st.book.agenda) st)
 swept P st k q none f = at_found (first_free [] st.book.agenda) refl
   where
+    sub : (g : FoundFree) → Split g st.book.agenda → (z : Entry) → In z (Free g.point ∷ g.rest) → In z st.book.agenda
+    sub g w z (inl i) = subst (λ l. In z l) (sym w.2) (append_right w.0 (Free g.point ∷ w.1) z (inl i))
+    sub g w z (inr h) = subst (λ l. In z l) (sym w.2) (⊎_elim (λ i. append_left w.0 (Free g.point ∷ w.1) z i) (λ i. append_right w.0 (Free g.point ∷ w.1) z (inr i)) (in_append w.0 w.1 z (subst (λ l. In z l) w.3 h)))
+
     at_found : (o : Option FoundFree) → first_free [] st.book.agenda ≡ o → P (sweep o st)
     at_found None e = none
-    at_found (Some g) e = f k (Free g.point) g.rest (to_front st.core.program st.core.rows k.fr st.book.rooms st.book.agenda g (splits [] st.book.agenda g e) k.book) (free_is st.core g.point (quiet st.core g.point q))
+    at_found (Some g) e =
+        let w = splits [] st.book.agenda g e in
+        f k (Free g.point) g.rest (to_front st.core.program st.core.rows k.fr st.book.rooms st.book.agenda g w k.book) (free_is st.core g.point (quiet st.core g.point q)) (sub g w)
 
 pub step_keeps : (a : Step) (st : State) → Kept st → Can a st → Goes st (does a st)
 step_keeps (Happened e) st k m =
@@ -330,11 +342,11 @@ step_keeps (Dropped x) st k m =
       kept = record { plain = k.plain; inv = k.inv; fr = k.fr; tied = k.tied; book = dropped st.core.program st.core.rows k.fr st.book.rooms st.book.agenda k.book x m.0 m.1 (ap is_held m.2) };
     }
 step_keeps Handed st k m =
-    handed (Goes st) st k (record { legal = tt; core = refl; kept = k }) (λ p es w. record { legal = tt; core = refl; kept = w })
-    (λ w e es b f. goes_done st e es (entry_kept st.core w.plain w.inv w.fr w.tied st.book.rooms e es b f))
+    handed (Goes st) st k (record { legal = tt; core = refl; kept = k }) (λ p es w sub. record { legal = tt; core = refl; kept = w })
+    (λ w e es b f sub. goes_done st e es (entry_kept st.core w.plain w.inv w.fr w.tied st.book.rooms e es b f))
 step_keeps Swept st k m =
     swept (Goes st) st k m (record { legal = tt; core = refl; kept = k })
-    (λ w e es b f. goes_done st e es (entry_kept st.core w.plain w.inv w.fr w.tied st.book.rooms e es b f))
+    (λ w e es b f sub. goes_done st e es (entry_kept st.core w.plain w.inv w.fr w.tied st.book.rooms e es b f))
 
 -- ---- all steps
 

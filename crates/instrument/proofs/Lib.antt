@@ -13,3 +13,6 @@ pub mod Neats
 pub mod MovedLens
 pub mod Fitting
 pub mod Siting
+pub mod Bodies
+pub mod Promises
+pub mod Admissions

@@ -59,7 +59,7 @@ neat_more xs ys n m f = record {
   sized = λ x h. ⊎_elim (λ i. n.sized x i) (λ i. m.sized x i) (in_append xs ys x h);
 }
 
-neat_new : (owner : ℕ) (t : Words) (rooms : List Room) (m : Block) → GoodMini t m → ((x : Room) → In x rooms → Apart x.at x.len m.at (length m.words)) → (o : Option Block) → SiteFits t rooms o m → Neat rooms → Neat (rooms ++ rooms_of o owner m)
+pub neat_new : (owner : ℕ) (t : Words) (rooms : List Room) (m : Block) → GoodMini t m → ((x : Room) → In x rooms → Apart x.at x.len m.at (length m.words)) → (o : Option Block) → SiteFits t rooms o m → Neat rooms → Neat (rooms ++ rooms_of o owner m)
 neat_new owner t rooms m g free None f n = neat_more rooms (mini_room owner m ∷ []) n
     (record { apart = ((λ y h. absurd h), tt); sized = λ x h. ⊎_elim (λ (i : x ≡ mini_room owner m). subst (λ (u : Room). (0 < u.len) × (u.at % 4 ≡ 0)) (sym i) (g.some, g.aligned)) (λ i. absurd i) h })
     (λ x y hx hy. ⊎_elim (λ i. subst (λ (u : Room). Apart x.at x.len u.at u.len) (sym i) (free x hx)) (λ i. absurd i) hy)
@@ -86,8 +86,8 @@ neat_step (Happened e) st k c n = n
 neat_step (Admitted owner b) st k c n = neat_new owner st.core.program st.book.rooms b.mini c.good c.free b.base c.fits n
 neat_step (Dropped x) st k c n =
     neat_left (find (is_mini_of x.point) (map (with_hold (mini_leaves x.at)) st.book.rooms)) x.point (map (with_hold (mini_leaves x.at)) st.book.rooms) (neat_hold (mini_leaves x.at) st.book.rooms n)
-neat_step Handed st k c n = handed (λ o. Neat o.state.book.rooms) st k n (λ p es w. n) (λ w e es b f. neat_after e st.book.rooms n)
-neat_step Swept st k c n = swept (λ o. Neat o.state.book.rooms) st k c n (λ w e es b f. neat_after e st.book.rooms n)
+neat_step Handed st k c n = handed (λ o. Neat o.state.book.rooms) st k n (λ p es w sub. n) (λ w e es b f sub. neat_after e st.book.rooms n)
+neat_step Swept st k c n = swept (λ o. Neat o.state.book.rooms) st k c n (λ w e es b f sub. neat_after e st.book.rooms n)
 
 -- sites that are dropped one after another
 abbrev pub Site : State → Room → Type 0
