@@ -16,3 +16,7 @@ pub mod Siting
 pub mod Bodies
 pub mod Promises
 pub mod Admissions
+pub mod Under
+pub mod Lettings
+pub mod Wholes
+pub mod Hands

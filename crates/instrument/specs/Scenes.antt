@@ -73,9 +73,9 @@ abbrev pub hands : Option Entry → Scene → Told
 hands None s = told [] s.core s.placer s
 hands (Some e) s = hands_by (freed_point e) e s
 
-abbrev pub sweeps : Option ℕ → Scene → Told
-sweeps None s = told [] s.core s.placer s
-sweeps (Some point) s = frees false point (free_behind s.placer) s
+abbrev pub sweeps : Option ℕ → Placements → Scene → Told
+sweeps None placer s = told [] s.core placer s
+sweeps (Some point) placer s = frees false point placer s
 
 abbrev pub does : Act → Scene → Told
 does (Happens e) s = told (e ∷ []) (after s.core e) s.placer s
@@ -83,7 +83,7 @@ does (Admits plan cost) s = admits plan (admission s.placer plan cost) s
 does (Arms n) s = arms (instrument_at s.placer n) s
 does (Drops n) s = told [] s.core (dropped n s.placer) s
 does Hands s = hands (front s.placer) s
-does Sweeps s = sweeps (free_front s.placer) s
+does Sweeps s = sweeps (free_front s.placer) (free_behind s.placer) s
 
 -- ---- conditions
 
