@@ -203,7 +203,7 @@ spares_still p m (events.LinkPoint q) l = absurd l
 spares_still p m (events.UnlinkPoint q) l = absurd l
 spares_still p m (events.Free q) l = absurd l
 
-linked_still : (c d : Core) (p m : ℕ) → d.rows ≡ c.rows → LinkedSite c p m → LinkedSite d p m
+pub linked_still : (c d : Core) (p m : ℕ) → d.rows ≡ c.rows → LinkedSite c p m → LinkedSite d p m
 linked_still c d p m e l =
     let y = l.mini in
     record {

@@ -132,9 +132,9 @@ pub record ByStep (s : Scene) (a : Step) (t : Told) : Type 0 where
   pub sub : (i : Instrument) → In i t.scene.placer.instruments → In i s.placer.instruments
   pub here : (i : Instrument) → In i s.placer.instruments → (x : Room) → In x t.scene.placer.book.rooms → x.base ≡ false → x.owner ≡ i.no → In i t.scene.placer.instruments
 
--- an event of the machine by itself lets every instrument be
-abbrev pub AllStepLet : Step → Type 0
-AllStepLet a = (i : Instrument) → StepLets i.placed a
+-- an event of the machine by itself lets every instrument that is armed be
+abbrev pub AllStepLet : Scene → Step → Type 0
+AllStepLet s a = (i : Instrument) → In i s.placer.instruments → i.state ≡ Armed → StepLets i.placed a
 
 armed_stays : (i : Instrument) → i.state ≡ Armed → is_leaving i.state ≡ false
 armed_stays i e = ap is_leaving e
@@ -146,7 +146,7 @@ leaves_any m (Dropped x) p = absurd p
 leaves_any m Handed p = tt
 leaves_any m Swept p = tt
 
-pub by_step : (first : Core) (s : Scene) (es : List Event) (w : Whole first s es) (a : Step) (t : Told) → IsPlain a → Can a (at_of s) → AllStepLet a → ByStep s a t → Whole first t.scene (es ++ t.events)
+pub by_step : (first : Core) (s : Scene) (es : List Event) (w : Whole first s es) (a : Step) (t : Told) → IsPlain a → Can a (at_of s) → AllStepLet s a → ByStep s a t → Whole first t.scene (es ++ t.events)
 by_step first s es w a t p c l b =
     let st = at_of s in
     let g = step_keeps a (at_of s) w.kept c in
@@ -166,7 +166,7 @@ by_step first s es w a t p c l b =
       force = λ i h e.
           still_force i.placed es t.events first (w.force i (b.sub i h) e)
           (subst (λ u. lets.AllLet i.placed u) (sym b.events) (all_lets i.placed (does a (at_of s)).events
-          (step_lets i.placed a (at_of s) w.kept c (none_names (at_of s) s.placer.instruments s.plans s.placer.count w.orderly w.kept i (b.sub i h) (armed_stays i e) (w.linked i (b.sub i h) e)) (l i))
+          (step_lets i.placed a (at_of s) w.kept c (none_names (at_of s) s.placer.instruments s.plans s.placer.count w.orderly w.kept i (b.sub i h) (armed_stays i e) (w.linked i (b.sub i h) e)) (l i (b.sub i h) e))
           (λ q hq. (spares i h e q hq).events)));
     }
   where
@@ -181,7 +181,7 @@ the_scene : Core → Words → ℕ → List Room → List Entry → List Instrum
 the_scene core program limit rooms agenda instruments count plans =
     record { core = core; placer = record { program = program; limit = limit; book = record { rooms = rooms; agenda = agenda }; instruments = instruments; count = count }; plans = plans }
 
-left_here : (rooms : List Room) (instruments : List Instrument) (i : Instrument) → In i instruments → (x : Room) → In x rooms → x.base ≡ false → x.owner ≡ i.no → In i (filter (is_here rooms) instruments)
+pub left_here : (rooms : List Room) (instruments : List Instrument) (i : Instrument) → In i instruments → (x : Room) → In x rooms → x.base ≡ false → x.owner ≡ i.no → In i (filter (is_here rooms) instruments)
 left_here rooms instruments i h x hx b e =
     filter_in (is_here rooms) instruments i h
     (or_right (not (is_leaving i.state)) _ (any_in (is_mini_room_of i.no) rooms x hx (and_from _ _ (not_from_false _ b) (eq-eqb _ _ e))))
@@ -246,10 +246,10 @@ module _ (core : Core) (program : Words) (limit : ℕ) (rooms : List Room) (inst
 
 pub hands_whole : (first : Core) (s : Scene) (es : List Event) → Whole first s es → Whole first (scenes.does Hands s).scene (es ++ (scenes.does Hands s).events)
 hands_whole first s es w =
-    by_step first s es w Handed (scenes.does Hands s) tt tt (λ i. tt)
+    by_step first s es w Handed (scenes.does Hands s) tt tt (λ i h e. tt)
     (hand_by s.core s.placer.program s.placer.limit s.placer.book.rooms s.placer.instruments s.placer.count s.plans s.placer.book.agenda)
 
 pub sweeps_whole : (first : Core) (s : Scene) (es : List Event) → Whole first s es → events.IsQuiet s.core → Whole first (scenes.does Sweeps s).scene (es ++ (scenes.does Sweeps s).events)
 sweeps_whole first s es w q =
-    by_step first s es w Swept (scenes.does Sweeps s) tt q (λ i. tt)
+    by_step first s es w Swept (scenes.does Sweeps s) tt q (λ i h e. tt)
     (sweep_free s.core s.placer.program s.placer.limit s.placer.book.rooms s.placer.instruments s.placer.count s.plans s.placer.book.agenda (first_free [] s.placer.book.agenda) refl (λ st. refl))

@@ -20,3 +20,5 @@ pub mod Under
 pub mod Lettings
 pub mod Wholes
 pub mod Hands
+pub mod Armings
+pub mod Droppings
