@@ -22,3 +22,6 @@ pub mod Wholes
 pub mod Hands
 pub mod Armings
 pub mod Droppings
+pub mod Slotting
+pub mod Admitting
+pub mod Lawful

@@ -2,9 +2,11 @@
 #![tactic(auto)]
 
 mod entry;
+mod laws;
 mod number;
 mod room;
 
 pub use entry::Entry;
+pub use laws::{acts_are_legal, armed_stays_in_force, linked_is_placed, rooms_and_slots_apart};
 pub use number::{InstrumentNo, Refused, State};
 pub use room::{Hold, Room};

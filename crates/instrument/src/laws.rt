@@ -1,0 +1,27 @@
+//! What holds of the placer beside the machine.
+
+ghost use Rattle.instrument.specs.Laws.{IsApart, IsLegal, IsPlacedWhenLinked, Scenes, StaysInForce};
+
+/// Take any image whose text is of words of 32 bits that never name x31, and any list of acts: turns and samples, plans that are
+/// admitted or refused, instruments that are armed and dropped, entries that are handed out and done, Frees that are put
+/// back or swept. Each event that is done may happen when it comes, and the machine is what the events make of it.
+pub fn acts_are_legal()
+    ensures { Scenes IsLegal }
+{}
+
+/// Behind any such list no two rooms of blocks that weren't given back share a word, and no two instruments that aren't gone
+/// share a slot.
+pub fn rooms_and_slots_apart()
+    ensures { Scenes IsApart }
+{}
+
+/// Where the machine can arm an instrument that is being placed, no entry of its placing is left in the agenda.
+pub fn linked_is_placed()
+    ensures { Scenes IsPlacedWhenLinked }
+{}
+
+/// An instrument that is armed and wasn't dropped is linked, its mini blocks have the code of its plan, and it was in force all
+/// the time since it was armed.
+pub fn armed_stays_in_force()
+    ensures { Scenes StaysInForce }
+{}
