@@ -1,19 +1,18 @@
 -- The placing of a plan's sites, as a list of steps.
-use Rattle.std.proofs.Common.{◌≡◌, ℕ, List, [], ◌∷◌, ◌++◌, Option, Some, None, Ok, Err, refl, sym, ap, ◌∙◌, subst, ⊎_elim, inl, inr}
-use Rattle.std.specs.Prelude.{map, find, Result}
+use Rattle.std.proofs.Common.{◌≡◌, ℕ, List, [], ◌∷◌, ◌++◌, Some, Ok, Err, refl, sym, ap, ◌∙◌, subst, inl, inr}
+use Rattle.std.specs.Prelude.{map, Result}
 use Rattle.pn_types.specs.declared.plan.Site.{Site}
 use Rattle.rv_word.specs.Plain.{program_word}
 use Rattle.tramp_spec.specs.Bodies.{Harmless}
 use Rattle.tramp_spec.specs.Statements.{body_of}
 use Rattle.machine.specs.Cores.{In}
-use Rattle.machine.specs.Events.{Event}
 use Rattle.machine.specs.Instruments.{body_of_block}
 use Rattle.instrument.specs.Admission.{with_site, with_sites, and_then}
-use Rattle.instrument.specs.Books.{Book, Blocks, is_base_of, with_blocks, rooms_of}
+use Rattle.instrument.specs.Books.{Book, Blocks, with_blocks, rooms_of}
 use Rattle.instrument.specs.declared.number.Refused.{Refused}
 use Rattle.instrument.specs.declared.room.Room.{Room}
 use Rattle.instrument.proofs.Folds.{append_assoc, append_nil}
-use Rattle.instrument.proofs.Steps.{State, Step, Admitted, does, CanAdmit, AllCan, all_events, all_steps}
+use Rattle.instrument.proofs.Steps.{State, Step, Admitted, AllCan, all_events, all_steps}
 use Rattle.instrument.proofs.Neats.{Neat, neat_new}
 use Rattle.instrument.proofs.Siting.{Sited, sited}
 

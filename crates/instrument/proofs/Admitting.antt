@@ -1,27 +1,24 @@
 -- What is kept where a plan is admitted or refused.
 use Rattle.std.proofs.Common.{◌≡◌, ℕ, ◌+◌, ◌<◌, List, [], ◌∷◌, ◌++◌, length, Option, Some, None, Ok, Err, refl, sym, ap, ◌∙◌, subst, arith, ⊎_elim, inl, inr}
 use Rattle.std.specs.Prelude.{map, filter, Bool, true, false, cond, not, Result, nat_le, slice_get, ◌⊎◌, ◌&&◌, ◌==◌}
-use Rattle.std.proofs.lemmas.Bool.{true≢false, cond-true, cond-false, eq-eqb, ne_eqb, and_right, not_from_false}
-use Rattle.pn_types.specs.declared.placed.Placed.{Placed}
+use Rattle.std.proofs.lemmas.Bool.{true≢false, cond-true, cond-false, eq-eqb, ne_eqb}
 use Rattle.pn_types.specs.declared.placed.PlacedSite.{PlacedSite}
 use Rattle.pn_types.specs.declared.plan.Plan.{Plan}
 use Rattle.pn_types.specs.declared.plan.Site.{Site}
 use Rattle.prim_code.proofs.Whole.{statements_work}
-use Rattle.rv_word.specs.Plain.{program_word}
-use Rattle.tramp_spec.specs.Bodies.{Harmless}
-use Rattle.tramp_spec.specs.Slots.{places, places_of, IsSlotOf, ArePlaces, ShareNone}
+use Rattle.tramp_spec.specs.Slots.{places_of, IsSlotOf, ShareNone}
 use Rattle.tramp_spec.specs.Statements.{body_of}
 use Rattle.tramp_spec.specs.declared.block.Block.{Block}
 use Rattle.tramp_spec.specs.declared.mark.MarkedWord.{MarkedWord}
 use Rattle.machine.specs.Cores.{In, Core}
 use Rattle.machine.specs.Events.{Event}
-use Rattle.machine.specs.Instruments.{InForce, body_of_block}
+use Rattle.machine.specs.Instruments.{InForce}
 use Rattle.machine.specs.Replays.{Legal, replay}
 use Rattle.machine.proofs.Lists.{get_append, get_before}
 use Rattle.instrument.specs.Admission.{slot_count, slots_from, with_sites, predicted}
-use Rattle.instrument.specs.Books.{Book, Blocks, is_held, base_room, mini_room, rooms_of}
+use Rattle.instrument.specs.Books.{Book, Blocks, is_held, mini_room, rooms_of}
 use Rattle.instrument.specs.Fits.{slots_for}
-use Rattle.instrument.specs.Placements.{Instrument, Placements, is_leaving, is_mini_room_of, sites_of, slots_taken, is_over, with_instrument, with_slots, admission}
+use Rattle.instrument.specs.Placements.{Instrument, is_leaving, is_mini_room_of, sites_of, slots_taken, is_over, with_instrument, with_slots}
 use Rattle.instrument.specs.Scenes as scenes
 use Rattle.instrument.specs.Scenes.{Scene, Told, admits, IsPlanFor, Admits}
 use Rattle.instrument.specs.declared.number.Refused.{Refused}
@@ -40,7 +37,7 @@ use Rattle.instrument.proofs.Under.{placed_site, sites_append, room_site}
 use Rattle.instrument.proofs.Fitting.{FreeSlots, free_slots}
 use Rattle.instrument.proofs.Slotting.{slots_len, new_places, new_apart}
 use Rattle.instrument.proofs.Hands as hands
-use Rattle.instrument.proofs.Wholes.{SiteHolds, SitesHold, Carried, Orderly, at_of, Whole}
+use Rattle.instrument.proofs.Wholes.{SitesHold, Carried, Orderly, at_of, Whole}
 
 -- ---- the new rooms
 

@@ -1,6 +1,6 @@
 -- What is kept where the machine does something by itself, and where an instrument is armed.
-use Rattle.std.proofs.Common.{◌≡◌, ℕ, ◌<◌, List, [], ◌∷◌, ◌++◌, Option, Some, None, refl, sym, ap, ◌∙◌, subst, ⊎_elim, inl, inr}
-use Rattle.std.specs.Prelude.{map, find, Bool, true, false, cond, not, ◌==◌}
+use Rattle.std.proofs.Common.{◌≡◌, ℕ, ◌<◌, List, [], ◌∷◌, ◌++◌, Some, refl, sym, ap, ◌∙◌, subst, ⊎_elim}
+use Rattle.std.specs.Prelude.{map, find, cond, not, ◌==◌}
 use Rattle.std.proofs.lemmas.Bool.{cases_eq, cond-true, cond-false, eq-eqb, ne_eqb, eqb-true}
 use Rattle.pn_types.specs.declared.placed.Placed.{Placed}
 use Rattle.pn_types.specs.declared.placed.PlacedSite.{PlacedSite}
@@ -11,9 +11,7 @@ use Rattle.machine.specs.Effects.{after}
 use Rattle.machine.specs.Events as events
 use Rattle.machine.specs.Events.{Event, May, MayArm}
 use Rattle.machine.specs.Instruments.{InForce}
-use Rattle.machine.specs.Replays.{Legal, replay}
 use Rattle.machine.proofs.Lists.{in_map, map_in, find_gives}
-use Rattle.instrument.specs.Books.{is_held}
 use Rattle.instrument.specs.Placements.{Instrument, is_leaving, with_state, instrument_at, armed}
 use Rattle.instrument.specs.Placements as placements
 use Rattle.tramp_spec.specs.Slots as slots
@@ -23,7 +21,7 @@ use Rattle.instrument.specs.Scenes.{Scene, Told, told, arms, CanArm, IsTurnOrSam
 use Rattle.instrument.specs.declared.number.State as states
 use Rattle.instrument.specs.declared.number.State.TheVariants.{Placing, Armed}
 use Rattle.instrument.proofs.Steps.{State, Happened, LeavesBlocks}
-use Rattle.instrument.proofs.Force.{LinkedSite, linked_site, linked_still}
+use Rattle.instrument.proofs.Force.{linked_site, linked_still}
 use Rattle.instrument.proofs.Lettings.{StepLets}
 use Rattle.instrument.proofs.Wholes.{Carried, Orderly, SitesHold, at_of, AllLinked, Whole, is_spared}
 use Rattle.instrument.proofs.Hands.{by_step}

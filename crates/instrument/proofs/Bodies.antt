@@ -2,7 +2,7 @@
 use Rattle.std.proofs.Common.{◌≡◌, ℕ, zero, suc, ◌+◌, ◌-◌, ◌*◌, ◌<◌, ◌≤◌, List, [], ◌∷◌, ◌++◌, length, Some, refl, sym, ap, ◌∙◌, subst, arith, ⊎_elim, inl, inr}
 use Rattle.std.specs.Prelude.{map, filter, take, true, false, unwrap_or, ◌⊎◌, ◌&&◌, ◌==◌}
 use Rattle.std.specs.FinMap.{get, insert}
-use Rattle.std.proofs.lemmas.Bool.{true≢false, cond-true, cond-false}
+use Rattle.std.proofs.lemmas.Bool.{true≢false, cond-false}
 use Rattle.std.proofs.lemmas.List.{take_at}
 use Rattle.rv_word.specs.Plain.{Plain, program_word}
 use Rattle.tramp_spec.specs.Blocks.{mini_words}
@@ -11,9 +11,8 @@ use Rattle.tramp_spec.specs.Jumps.{jump_word}
 use Rattle.tramp_spec.specs.Marks.{own, enter, tool}
 use Rattle.tramp_spec.specs.declared.block.Block.{Block}
 use Rattle.tramp_spec.specs.declared.mark.MarkedWord.{MarkedWord}
-use Rattle.machine.specs.Cores.{In, Row, Status, Written, Live, Retired, Core, is_current}
+use Rattle.machine.specs.Cores.{In, Row, Status, Live, Retired, Core, is_current}
 use Rattle.machine.specs.Effects.{with_status, at_set, retired_at, is_kept, mini_linked, mini_unlinked, point_linked, point_unlinked, row_of, after}
-use Rattle.machine.specs.Events as events
 use Rattle.machine.specs.Events.{Apart, current_base, row_at, link_at, next_of}
 use Rattle.machine.specs.Instruments.{words_at, body_in, body_of_block}
 use Rattle.machine.proofs.Lists.{in_map, in_filter, in_snoc, get_other, put_words_other, put_words_stand, Stands}
@@ -21,7 +20,7 @@ use Rattle.machine.proofs.Invariant.{Inv}
 use Rattle.instrument.specs.Handing.{head_of, leading, event_of}
 use Rattle.instrument.specs.declared.entry.Entry.{Entry}
 use Rattle.instrument.specs.declared.entry.Entry.TheVariants.{WriteBase, WriteMini, LinkMini, LinkPoint, UnlinkMini, UnlinkPoint, Free}
-use Rattle.instrument.proofs.Stages.{GoodMini, block_row, is_now, Fresh, stage, puts, Ok, Good}
+use Rattle.instrument.proofs.Stages.{GoodMini, block_row, is_now, Fresh, stage, Ok, Good}
 use Rattle.instrument.proofs.Rows.{body_len, leading_len, rows_apart, row_place, link_place, base_of}
 use Rattle.machine.proofs.Lists as lists
 use Rattle.instrument.proofs.Ties as Ties
@@ -130,9 +129,17 @@ module _ (c : Core) (s : Plain) (v : Inv c s) (fr : Fresh) (t : Tied c.code c.ro
       let l = leading_len b (head_of c.code (current_base c.rows b.point)) g.some in
       let n = body_len b g.some in
       ⊎_elim
-      (λ (i : In r c.rows). inr (r, i, m, refl, body_put c.code b.at (mini_words b.at (body_of_block b) (head_of c.code (current_base c.rows b.point))) r
-      (subst (λ k. Apart r.at r.len b.at k) (sym l) (away r (block_row b false) i (inl refl)))))
-      (λ (i : r ≡ row_of (leading b (head_of c.code (current_base c.rows b.point)))). inl (ap (λ (u : Row). u.at) i,
-      ap (body_in (put_words b.at (mini_words b.at (body_of_block b) (head_of c.code (current_base c.rows b.point))) c.code)) i
-      ∙ body_new c.code b.point b.at (body_of_block b) (head_of c.code (current_base c.rows b.point)) (length (mini_words b.at (body_of_block b) (head_of c.code (current_base c.rows b.point))) - 1) (omega (arith, l, n))))
+      (λ (i : In r c.rows). inr (
+        r,
+        i,
+        m,
+        refl,
+        body_put c.code b.at (mini_words b.at (body_of_block b) (head_of c.code (current_base c.rows b.point))) r
+            (subst (λ k. Apart r.at r.len b.at k) (sym l) (away r (block_row b false) i (inl refl))),
+      ))
+      (λ (i : r ≡ row_of (leading b (head_of c.code (current_base c.rows b.point)))). inl (
+        ap (λ (u : Row). u.at) i,
+        ap (body_in (put_words b.at (mini_words b.at (body_of_block b) (head_of c.code (current_base c.rows b.point))) c.code)) i
+            ∙ body_new c.code b.point b.at (body_of_block b) (head_of c.code (current_base c.rows b.point)) (length (mini_words b.at (body_of_block b) (head_of c.code (current_base c.rows b.point))) - 1) (omega (arith, l, n)),
+      ))
       (in_snoc c.rows (row_of (leading b (head_of c.code (current_base c.rows b.point)))) r h)

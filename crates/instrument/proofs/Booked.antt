@@ -312,8 +312,11 @@ module _ (t : Words) (rows : List Row) (fr : Fresh) (rooms : List Room) (agenda 
             (λ j. ⊎_elim (λ i. (mini_room owner m, inr (inl refl), of_mini r i)) (λ i. absurd i) j) h);
         based = based_more (base_room d ∷ mini_room owner m ∷ []) (λ x h k. ⊎_elim
             (λ (i : x ≡ base_room d). absurd (true≢false (sym (ap (λ (u : Room). u.base) i) ∙ k)))
-            (λ j. ⊎_elim (λ (i : x ≡ mini_room owner m). (base_room d, ap (λ (u : Room). find (is_base_of u.point) (rooms ++ base_room d ∷ mini_room owner m ∷ [])) i
-            ∙ subst (λ q. find (is_base_of q) (rooms ++ base_room d ∷ mini_room owner m ∷ []) ≡ Some (base_room d)) same found_new)) (λ i. absurd i) j) h);
+            (λ j. ⊎_elim (λ (i : x ≡ mini_room owner m). (
+              base_room d,
+              ap (λ (u : Room). find (is_base_of u.point) (rooms ++ base_room d ∷ mini_room owner m ∷ [])) i
+                  ∙ subst (λ q. find (is_base_of q) (rooms ++ base_room d ∷ mini_room owner m ∷ []) ≡ Some (base_room d)) same found_new,
+            )) (λ i. absurd i) j) h);
       }
 
     pub admitted : (o : Option Block) → SiteFits t rooms o m → Booked t rows fr (rooms ++ rooms_of o owner m) (agenda ++ placing o m)

@@ -1,6 +1,6 @@
 -- Rooms that the rows of blocks claim, under changes of statuses.
 use Rattle.std.proofs.Common.{◌≡◌, ℕ, ◌<◌, List, [], ◌∷◌, ◌++◌, length, refl, sym, ap, ◌∙◌, subst, arith, ⊎_elim, inl, inr}
-use Rattle.std.specs.Prelude.{map, filter, Bool, true, false, not, ◌⊎◌, ◌&&◌, ◌==◌}
+use Rattle.std.specs.Prelude.{map, filter, Bool, not, ◌&&◌, ◌==◌}
 use Rattle.std.proofs.lemmas.Bool.{and_parts}
 use Rattle.rv_word.specs.Plain.{Words}
 use Rattle.machine.specs.Cores.{In, Row, Status, Written, is_current}

@@ -1,19 +1,17 @@
 -- What an entry of the agenda does in the machine, where what it needs stands: points, and all entries.
-use Rattle.std.proofs.Common.{◌≡◌, ℕ, List, ◌++◌, Some, None, refl, sym, ap, ◌∙◌, subst, ⊎_elim, inl, inr}
-use Rattle.std.specs.Prelude.{map, filter, Bool, true, false, not, if◌then◌else◌, ◌⊎◌, ◌&&◌, ◌==◌}
+use Rattle.std.proofs.Common.{◌≡◌, ℕ, ◌++◌, Some, refl, sym, ap, ◌∙◌, subst, ⊎_elim}
+use Rattle.std.specs.Prelude.{map, filter, true, false, not, ◌&&◌, ◌==◌}
 use Rattle.std.specs.FinMap.{get, insert}
-use Rattle.std.specs.List.{list_any}
 use Rattle.std.proofs.lemmas.Bool.{true≢false, cases_Bool, cases_eq, cond-true, cond-false, eq-eqb, ne_eqb, eqb-true, and_parts, and_from, and_left, and_right, not_from_false, not_from_true}
 use Rattle.rv_word.specs.Plain.{Plain, program_word}
-use Rattle.tramp_spec.specs.Codes.{Code}
 use Rattle.tramp_spec.specs.Jumps.{jump_word}
 use Rattle.tramp_spec.specs.Marks.{own, enter}
 use Rattle.machine.specs.Cores.{In, Row, Written, Live, Retired, Core, is_current}
 use Rattle.machine.specs.Effects.{with_status, at_set, retired_at, is_kept, point_linked, point_unlinked, mini_linked, mini_unlinked, after}
 use Rattle.machine.specs.Events as events
 use Rattle.machine.specs.Events.{May, current_base, row_at, is_linked, next_of}
-use Rattle.machine.proofs.Lists.{in_map, map_in, in_filter, filter_in, get_same, get_other}
-use Rattle.machine.proofs.Invariant.{Piece, the_row, IsBase, Door, Inv}
+use Rattle.machine.proofs.Lists.{in_map, in_filter, filter_in, get_same, get_other}
+use Rattle.machine.proofs.Invariant.{Piece, IsBase, Door, Inv}
 use Rattle.machine.proofs.Homes.{row_in}
 use Rattle.machine.proofs.Points.{at_hit, at_miss}
 use Rattle.instrument.specs.Books.{is_unlinked, unlinked_at, stays}

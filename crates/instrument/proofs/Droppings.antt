@@ -1,10 +1,9 @@
 -- What is kept where an instrument is dropped.
-use Rattle.std.proofs.Common.{◌≡◌, ℕ, ◌<◌, List, [], ◌∷◌, ◌++◌, refl, sym, ap, ◌∙◌, subst, ⊎_elim, inl, inr}
+use Rattle.std.proofs.Common.{◌≡◌, ℕ, ◌<◌, List, [], ◌∷◌, ◌++◌, refl, sym, ap, ◌∙◌, subst, ⊎_elim}
 use Rattle.std.specs.Prelude.{map, filter, find, Bool, true, false, cond, not, ◌||◌, ◌&&◌, ◌==◌, ◌⊎◌}
-use Rattle.std.proofs.lemmas.Bool.{true≢false, cases_eq, cond-true, cond-false, eq-eqb, ne_eqb, and_from, not_from_false, or_right, false_from_ne_true}
+use Rattle.std.proofs.lemmas.Bool.{true≢false, cases_eq, cond-true, cond-false, eq-eqb, ne_eqb, and_from, not_from_false, false_from_ne_true}
 use Rattle.std.specs.Prelude as option
 use Rattle.pn_types.specs.declared.placed.PlacedSite.{PlacedSite}
-use Rattle.pn_types.specs.declared.plan.Plan.{Plan}
 use Rattle.pn_types.specs.declared.plan.Site.{Site}
 use Rattle.tramp_spec.specs.Slots as slots
 use Rattle.tramp_spec.specs.Statements.{body_of}
@@ -13,23 +12,22 @@ use Rattle.machine.specs.Cores.{In, Core}
 use Rattle.machine.specs.Events.{Event}
 use Rattle.machine.specs.Instruments.{InForce}
 use Rattle.machine.specs.Replays.{Legal, replay}
-use Rattle.machine.proofs.Lists.{in_map, map_in, in_filter, filter_in}
+use Rattle.machine.proofs.Lists.{in_map, map_in, in_filter}
 use Rattle.instrument.specs.Books.{Book, is_held, is_mini_of, with_hold, without_site, mini_leaves, base_leaves, rooms_left}
 use Rattle.instrument.specs.Placements as placements
 use Rattle.instrument.specs.Placements.{Instrument, is_leaving, is_site_of, is_here, with_state, without_sites}
 use Rattle.instrument.specs.Scenes as scenes
 use Rattle.instrument.specs.Scenes.{Scene, Drops}
-use Rattle.instrument.specs.declared.number.State as states
-use Rattle.instrument.specs.declared.number.State.TheVariants.{Placing, Armed, Leaving}
+use Rattle.instrument.specs.declared.number.State.TheVariants.{Armed, Leaving}
 use Rattle.instrument.specs.declared.room.Room.{Room}
 use Rattle.instrument.proofs.Folds.{append_nil}
 use Rattle.instrument.proofs.Steps.{State, Step, Dropped, does, AllCan, all_events, all_steps}
 use Rattle.instrument.proofs.Keeping.{Kept, step_keeps, Went, all_keep}
-use Rattle.instrument.proofs.Force.{LinkedSite, AllLeave, all_spare}
-use Rattle.instrument.proofs.Neats.{Neat, neat_step, Site as DropSite, Differ, differ_filter, site_of, drops_site, no_site_left}
+use Rattle.instrument.proofs.Force.{LinkedSite}
+use Rattle.instrument.proofs.Neats.{Neat, neat_step, Site as DropSite, differ_filter, site_of, drops_site, no_site_left}
 use Rattle.instrument.proofs.Promises.{HoldsBody, step_holds}
-use Rattle.instrument.proofs.Under.{Same, Mated, mate_drops, neat_same, sites_drops}
-use Rattle.instrument.proofs.Wholes.{Carried, Orderly, SitesHold, SiteHolds, at_of, Whole, held_site}
+use Rattle.instrument.proofs.Under.{Mated, mate_drops, sites_drops}
+use Rattle.instrument.proofs.Wholes.{Carried, Orderly, SitesHold, Whole}
 use Rattle.instrument.proofs.Hands.{left_here}
 use Rattle.instrument.proofs.Armings.{carried_state}
 

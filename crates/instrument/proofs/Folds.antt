@@ -194,4 +194,3 @@ find_filter p q (x ∷ xs) h y e = by (p x) (q x) refl refl e (find_filter p q x
     by true false t u e ih = absurd (true≢false (sym (h x t) ∙ u))
     by false true t u e ih = cond-false (p x) _ _ t ∙ ih e
     by false false t u e ih = ih e
-

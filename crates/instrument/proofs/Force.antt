@@ -1,8 +1,8 @@
 -- A site that is linked stays linked until its dropping.
-use Rattle.std.proofs.Common.{◌≡◌, ℕ, List, [], ◌∷◌, ◌++◌, Option, Some, None, refl, sym, ap, ◌∙◌, subst, ⊎_elim, inl, inr}
-use Rattle.std.specs.Prelude.{map, filter, find, true, false, not, ◌⊎◌, ◌&&◌, ◌==◌}
+use Rattle.std.proofs.Common.{◌≡◌, ℕ, List, [], ◌∷◌, ◌++◌, Option, Some, None, refl, sym, ap, ◌∙◌, subst, ⊎_elim}
+use Rattle.std.specs.Prelude.{map, filter, find, true, false, not, ◌&&◌, ◌==◌}
 use Rattle.std.specs.FinMap.{get}
-use Rattle.std.proofs.lemmas.Bool.{true≢false, cases_Bool, cond-true, cond-false, eq-eqb, ne_eqb, and_from, and_left, and_right, not_from_false, not_from_true}
+use Rattle.std.proofs.lemmas.Bool.{cases_Bool, cond-true, cond-false, ne_eqb, and_left, and_right, not_from_false, not_from_true}
 use Rattle.rv_word.specs.Plain.{Plain, program_word}
 use Rattle.tramp_spec.specs.Jumps.{jump_word}
 use Rattle.tramp_spec.specs.Marks.{own, enter}
@@ -15,19 +15,19 @@ use Rattle.machine.proofs.Lists.{same_some, map_in, in_filter, filter_in}
 use Rattle.machine.proofs.Invariant.{Piece, IsBase, Linked, Door, Inv}
 use Rattle.machine.proofs.Homes.{piece_of, row_in}
 use Rattle.machine.proofs.Minis.{point_word}
-use Rattle.instrument.specs.Books.{is_held, is_unlinked, leaving, is_base_of, is_mini_of, with_hold, rooms_of, mini_leaves, base_leaves, rooms_left, unlinked_at, stays}
+use Rattle.instrument.specs.Books.{is_held, is_unlinked, leaving, is_mini_of, with_hold, rooms_of, mini_leaves, base_leaves, rooms_left, unlinked_at, stays}
 use Rattle.instrument.specs.Handing.{event_of}
 use Rattle.instrument.specs.declared.entry.Entry.{Entry}
 use Rattle.instrument.specs.declared.entry.Entry.TheVariants.{WriteBase, WriteMini, LinkMini, LinkPoint, UnlinkMini, UnlinkPoint, Free}
 use Rattle.instrument.specs.declared.room.Hold.TheVariants.{Held, Unlinked}
 use Rattle.instrument.specs.declared.room.Room.{Room}
-use Rattle.instrument.proofs.Stages.{is_now, Fresh, Stage, stage, puts, pending, next, Ok, is_other_mini, is_other_base, rooms_done}
+use Rattle.instrument.proofs.Stages.{is_now, Fresh, Stage, stage, puts, pending, next, is_other_mini, is_other_base, rooms_done}
 use Rattle.instrument.proofs.Folds.{append_left, apart_across}
 use Rattle.instrument.proofs.Ties.{Tied}
 use Rattle.instrument.proofs.Doings.{entry_done}
 use Rattle.instrument.proofs.Booked.{Booked}
 use Rattle.instrument.proofs.Steps.{State, Out, done, Step, Happened, Admitted, Dropped, Handed, Swept, does, LeavesBlocks, Can, AllCan, all_events, all_steps}
-use Rattle.instrument.proofs.Keeping.{Kept, unheld_mini, unheld_point, still, Still, handed, swept, step_keeps}
+use Rattle.instrument.proofs.Keeping.{Kept, unheld_mini, unheld_point, still, handed, swept, step_keeps}
 
 -- the event unlinks neither the mini block at m nor the point p
 abbrev pub Spared : ℕ → ℕ → Event → Type 0

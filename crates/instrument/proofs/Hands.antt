@@ -1,6 +1,6 @@
 -- What is kept where entries are handed out, and where the machine does something by itself.
-use Rattle.std.proofs.Common.{◌≡◌, ℕ, List, [], ◌∷◌, ◌++◌, Option, Some, None, refl, sym, ap, ◌∙◌, subst, ⊎_elim, inl, inr}
-use Rattle.std.specs.Prelude.{filter, Bool, true, false, not, ◌&&◌, ◌||◌, ◌==◌, ◌⊎◌}
+use Rattle.std.proofs.Common.{◌≡◌, ℕ, List, [], ◌∷◌, ◌++◌, Option, Some, None, refl, sym, ap, ◌∙◌, subst, ⊎_elim}
+use Rattle.std.specs.Prelude.{filter, Bool, true, false, not, ◌==◌}
 use Rattle.std.proofs.lemmas.Bool.{true≢false, cases_Bool, and_parts, and_from, not_from_false, not_from_true, eq-eqb, eqb-true, or_right}
 use Rattle.pn_types.specs.declared.plan.Plan.{Plan}
 use Rattle.pn_types.specs.declared.placed.PlacedSite.{PlacedSite}
@@ -14,9 +14,9 @@ use Rattle.machine.specs.Events.{Event}
 use Rattle.machine.specs.Replays.{Legal, replay}
 use Rattle.machine.proofs.Lists.{in_filter, filter_in}
 use Rattle.machine.proofs.Replaying.{legal-append, replay-append}
-use Rattle.instrument.specs.Books.{Book, is_held, stays, FoundFree, first_free}
+use Rattle.instrument.specs.Books.{is_held, stays, FoundFree, first_free}
 use Rattle.instrument.specs.Handing.{is_barred}
-use Rattle.instrument.specs.Placements.{Instrument, Placements, is_leaving, is_mini_room_of, is_here, sites_of, point_in, agenda_in}
+use Rattle.instrument.specs.Placements.{Instrument, is_leaving, is_mini_room_of, is_here, sites_of, point_in, agenda_in}
 use Rattle.instrument.specs.Scenes as scenes
 use Rattle.instrument.specs.Scenes.{Scene, Told, frees, sweeps, Hands, Sweeps}
 use Rattle.instrument.specs.declared.entry.Entry.{Entry}
@@ -32,7 +32,7 @@ use Rattle.instrument.proofs.Neats.{Neat, neat_step}
 use Rattle.instrument.proofs.Promises.{HoldsBody, step_holds}
 use Rattle.instrument.proofs.Under.{Under, under_all, under_done, sites_done}
 use Rattle.instrument.proofs.Lettings.{all_lets, step_lets, step_program, StepLets}
-use Rattle.instrument.proofs.Wholes.{SiteHolds, SitesHold, Carried, Orderly, at_of, AllLinked, Whole, own_held, held_site, none_names, still_force}
+use Rattle.instrument.proofs.Wholes.{SitesHold, Carried, Orderly, at_of, Whole, own_held, held_site, none_names, still_force}
 
 -- ---- rooms and bodies
 

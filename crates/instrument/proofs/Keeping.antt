@@ -5,7 +5,7 @@ use Rattle.std.specs.List.{list_any}
 use Rattle.std.proofs.lemmas.Bool.{true≢false, cases_eq, cond-true, cond-false, eq-eqb, ne_eqb, and_parts, and_from, and_right, not_from_false, not_from_true, false_from_ne_true, or_left, or_right}
 use Rattle.rv_word.specs.Plain.{Words, Plain}
 use Rattle.tramp_spec.specs.Harts.{Hart}
-use Rattle.machine.specs.Cores.{In, Row, Status, Written, Live, Core}
+use Rattle.machine.specs.Cores.{In, Row, Status, Live, Core}
 use Rattle.machine.specs.Effects.{with_status, at_set, after}
 use Rattle.machine.specs.Events as events
 use Rattle.machine.specs.Events.{Event, May, IsQuiet}

@@ -1,36 +1,30 @@
 -- The laws of the placer beside the machine.
-use Rattle.std.proofs.Common.{◌≡◌, ℕ, List, [], ◌∷◌, ◌++◌, refl, sym, ap, ◌∙◌, subst, inl, inr}
+use Rattle.std.proofs.Common.{◌≡◌, ℕ, List, [], ◌∷◌, ◌++◌, refl, sym, ap, subst, inl, inr}
 use Rattle.std.specs.Prelude.{map, false}
 use Rattle.pn_types.specs.declared.image.Image.{Image}
 use Rattle.pn_types.specs.declared.placed.PlacedSite.{PlacedSite}
-use Rattle.pn_types.specs.declared.plan.Plan.{Plan}
 use Rattle.pn_types.specs.declared.plan.Site.{Site}
 use Rattle.rv_exec.specs.Start.{start}
-use Rattle.tramp_spec.specs.Slots.{places_of}
-use Rattle.tramp_spec.specs.Statements.{body_of}
-use Rattle.machine.specs.Cores.{In, Core, Live, start_core}
-use Rattle.machine.specs.Events.{Event, Apart, HasMini, IsEntered}
-use Rattle.machine.specs.Instruments.{Carries, CarriesSites, HasBody, InForce}
+use Rattle.machine.specs.Cores.{In, Core, start_core}
+use Rattle.machine.specs.Events.{Event}
+use Rattle.machine.specs.Instruments.{CarriesSites}
 use Rattle.machine.specs.Laws.{IsProgram}
 use Rattle.machine.proofs.Lists as lists
 use Rattle.machine.proofs.Beginning.{begins}
-use Rattle.instrument.specs.Laws.{AreApart, SlotsApart, IsNoPlacing, IsPlaced, IsLinked, Scenes, IsLegal, IsApart, IsPlacedWhenLinked, StaysInForce}
+use Rattle.instrument.specs.Laws.{AreApart, IsNoPlacing, Scenes, IsLegal, IsApart, IsPlacedWhenLinked, StaysInForce}
 use Rattle.instrument.specs.Placements.{Instrument, is_leaving}
 use Rattle.instrument.specs.Scenes as scenes
 use Rattle.instrument.specs.Scenes.{Act, Happens, Admits, Arms, Drops, Hands, Sweeps, Scene, first_scene, CanDo, AllCanDo, events_of, scene_after}
 use Rattle.instrument.specs.declared.entry.Entry.{Entry}
 use Rattle.instrument.specs.declared.entry.Entry.TheVariants.{WriteBase, WriteMini, LinkMini, LinkPoint, UnlinkMini, UnlinkPoint, Free}
-use Rattle.instrument.specs.declared.number.State.TheVariants.{Placing, Armed}
 use Rattle.instrument.specs.declared.room.Room.{Room}
 use Rattle.instrument.proofs.Folds.{append_assoc, append_nil}
 use Rattle.instrument.proofs.Stages.{Idle, AllApart, room_row}
-use Rattle.instrument.proofs.Steps.{State}
 use Rattle.instrument.proofs.Keeping.{Kept}
-use Rattle.instrument.proofs.Force.{LinkedSite, linked_site, entered}
+use Rattle.instrument.proofs.Force.{linked_site, entered}
 use Rattle.instrument.proofs.Off.{IsOff, off_now}
-use Rattle.instrument.proofs.Neats.{Neat}
 use Rattle.instrument.proofs.Under.{site_room}
-use Rattle.instrument.proofs.Wholes.{SiteHolds, SitesHold, Carried, at_of, AllLinked, Whole, held_site, off_in}
+use Rattle.instrument.proofs.Wholes.{SitesHold, at_of, AllLinked, Whole, held_site, off_in}
 use Rattle.instrument.proofs.Hands.{hands_whole, sweeps_whole}
 use Rattle.instrument.proofs.Armings.{happens_whole, arms_whole}
 use Rattle.instrument.proofs.Droppings.{drop_whole}

@@ -1,6 +1,6 @@
 -- What a step lets an instrument be.
-use Rattle.std.proofs.Common.{◌≡◌, ℕ, ◌+◌, ◌-◌, ◌*◌, List, [], ◌∷◌, ◌++◌, length, refl, sym, ap, ◌∙◌, subst, arith, inl, inr}
-use Rattle.std.specs.Prelude.{filter, take, true, ◌⊎◌}
+use Rattle.std.proofs.Common.{◌≡◌, ℕ, ◌+◌, ◌-◌, ◌*◌, List, [], ◌∷◌, ◌++◌, length, refl, sym, subst, arith, inl, inr}
+use Rattle.std.specs.Prelude.{true, ◌⊎◌}
 use Rattle.std.proofs.lemmas.List.{take_at}
 use Rattle.pn_types.specs.declared.placed.Placed.{Placed}
 use Rattle.pn_types.specs.declared.placed.PlacedSite.{PlacedSite}
@@ -10,17 +10,16 @@ use Rattle.tramp_spec.specs.Marks.{tool}
 use Rattle.tramp_spec.specs.Slots.{places_of, ShareNone}
 use Rattle.tramp_spec.specs.declared.block.Block.{Block}
 use Rattle.machine.specs.Cores.{In, Core}
-use Rattle.machine.specs.Effects.{after}
 use Rattle.machine.specs.Events as events
 use Rattle.machine.specs.Events.{Event, current_base}
-use Rattle.machine.specs.Instruments.{Spares, IsMiniOf, IsSiteOf, body_of_block, Lets, AllLet}
+use Rattle.machine.specs.Instruments.{Spares, body_of_block, Lets, AllLet}
 use Rattle.machine.proofs.Steps.{fixed}
 use Rattle.instrument.specs.Handing.{head_of, leading, event_of}
 use Rattle.instrument.specs.declared.entry.Entry.{Entry}
 use Rattle.instrument.specs.declared.entry.Entry.TheVariants.{WriteBase, WriteMini, LinkMini, LinkPoint, UnlinkMini, UnlinkPoint, Free}
-use Rattle.instrument.proofs.Stages.{is_now, stage, Good}
-use Rattle.instrument.proofs.Steps.{State, Out, done, Step, Happened, Admitted, Dropped, Handed, Swept, does, Can, AllCan, all_events, all_steps}
-use Rattle.instrument.proofs.Keeping.{Kept, still, handed, swept}
+use Rattle.instrument.proofs.Stages.{Good}
+use Rattle.instrument.proofs.Steps.{State, Out, Step, Happened, Admitted, Dropped, Handed, Swept, does, Can}
+use Rattle.instrument.proofs.Keeping.{Kept, handed, swept}
 use Rattle.instrument.proofs.Force.{Spared, AllSpared}
 use Rattle.instrument.proofs.Siting.{mini_words_len}
 

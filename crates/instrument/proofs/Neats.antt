@@ -17,7 +17,7 @@ use Rattle.instrument.specs.declared.room.Room.{Room}
 use Rattle.instrument.proofs.Stages.{AllApart, GoodMini, room_row, rooms_done}
 use Rattle.instrument.proofs.Folds.{in_append, apart_append, map_append}
 use Rattle.instrument.proofs.Booked.{SiteFits}
-use Rattle.instrument.proofs.Steps.{State, Step, Happened, Admitted, Dropped, Handed, Swept, does, CanAdmit, Can, AllCan, all_steps}
+use Rattle.instrument.proofs.Steps.{State, Step, Happened, Admitted, Dropped, Handed, Swept, does, Can, AllCan, all_steps}
 use Rattle.instrument.proofs.Keeping.{Kept, handed, swept}
 use Rattle.instrument.proofs.Force.{other_leaves}
 

@@ -1,23 +1,22 @@
 -- A mini block's body is what it was built with, from its admission until its room is given back.
-use Rattle.std.proofs.Common.{◌≡◌, ℕ, ◌+◌, ◌*◌, ◌<◌, List, [], ◌∷◌, ◌++◌, length, Option, Some, None, refl, sym, ap, ◌∙◌, subst, arith, ⊎_elim, inl, inr}
-use Rattle.std.specs.Prelude.{map, filter, find, Bool, true, false, ◌⊎◌}
+use Rattle.std.proofs.Common.{◌≡◌, ℕ, ◌<◌, List, [], ◌∷◌, ◌++◌, length, Option, Some, None, refl, sym, ap, ◌∙◌, subst, arith, ⊎_elim, inl, inr}
+use Rattle.std.specs.Prelude.{map, find, false}
 use Rattle.tramp_spec.specs.declared.block.Block.{Block}
 use Rattle.tramp_spec.specs.declared.mark.MarkedWord.{MarkedWord}
 use Rattle.machine.specs.Cores.{In, Row, Core}
 use Rattle.machine.specs.Effects.{after}
-use Rattle.machine.specs.Events as events
-use Rattle.machine.specs.Events.{Apart, May}
+use Rattle.machine.specs.Events.{Apart}
 use Rattle.machine.specs.Instruments.{body_in, body_of_block}
 use Rattle.instrument.specs.Books.{Blocks, is_base_of, is_mini_of, with_hold, placing, mini_leaves, removing}
 use Rattle.instrument.specs.Handing.{event_of}
 use Rattle.instrument.specs.declared.entry.Entry.{Entry}
 use Rattle.instrument.specs.declared.entry.Entry.TheVariants.{WriteBase, WriteMini, LinkMini, LinkPoint, UnlinkMini, UnlinkPoint, Free}
 use Rattle.instrument.specs.declared.room.Room.{Room}
-use Rattle.instrument.proofs.Stages.{block_row, is_now, stage, puts, pending}
+use Rattle.instrument.proofs.Stages.{block_row, puts, pending}
 use Rattle.instrument.proofs.Folds.{in_append, append_left, append_right, apart_across}
 use Rattle.instrument.proofs.Booked.{Booked}
 use Rattle.instrument.proofs.Bodies.{Stays, stays_entry, stays_mini}
-use Rattle.instrument.proofs.Steps.{State, Out, done, Step, Happened, Admitted, Dropped, Handed, Swept, does, CanAdmit, Can}
+use Rattle.instrument.proofs.Steps.{State, Out, Step, Happened, Admitted, Dropped, Handed, Swept, does, CanAdmit, Can}
 use Rattle.instrument.proofs.Keeping.{Kept, still, handed, swept}
 use Rattle.instrument.proofs.Neats.{Neat}
 

@@ -1,7 +1,7 @@
 -- What the machine's rows are, where it keeps what it keeps.
 use Rattle.std.proofs.Common.{◌≡◌, ℕ, ◌+◌, ◌-◌, ◌*◌, ◌%◌, ◌^◌, ◌<◌, ◌≤◌, List, ◌++◌, length, Some, sym, ap, ◌∙◌, subst, arith, ⊎_elim, inl, inr}
-use Rattle.std.specs.Prelude.{filter, take, true, false, ◌⊎◌, ◌&&◌, ◌==◌}
-use Rattle.std.proofs.lemmas.Bool.{true≢false, and_parts, and_from, le-leb, eqb-true}
+use Rattle.std.specs.Prelude.{filter, true, false, ◌⊎◌, ◌&&◌, ◌==◌}
+use Rattle.std.proofs.lemmas.Bool.{and_parts, and_from, le-leb, eqb-true}
 use Rattle.std.proofs.lemmas.List.{length-take-le}
 use Rattle.rv_word.specs.Plain.{Plain}
 use Rattle.tramp_spec.specs.Blocks.{tail_of, mini_words}
@@ -13,13 +13,12 @@ use Rattle.tramp_spec.proofs.Hops.{Hops, jump_hops}
 use Rattle.machine.specs.Cores.{In, Row, Written, Core, is_current}
 use Rattle.machine.specs.Events.{Apart, current_base, link_at, next_of}
 use Rattle.machine.specs.Instruments.{body_of_block}
-use Rattle.machine.proofs.Lists.{find_gives, in_filter, filter_in, put_words_stand, stands_at, get_append}
-use Rattle.machine.proofs.Invariant.{Piece, the_row, IsBase, Linked, BaseShape, MiniShape, Inv}
+use Rattle.machine.proofs.Lists.{find_gives, filter_in, put_words_stand, stands_at, get_append}
+use Rattle.machine.proofs.Invariant.{Piece, the_row, Linked, Inv}
 use Rattle.machine.proofs.Blocks.{link_in, mini_len}
 use Rattle.machine.proofs.Homes.{piece_of, one_block, has_len, base_shape}
 use Rattle.machine.proofs.Minis.{link_is, next_is}
-use Rattle.machine.proofs.Points.{Current, current_piece}
-use Rattle.instrument.specs.Handing.{leading}
+use Rattle.machine.proofs.Points.{current_piece}
 use Rattle.instrument.specs.declared.entry.Entry.{Entry}
 use Rattle.instrument.proofs.Stages.{GoodMini, a_row, is_now, pending, AllApart}
 use Rattle.instrument.proofs.Folds.{apart_across}

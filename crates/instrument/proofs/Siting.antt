@@ -1,28 +1,25 @@
 -- A site that is placed has rooms that were free, and the blocks that it is to have.
-use Rattle.std.proofs.Common.{◌≡◌, ℕ, ◌+◌, ◌-◌, ◌*◌, ◌%◌, ◌<◌, ◌≤◌, List, [], ◌∷◌, ◌++◌, length, Option, Some, None, Ok, Err, refl, sym, ap, ◌∙◌, subst, arith, ⊎_elim, inl, inr}
-use Rattle.std.specs.Prelude.{take, find, true, false, Result}
+use Rattle.std.proofs.Common.{◌≡◌, ℕ, ◌+◌, ◌-◌, ◌*◌, ◌%◌, ◌<◌, ◌≤◌, List, [], ◌∷◌, ◌++◌, length, Option, Some, None, Ok, refl, sym, subst, arith, ⊎_elim, inl}
+use Rattle.std.specs.Prelude.{find}
 use Rattle.std.proofs.lemmas.Bool.{and_from, le-leb}
 use Rattle.std.proofs.lemmas.List.{take_at}
 use Rattle.pn_types.specs.declared.limits.TheConstants.{TOOL_TEXT_LEN}
-use Rattle.pn_types.specs.declared.plan.Site.{Site}
 use Rattle.rv_word.specs.Plain.{Words, program_word}
-use Rattle.tramp_spec.specs.Blocks.{IsBase, mini_words, base_words, tail_of, moved_at}
+use Rattle.tramp_spec.specs.Blocks.{mini_words, base_words, tail_of, moved_at}
 use Rattle.tramp_spec.specs.Bodies.{Harmless}
 use Rattle.tramp_spec.specs.Codes.{tool_at}
-use Rattle.tramp_spec.specs.Jumps.{jump_word, reaches}
+use Rattle.tramp_spec.specs.Jumps.{jump_word}
 use Rattle.tramp_spec.specs.Marks.{tool}
 use Rattle.tramp_spec.specs.MovedWords.{moved_of}
-use Rattle.tramp_spec.specs.Statements.{body_of}
 use Rattle.tramp_spec.specs.declared.block.Block.{Block}
 use Rattle.tramp_spec.specs.declared.mark.MarkedWord.{MarkedWord}
 use Rattle.machine.specs.Cores.{In}
 use Rattle.machine.specs.Events.{Apart}
 use Rattle.machine.specs.Instruments.{body_of_block}
 use Rattle.machine.proofs.Blocks.{mini_len}
-use Rattle.instrument.specs.Admission.{base_len, a_base, a_mini, rooms_with, with_mini_at, with_mini, with_moved, with_base_at, with_base, with_site_by, with_site}
+use Rattle.instrument.specs.Admission.{base_len, a_base, a_mini, with_mini_at, with_moved, with_base_at, with_base, with_site_by}
 use Rattle.instrument.specs.Books.{Book, Blocks, base_room, is_base_of, with_blocks}
 use Rattle.instrument.specs.Fits.{room_for}
-use Rattle.instrument.specs.declared.number.Refused.{Refused}
 use Rattle.instrument.specs.declared.room.Room.{Room}
 use Rattle.instrument.proofs.Stages.{GoodBase, GoodMini}
 use Rattle.instrument.proofs.Folds.{append_left, append_right}

@@ -1,11 +1,11 @@
 -- The slots of a new instrument are its own.
-use Rattle.std.proofs.Common.{◌≡◌, ℕ, zero, suc, ◌+◌, ◌<◌, ◌≤◌, List, [], ◌∷◌, ◌++◌, length, Some, refl, sym, ap, ◌∙◌, subst, arith, ⊎_elim, inl, inr}
+use Rattle.std.proofs.Common.{◌≡◌, ℕ, zero, suc, ◌+◌, ◌<◌, ◌≤◌, List, [], ◌∷◌, length, Some, refl, sym, ap, subst, arith, inl, inr}
 use Rattle.std.specs.List.{flat_map}
 use Rattle.std.specs.Prelude.{slice_get, cond, Bool, true, false, ◌⊎◌}
 use Rattle.std.proofs.lemmas.List.Sums.{sum_by-cons}
 use Rattle.pn_types.specs.declared.plan.Var.{Var}
-use Rattle.tramp_spec.specs.Banks.{bank_len, first_slot}
-use Rattle.tramp_spec.specs.Slots.{Place, width, places, places_of, IsSlotOf, ArePlaces, ShareNone}
+use Rattle.tramp_spec.specs.Banks.{bank_len}
+use Rattle.tramp_spec.specs.Slots.{Place, width, places, places_of, IsSlotOf, ArePlaces}
 use Rattle.machine.specs.Cores.{In}
 use Rattle.instrument.specs.Admission.{slots_of_var, slot_count, slots_from}
 use Rattle.instrument.specs.Placements.{Instrument}

@@ -1,7 +1,6 @@
 -- The book beside the machine, a site and an event at a time.
-use Rattle.std.proofs.Common.{◌≡◌, ℕ, ◌<◌, List, [], ◌∷◌, ◌++◌, length, Option, Some, None}
-use Rattle.std.specs.Prelude.{Bool, true, false, ◌⊎◌}
-use Rattle.tramp_spec.specs.declared.block.Block.{Block}
+use Rattle.std.proofs.Common.{◌≡◌, ℕ, List, [], ◌∷◌, ◌++◌, length, Option, Some, None}
+use Rattle.std.specs.Prelude.{Bool, true, false}
 use Rattle.machine.specs.Cores.{In, Core}
 use Rattle.machine.specs.Effects.{after}
 use Rattle.machine.specs.Events as events

@@ -1,8 +1,8 @@
 -- What an entry of the agenda does in the machine, where what it needs stands: blocks that are written, and mini blocks.
 use Rattle.std.proofs.Common.{◌≡◌, ℕ, ◌+◌, ◌*◌, ◌%◌, ◌<◌, ◌≤◌, List, [], ◌∷◌, ◌++◌, length, Some, refl, sym, ap, ◌∙◌, subst, arith, ⊎_elim, inl, inr}
-use Rattle.std.specs.Prelude.{map, filter, Bool, true, false, not, ◌⊎◌, ◌&&◌, ◌==◌}
+use Rattle.std.specs.Prelude.{map, filter, true, false, not, ◌⊎◌, ◌&&◌, ◌==◌}
 use Rattle.std.specs.FinMap.{get, insert}
-use Rattle.std.proofs.lemmas.Bool.{true≢false, cases_Bool, cases_eq, cond-true, cond-false, eq-eqb, ne_eqb, and_parts, and_from, not_from_false, not_from_true, and_right, eqb-true, false_from_ne_true}
+use Rattle.std.proofs.lemmas.Bool.{true≢false, cases_eq, cond-true, cond-false, eq-eqb, ne_eqb, and_from, not_from_false, not_from_true, and_right, false_from_ne_true}
 use Rattle.pn_types.specs.declared.limits.TheConstants.{TOOL_TEXT_LEN}
 use Rattle.rv_word.specs.Plain.{Plain, program_word}
 use Rattle.tramp_spec.specs.Blocks.{mini_words}
@@ -29,8 +29,8 @@ use Rattle.instrument.specs.declared.entry.Entry.{Entry}
 use Rattle.instrument.specs.declared.entry.Entry.TheVariants.{WriteBase, WriteMini, LinkMini, UnlinkMini}
 use Rattle.instrument.specs.declared.room.Hold.TheVariants.{Unlinked}
 use Rattle.instrument.specs.declared.room.Room.{Room}
-use Rattle.instrument.proofs.Stages.{a_row, block_row, is_now, Fresh, Idle, Ready, stage, puts, pending, next, Ok, Good, GoodBase, GoodMini, AllApart, is_other_mini, rooms_done}
-use Rattle.instrument.proofs.Folds.{append_assoc, append_left, filter_append, now_map, now_less, find_first}
+use Rattle.instrument.proofs.Stages.{a_row, block_row, is_now, Fresh, Idle, Ready, stage, puts, pending, next, Ok, GoodBase, GoodMini, AllApart, is_other_mini, rooms_done}
+use Rattle.instrument.proofs.Folds.{append_assoc, filter_append, now_map, now_less, find_first}
 use Rattle.instrument.proofs.Claims.{Of, Claimed, Sized, claims_map, claimed_map, claimed_same}
 use Rattle.instrument.proofs.Rows.{leading_len, same_row, row_place, link_place, into_now, base_of, pending_at, head_low, reach, next_new}
 

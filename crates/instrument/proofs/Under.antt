@@ -1,13 +1,13 @@
 -- Rooms of one book and those of another before it.
-use Rattle.std.proofs.Common.{◌≡◌, ℕ, ◌+◌, ◌<◌, List, [], ◌∷◌, ◌++◌, Option, Some, None, refl, sym, ap, ◌∙◌, subst, arith, ⊎_elim, inl, inr}
-use Rattle.std.specs.Prelude.{map, filter, find, Bool, true, false, cond, not, ◌⊎◌, ◌&&◌, ◌==◌}
-use Rattle.std.proofs.lemmas.Bool.{true≢false, cases_Bool, cases_eq, cond-true, cond-false, eq-eqb, ne_eqb, eqb-true, and_parts, and_from, and_left, not_from_false, not_from_true, false_from_ne_true}
+use Rattle.std.proofs.Common.{◌≡◌, ℕ, List, [], ◌∷◌, ◌++◌, Option, Some, None, refl, sym, ap, ◌∙◌, subst, arith, ⊎_elim, inl, inr}
+use Rattle.std.specs.Prelude.{map, filter, find, Bool, true, false, cond, not, ◌&&◌, ◌==◌}
+use Rattle.std.proofs.lemmas.Bool.{true≢false, cases_Bool, cond-true, cond-false, eq-eqb, eqb-true, and_parts, and_from, and_left, not_from_false, not_from_true}
 use Rattle.pn_types.specs.declared.placed.PlacedSite.{PlacedSite}
-use Rattle.machine.specs.Cores.{In, Core}
+use Rattle.machine.specs.Cores.{In}
 use Rattle.machine.specs.Events.{Apart}
 use Rattle.machine.proofs.Lists.{in_map, map_in, in_filter, filter_in}
 use Rattle.instrument.specs.Books.{is_held, leaving, is_mini_of, with_hold, mini_leaves, base_leaves, rooms_left, unlinked_at, stays}
-use Rattle.instrument.specs.Placements.{is_mini_room_of, is_site_of, sites_of}
+use Rattle.instrument.specs.Placements.{is_mini_room_of, sites_of}
 use Rattle.instrument.specs.declared.entry.Entry.{Entry}
 use Rattle.instrument.specs.declared.entry.Entry.TheVariants.{WriteBase, WriteMini, LinkMini, LinkPoint, UnlinkMini, UnlinkPoint, Free}
 use Rattle.instrument.specs.declared.room.Hold.{Hold}
@@ -15,11 +15,11 @@ use Rattle.instrument.specs.declared.room.Room.{Room}
 use Rattle.instrument.proofs.Stages.{room_row, rooms_done}
 use Rattle.instrument.proofs.Folds.{map_append, filter_append}
 use Rattle.instrument.proofs.Booked.{Booked}
-use Rattle.instrument.proofs.Steps.{State, Out, Dropped, does, all_steps}
+use Rattle.instrument.proofs.Steps.{State, Dropped, does, all_steps}
 use Rattle.instrument.proofs.Keeping as keeping
 use Rattle.instrument.proofs.Keeping.{Kept, hold_same, held_stays, unheld_mini, unheld_point}
 use Rattle.instrument.proofs.Force.{other_leaves}
-use Rattle.instrument.proofs.Neats.{Neat, Site, Differ, site_kept, neat_step, site_of}
+use Rattle.instrument.proofs.Neats.{Neat, Site, Differ, site_kept, neat_step}
 
 -- the same room, but for its hold
 pub record Same (x y : Room) : Type 0 where

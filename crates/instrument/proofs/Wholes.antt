@@ -1,7 +1,7 @@
 -- What is kept of the placer beside the machine.
-use Rattle.std.proofs.Common.{◌≡◌, ℕ, ◌+◌, ◌<◌, List, [], ◌∷◌, ◌++◌, length, Some, refl, sym, ap, ◌∙◌, subst, ⊎_elim, inl, inr}
-use Rattle.std.specs.Prelude.{true, false, not, take, slice_get, ◌⊎◌}
-use Rattle.std.proofs.lemmas.Bool.{cases_eq, not_from_false}
+use Rattle.std.proofs.Common.{◌≡◌, ℕ, ◌<◌, List, [], ◌∷◌, ◌++◌, length, Some, refl, sym, ap, ◌∙◌, subst, ⊎_elim, inl, inr}
+use Rattle.std.specs.Prelude.{true, false, not, slice_get}
+use Rattle.std.proofs.lemmas.Bool.{cases_eq}
 use Rattle.pn_types.specs.declared.placed.Placed.{Placed}
 use Rattle.pn_types.specs.declared.placed.PlacedSite.{PlacedSite}
 use Rattle.pn_types.specs.declared.plan.Plan.{Plan}
@@ -10,11 +10,9 @@ use Rattle.prim_code.specs.Fitting.{AreStmtsOf}
 use Rattle.prim_code.proofs.Whole.{statements_work}
 use Rattle.tramp_spec.specs.Slots.{places, places_of, ArePlaces, ShareNone, IsSlotOf}
 use Rattle.tramp_spec.specs.Statements.{body_of}
-use Rattle.tramp_spec.specs.declared.block.Block.{Block}
-use Rattle.tramp_spec.specs.declared.mark.MarkedWord.{MarkedWord}
-use Rattle.machine.specs.Cores.{In, Row, Live, Core}
-use Rattle.machine.specs.Events.{Event, HasMini, IsEntered}
-use Rattle.machine.specs.Instruments.{Spares, IsMiniOf, IsSpared, InForce, AllLet, body_in, body_of_block}
+use Rattle.machine.specs.Cores.{In, Core}
+use Rattle.machine.specs.Events.{Event}
+use Rattle.machine.specs.Instruments.{Spares, IsSpared, InForce, AllLet}
 use Rattle.machine.specs.Replays.{replay, Legal}
 use Rattle.instrument.specs.Books.{is_held}
 use Rattle.instrument.specs.Placements.{Instrument, is_leaving, sites_of}

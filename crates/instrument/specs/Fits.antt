@@ -1,5 +1,5 @@
 -- Where rooms and slots are taken: the lowest place where they fit.
-use Rattle.std.specs.Prelude.{ℕ, zero, suc, ◌+◌, ◌*◌, ◌/◌, ◌&&◌, not, nat_le, nat_lt, Bool, true, Option, List, [], ◌∷◌, find}
+use Rattle.std.specs.Prelude.{ℕ, zero, suc, ◌+◌, ◌*◌, ◌/◌, ◌&&◌, not, nat_le, nat_lt, Bool, true, Option, List, find}
 use Rattle.std.specs.List.{list_any, range_with_len}
 use Rattle.std.specs.Option.{option_map}
 use Rattle.pn_types.specs.declared.limits.TheConstants.{TOOL_TEXT_LEN}

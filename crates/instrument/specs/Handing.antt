@@ -1,5 +1,5 @@
 -- What an entry of the agenda is in the machine, when it is done.
-use Rattle.std.specs.Prelude.{ℕ, ◌==◌, ◌&&◌, Bool, Option, Some, None, List}
+use Rattle.std.specs.Prelude.{ℕ, ◌==◌, ◌&&◌, Bool, Option, Some, None}
 use Rattle.std.specs.List.{list_any}
 use Rattle.tramp_spec.specs.Blocks.{mini_words}
 use Rattle.tramp_spec.specs.Codes.{Code}

@@ -1,16 +1,16 @@
 -- Laws of the placer beside the machine, for the law functions of this crate.
-use Rattle.std.specs.Prelude.{◌≡◌, ℕ, ◌⊎◌, Some, List, [], ◌∷◌, length, slice_get}
+use Rattle.std.specs.Prelude.{◌≡◌, ℕ, Some, List, [], ◌∷◌, slice_get}
 use Rattle.pn_types.specs.declared.image.Image.{Image}
 use Rattle.pn_types.specs.declared.placed.PlacedSite.{PlacedSite}
 use Rattle.pn_types.specs.declared.plan.Plan.{Plan}
 use Rattle.tramp_spec.specs.Slots.{places_of, ArePlaces, ShareNone}
 use Rattle.machine.specs.Cores.{In, Core, Live, start_core}
-use Rattle.machine.specs.Events.{Apart, HasMini, IsEntered, MayArm}
+use Rattle.machine.specs.Events.{Apart, HasMini, IsEntered}
 use Rattle.machine.specs.Instruments.{Carries, InForce}
 use Rattle.machine.specs.Laws.{IsProgram}
 use Rattle.machine.specs.Replays.{replay, Legal}
 use Rattle.instrument.specs.Placements.{Placements, Instrument}
-use Rattle.instrument.specs.Scenes.{Act, Scene, first_scene, AllCanDo, events_of, scene_after}
+use Rattle.instrument.specs.Scenes.{Act, first_scene, AllCanDo, events_of, scene_after}
 use Rattle.instrument.specs.declared.entry.Entry.{Entry}
 use Rattle.instrument.specs.declared.entry.Entry.TheVariants.{WriteBase, WriteMini, LinkMini, LinkPoint, UnlinkMini, UnlinkPoint, Free}
 use Rattle.instrument.specs.declared.number.State.TheVariants.{Placing, Armed}
