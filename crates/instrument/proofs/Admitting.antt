@@ -27,7 +27,8 @@ use Rattle.instrument.specs.declared.number.State.TheVariants.{Placing, Armed}
 use Rattle.instrument.specs.declared.room.Room.{Room}
 use Rattle.instrument.proofs.Folds.{append_nil, in_append, append_left, append_right}
 use Rattle.instrument.proofs.Steps.{State, Admitted, does, AllCan, all_steps}
-use Rattle.instrument.proofs.Keeping.{Kept, step_keeps, Went, all_keep}
+use Rattle.instrument.proofs.Keeping.{Kept}
+use Rattle.instrument.proofs.Going.{step_keeps, Went, all_keep}
 use Rattle.instrument.proofs.Force.{LinkedSite}
 use Rattle.instrument.proofs.Neats.{Neat, neat_step}
 use Rattle.instrument.proofs.Promises.{HoldsBody, step_holds, new_holds}

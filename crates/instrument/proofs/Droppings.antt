@@ -22,7 +22,8 @@ use Rattle.instrument.specs.declared.number.State.TheVariants.{Armed, Leaving}
 use Rattle.instrument.specs.declared.room.Room.{Room}
 use Rattle.instrument.proofs.Folds.{append_nil}
 use Rattle.instrument.proofs.Steps.{State, Step, Dropped, does, AllCan, all_events, all_steps}
-use Rattle.instrument.proofs.Keeping.{Kept, step_keeps, Went, all_keep}
+use Rattle.instrument.proofs.Keeping.{Kept}
+use Rattle.instrument.proofs.Going.{step_keeps, Went, all_keep}
 use Rattle.instrument.proofs.Force.{LinkedSite}
 use Rattle.instrument.proofs.Neats.{Neat, neat_step, Site as DropSite, differ_filter, site_of, drops_site, no_site_left}
 use Rattle.instrument.proofs.Promises.{HoldsBody, step_holds}

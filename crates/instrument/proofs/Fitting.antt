@@ -15,7 +15,7 @@ use Rattle.machine.specs.Events.{Apart}
 use Rattle.machine.proofs.Lists.{find_gives}
 use Rattle.instrument.specs.Fits.{are_free, lowest, is_word_free, room_for, is_slot_of, is_slot_free, slots_for}
 use Rattle.instrument.specs.declared.room.Room.{Room}
-use Rattle.instrument.proofs.Keeping.{any_in}
+use Rattle.instrument.proofs.Going.{any_in}
 use Rattle.instrument.proofs.Neats.{Neat}
 
 range_from : (from n x : ℕ) → In x (range_with_len from n) → from ≤ x

@@ -27,7 +27,8 @@ use Rattle.instrument.proofs.Ties.{Tied}
 use Rattle.instrument.proofs.Doings.{entry_done}
 use Rattle.instrument.proofs.Booked.{Booked}
 use Rattle.instrument.proofs.Steps.{State, Out, done, Step, Happened, Admitted, Dropped, Handed, Swept, does, LeavesBlocks, Can, AllCan, all_events, all_steps}
-use Rattle.instrument.proofs.Keeping.{Kept, unheld_mini, unheld_point, still, handed, swept, step_keeps}
+use Rattle.instrument.proofs.Keeping.{Kept, unheld_mini, unheld_point}
+use Rattle.instrument.proofs.Going.{still, handed, swept, step_keeps}
 
 -- the event unlinks neither the mini block at m nor the point p
 abbrev pub Spared : ℕ → ℕ → Event → Type 0

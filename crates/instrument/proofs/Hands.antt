@@ -24,7 +24,8 @@ use Rattle.instrument.specs.declared.entry.Entry.TheVariants.{WriteBase, WriteMi
 use Rattle.instrument.specs.declared.number.State.TheVariants.{Armed}
 use Rattle.instrument.specs.declared.room.Room.{Room}
 use Rattle.instrument.proofs.Steps.{State, Out, Step, Happened, Admitted, Dropped, Handed, Swept, does, release, sweep, Can}
-use Rattle.instrument.proofs.Keeping.{Kept, any_in, handed, swept, step_keeps}
+use Rattle.instrument.proofs.Keeping.{Kept}
+use Rattle.instrument.proofs.Going.{any_in, handed, swept, step_keeps}
 use Rattle.machine.specs.Instruments as lets
 use Rattle.instrument.proofs.Force as force
 use Rattle.instrument.proofs.Force.{LinkedSite, step_spares, Leaves}

@@ -19,7 +19,8 @@ use Rattle.instrument.specs.declared.entry.Entry.{Entry}
 use Rattle.instrument.specs.declared.entry.Entry.TheVariants.{WriteBase, WriteMini, LinkMini, LinkPoint, UnlinkMini, UnlinkPoint, Free}
 use Rattle.instrument.proofs.Stages.{Good}
 use Rattle.instrument.proofs.Steps.{State, Out, Step, Happened, Admitted, Dropped, Handed, Swept, does, Can}
-use Rattle.instrument.proofs.Keeping.{Kept, handed, swept}
+use Rattle.instrument.proofs.Keeping.{Kept}
+use Rattle.instrument.proofs.Going.{handed, swept}
 use Rattle.instrument.proofs.Force.{Spared, AllSpared}
 use Rattle.instrument.proofs.Siting.{mini_words_len}
 

@@ -5,8 +5,10 @@ pub mod Rows
 pub mod Ties
 pub mod Doings
 pub mod Booked
+pub mod Entering
 pub mod Steps
 pub mod Keeping
+pub mod Going
 pub mod Force
 pub mod Off
 pub mod Neats

@@ -18,7 +18,8 @@ use Rattle.instrument.proofs.Stages.{AllApart, GoodMini, room_row, rooms_done}
 use Rattle.instrument.proofs.Folds.{in_append, apart_append, map_append}
 use Rattle.instrument.proofs.Booked.{SiteFits}
 use Rattle.instrument.proofs.Steps.{State, Step, Happened, Admitted, Dropped, Handed, Swept, does, Can, AllCan, all_steps}
-use Rattle.instrument.proofs.Keeping.{Kept, handed, swept}
+use Rattle.instrument.proofs.Keeping.{Kept}
+use Rattle.instrument.proofs.Going.{handed, swept}
 use Rattle.instrument.proofs.Force.{other_leaves}
 
 -- no two rooms overlap, each has words and begins at a multiple of 4

@@ -17,7 +17,8 @@ use Rattle.instrument.proofs.Folds.{in_append, append_left, append_right, apart_
 use Rattle.instrument.proofs.Booked.{Booked}
 use Rattle.instrument.proofs.Bodies.{Stays, stays_entry, stays_mini}
 use Rattle.instrument.proofs.Steps.{State, Out, Step, Happened, Admitted, Dropped, Handed, Swept, does, CanAdmit, Can}
-use Rattle.instrument.proofs.Keeping.{Kept, still, handed, swept}
+use Rattle.instrument.proofs.Keeping.{Kept}
+use Rattle.instrument.proofs.Going.{still, handed, swept}
 use Rattle.instrument.proofs.Neats.{Neat}
 
 -- a mini block at m has this body, where it stands and where it is to be written

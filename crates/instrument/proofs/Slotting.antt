@@ -11,7 +11,7 @@ use Rattle.instrument.specs.Admission.{slots_of_var, slot_count, slots_from}
 use Rattle.instrument.specs.Placements.{Instrument}
 use Rattle.std.proofs.lemmas.Grind.{flat_map-append}
 use Rattle.instrument.proofs.Folds.{append_nil, append_left, append_right}
-use Rattle.instrument.proofs.Keeping.{get_in}
+use Rattle.instrument.proofs.Going.{get_in}
 use Rattle.instrument.proofs.Fitting.{FreeSlots}
 
 pub slots_len : (slot : ℕ) (vars : List Var) → length (slots_from slot vars) ≡ length vars

@@ -16,7 +16,7 @@ use Rattle.instrument.proofs.Stages.{room_row, rooms_done}
 use Rattle.instrument.proofs.Folds.{map_append, filter_append}
 use Rattle.instrument.proofs.Booked.{Booked}
 use Rattle.instrument.proofs.Steps.{State, Dropped, does, all_steps}
-use Rattle.instrument.proofs.Keeping as keeping
+use Rattle.instrument.proofs.Going as keeping
 use Rattle.instrument.proofs.Keeping.{Kept, hold_same, held_stays, unheld_mini, unheld_point}
 use Rattle.instrument.proofs.Force.{other_leaves}
 use Rattle.instrument.proofs.Neats.{Neat, Site, Differ, site_kept, neat_step}
