@@ -1,11 +1,13 @@
 //! Instruments: the rooms of their blocks, their slots, and the agenda of what is to be done for them in the patched machine.
 #![tactic(auto)]
 
+mod costs;
 mod entry;
 mod laws;
 mod number;
 mod room;
 
+pub use costs::predicted;
 pub use entry::Entry;
 pub use laws::{acts_are_legal, armed_stays_in_force, linked_is_placed, rooms_and_slots_apart};
 pub use number::{InstrumentNo, Refused, State};
