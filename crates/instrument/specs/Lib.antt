@@ -1,4 +1,5 @@
 pub mod Books
+pub mod Agendas
 pub mod Handing
 pub mod Fits
 pub mod Admission

@@ -1,3 +1,6 @@
+ghost use Rattle.std.specs.Prelude.{◌≡◌};
+ghost use Rattle.instrument.specs.Books as books;
+
 use tramp_spec::Block;
 
 /// An entry of the agenda.
@@ -40,4 +43,26 @@ pub enum Entry {
         /// The point.
         point: u64,
     },
+}
+
+impl Entry {
+    /// The point of a Free.
+    pub fn freed_point(&self) -> Option<u64>
+        ensures { result ≡ books.freed_point self.now }
+    {
+        match self {
+            Entry::Free { point } => Some(*point),
+            _ => None,
+        }
+    }
+
+    /// It unlinks the point, or a mini block there.
+    pub fn unlinks(&self, of: u64) -> bool
+        ensures { result ≡ books.unlinks of self.now }
+    {
+        match self {
+            Entry::UnlinkMini { point, .. } | Entry::UnlinkPoint { point, .. } => *point == of,
+            _ => false,
+        }
+    }
 }

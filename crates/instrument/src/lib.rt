@@ -1,6 +1,7 @@
 //! Instruments: the rooms of their blocks, their slots, and the agenda of what is to be done for them in the patched machine.
 #![tactic(auto)]
 
+mod agenda;
 mod blocks;
 mod costs;
 mod entry;
