@@ -27,3 +27,4 @@ pub mod Droppings
 pub mod Slotting
 pub mod Admitting
 pub mod Lawful
+pub mod Searching

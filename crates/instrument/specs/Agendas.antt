@@ -1,6 +1,7 @@
 -- The agenda with the room that it has: so many more entries need no memory.
-use Rattle.std.specs.Prelude.{ℕ, ◌+◌, ◌-◌, max, Option, Some, None, List, [], ◌∷◌, ◌++◌, length}
-use Rattle.instrument.specs.Books.{FoundFree, first_free}
+use Rattle.std.specs.Prelude.{◌≡◌, ℕ, ◌+◌, ◌-◌, max, if◌then◌else◌, Option, Some, None, List, [], ◌∷◌, ◌++◌, remove}
+use Rattle.std.specs.List.{list_any}
+use Rattle.instrument.specs.Books.{FoundFree, unlinks, freed_point, first_free}
 use Rattle.instrument.specs.declared.entry.Entry.{Entry}
 
 pub record AgendaData : Type 0 where
@@ -39,3 +40,18 @@ without_found (Some f) a = record { entries = f.rest; room = a.room + 1 }
 
 abbrev pub without_free : AgendaData → AgendaData
 without_free a = without_found (first_free [] a.entries) a
+
+-- ---- the search for a Free
+
+-- the point of the entry, if it is a Free and none before it unlinks the point
+abbrev pub free_point : Option ℕ → List Entry → Option ℕ
+free_point None before = None
+free_point (Some p) before = if list_any (unlinks p) before then None else Some p
+
+abbrev pub free_entry : Option Entry → List Entry → Option ℕ
+free_entry None before = None
+free_entry (Some e) before = free_point (freed_point e) before
+
+-- the Free at a place of the agenda, with what is left without it
+abbrev pub IsFoundAt : List Entry → ℕ → ℕ → Type 0
+IsFoundAt entries place point = first_free [] entries ≡ Some (record { point = point; rest = remove entries place })

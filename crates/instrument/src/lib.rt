@@ -5,6 +5,7 @@ mod agenda;
 mod blocks;
 mod costs;
 mod entry;
+mod freeing;
 mod laws;
 mod number;
 mod room;
