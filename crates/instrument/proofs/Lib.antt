@@ -28,3 +28,4 @@ pub mod Slotting
 pub mod Admitting
 pub mod Lawful
 pub mod Searching
+pub mod Numbers

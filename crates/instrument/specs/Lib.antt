@@ -6,3 +6,4 @@ pub mod Admission
 pub mod Placements
 pub mod Scenes
 pub mod Laws
+pub mod Numbers

@@ -1,9 +1,9 @@
-ghost use Rattle.std.specs.Prelude.{◌≡◌, ℕ, ◌+◌, ◌<◌, ◌≤◌, not, OnErr, OnOk, take, drop, length, slice_index_or};
-ghost use Rattle.std.specs.List.{list_any};
+ghost use Rattle.std.specs.Prelude.{◌≡◌, ◌<◌, [], OnErr, OnOk};
 ghost use Rattle.instrument.specs.Agendas as lists;
-ghost use Rattle.instrument.specs.Books.{unlinks};
+ghost use Rattle.instrument.specs.Books.{first_free};
 
 use crate::entry::Entry;
+use crate::freeing::{FreeAt, find_free};
 use pn_types::NoMemory;
 use std::alloc::Global;
 use std::collections::VecDeque;
@@ -72,5 +72,15 @@ impl Agenda {
         let entry = self.entries.pop_front()?;
         self.room += 1;
         Some(entry)
+    }
+    /// Takes the first Free before which no unlinking of its point stands, and answers its point.
+    pub fn take_free(&mut self) -> Option<u64>
+        ensures point { result ≡ lists.point_of (first_free [] self.old.entries) }
+        ensures taken { self.new ≡ lists.without_free self.old }
+    {
+        let FreeAt { place, point } = find_free(&self.entries)?;
+        let _free = self.entries.remove(place);
+        self.room += 1;
+        Some(point)
     }
 }
