@@ -1,6 +1,7 @@
 //! What holds of the placer beside the machine.
 
 ghost use Rattle.instrument.specs.Laws.{IsApart, IsLegal, IsPlacedWhenLinked, Scenes, StaysInForce};
+ghost use Rattle.instrument.specs.Numbers.{AdmissionsTell, StatesStay};
 
 /// Take any image whose text is of words of 32 bits that never name x31, and any list of acts: turns and samples, plans that are
 /// admitted or refused, instruments that are armed and dropped, entries that are handed out and done, Frees that are put
@@ -24,4 +25,14 @@ pub fn linked_is_placed()
 /// the time since it was armed.
 pub fn armed_stays_in_force()
     ensures { Scenes StaysInForce }
+{}
+
+/// An instrument that is gone stays gone, and one that wasn't dropped is placing or armed until it is, whatever is called.
+pub fn states_stay()
+    ensures { StatesStay }
+{}
+
+/// An admission makes an instrument of the next number, which is being placed, and whose cost is within the limit.
+pub fn admissions_tell()
+    ensures { AdmissionsTell }
 {}
