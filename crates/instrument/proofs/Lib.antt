@@ -29,3 +29,4 @@ pub mod Admitting
 pub mod Lawful
 pub mod Searching
 pub mod Numbers
+pub mod Spacing
