@@ -18,7 +18,8 @@ use Rattle.machine.proofs.Lists.{get_append, get_before}
 use Rattle.instrument.specs.Admission.{slot_count, slots_from, with_sites, predicted}
 use Rattle.instrument.specs.Books.{Book, Blocks, is_held, mini_room, rooms_of}
 use Rattle.instrument.specs.Fits.{slots_for}
-use Rattle.instrument.specs.Placements.{Instrument, is_leaving, is_mini_room_of, sites_of, slots_taken, is_over, with_instrument, with_slots}
+use Rattle.instrument.specs.Placements.{is_leaving, is_mini_room_of, sites_of, slots_taken, is_over, with_instrument, with_slots}
+use Rattle.instrument.specs.declared.instrument.Instrument.{Instrument}
 use Rattle.instrument.specs.Scenes as scenes
 use Rattle.instrument.specs.Scenes.{Scene, Told, admits, IsPlanFor, Admits}
 use Rattle.instrument.specs.declared.number.Refused.{Refused}

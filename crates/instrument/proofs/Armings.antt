@@ -12,7 +12,8 @@ use Rattle.machine.specs.Events as events
 use Rattle.machine.specs.Events.{Event, May, MayArm}
 use Rattle.machine.specs.Instruments.{InForce}
 use Rattle.machine.proofs.Lists.{in_map, map_in, find_gives}
-use Rattle.instrument.specs.Placements.{Instrument, is_leaving, with_state, instrument_at, armed}
+use Rattle.instrument.specs.Placements.{is_leaving, with_state, instrument_at, armed}
+use Rattle.instrument.specs.declared.instrument.Instrument.{Instrument}
 use Rattle.instrument.specs.Placements as placements
 use Rattle.tramp_spec.specs.Slots as slots
 use Rattle.machine.specs.Instruments as instruments

@@ -15,7 +15,8 @@ use Rattle.machine.specs.Replays.{Legal, replay}
 use Rattle.machine.proofs.Lists.{in_map, map_in, in_filter}
 use Rattle.instrument.specs.Books.{Book, is_held, is_mini_of, with_hold, without_site, mini_leaves, base_leaves, rooms_left}
 use Rattle.instrument.specs.Placements as placements
-use Rattle.instrument.specs.Placements.{Instrument, is_leaving, is_site_of, is_here, with_state, without_sites}
+use Rattle.instrument.specs.Placements.{is_leaving, is_site_of, is_here, with_state, without_sites}
+use Rattle.instrument.specs.declared.instrument.Instrument.{Instrument}
 use Rattle.instrument.specs.Scenes as scenes
 use Rattle.instrument.specs.Scenes.{Scene, Drops}
 use Rattle.instrument.specs.declared.number.State.TheVariants.{Armed, Leaving}

@@ -16,7 +16,8 @@ use Rattle.machine.proofs.Lists.{in_filter, filter_in}
 use Rattle.machine.proofs.Replaying.{legal-append, replay-append}
 use Rattle.instrument.specs.Books.{is_held, stays, FoundFree, first_free}
 use Rattle.instrument.specs.Handing.{is_barred}
-use Rattle.instrument.specs.Placements.{Instrument, is_leaving, is_mini_room_of, is_here, sites_of, point_in, agenda_in}
+use Rattle.instrument.specs.Placements.{is_leaving, is_mini_room_of, is_here, sites_of, point_in, agenda_in}
+use Rattle.instrument.specs.declared.instrument.Instrument.{Instrument}
 use Rattle.instrument.specs.Scenes as scenes
 use Rattle.instrument.specs.Scenes.{Scene, Told, frees, sweeps, Hands, Sweeps}
 use Rattle.instrument.specs.declared.entry.Entry.{Entry}

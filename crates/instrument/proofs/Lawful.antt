@@ -12,7 +12,8 @@ use Rattle.machine.specs.Laws.{IsProgram}
 use Rattle.machine.proofs.Lists as lists
 use Rattle.machine.proofs.Beginning.{begins}
 use Rattle.instrument.specs.Laws.{AreApart, IsNoPlacing, Scenes, IsLegal, IsApart, IsPlacedWhenLinked, StaysInForce}
-use Rattle.instrument.specs.Placements.{Instrument, is_leaving}
+use Rattle.instrument.specs.Placements.{is_leaving}
+use Rattle.instrument.specs.declared.instrument.Instrument.{Instrument}
 use Rattle.instrument.specs.Scenes as scenes
 use Rattle.instrument.specs.Scenes.{Act, Happens, Admits, Arms, Drops, Hands, Sweeps, Scene, first_scene, CanDo, AllCanDo, events_of, scene_after}
 use Rattle.instrument.specs.declared.entry.Entry.{Entry}

@@ -10,7 +10,8 @@ use Rattle.instrument.specs.Admission.{predicted, slot_count, slots_from, with_s
 use Rattle.instrument.specs.Books.{Book, stays}
 use Rattle.instrument.specs.Fits.{slots_for}
 use Rattle.instrument.specs.Numbers.{Call, Admit, Arm, Drop, Next, NextFree, PutBack, Freed, called, IsNoDrop, IsNumbered, StatesStay, IsAdmission, AdmissionsTell}
-use Rattle.instrument.specs.Placements.{Placements, Instrument, is_leaving, is_mini_room_of, is_site_of, sites_of, without_sites, state_in, state_of, with_state, is_here, is_over, with_instrument, with_slots, slots_taken, or_same, admission}
+use Rattle.instrument.specs.Placements.{Placements, is_leaving, is_mini_room_of, is_site_of, sites_of, without_sites, state_in, state_of, with_state, is_here, is_over, with_instrument, with_slots, slots_taken, or_same, admission}
+use Rattle.instrument.specs.declared.instrument.Instrument.{Instrument}
 use Rattle.instrument.specs.declared.number.Refused.{Refused}
 use Rattle.instrument.specs.declared.number.Refused.TheVariants.{OverCost, TooMany}
 use Rattle.instrument.specs.declared.number.State.{State}

@@ -8,7 +8,7 @@ use Rattle.tramp_spec.specs.Banks.{bank_len}
 use Rattle.tramp_spec.specs.Slots.{Place, width, places, places_of, IsSlotOf, ArePlaces}
 use Rattle.machine.specs.Cores.{In}
 use Rattle.instrument.specs.Admission.{slots_of_var, slot_count, slots_from}
-use Rattle.instrument.specs.Placements.{Instrument}
+use Rattle.instrument.specs.declared.instrument.Instrument.{Instrument}
 use Rattle.std.proofs.lemmas.Grind.{flat_map-append}
 use Rattle.instrument.proofs.Folds.{append_nil, append_left, append_right}
 use Rattle.instrument.proofs.Going.{get_in}

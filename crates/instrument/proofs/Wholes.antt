@@ -15,7 +15,8 @@ use Rattle.machine.specs.Events.{Event}
 use Rattle.machine.specs.Instruments.{Spares, IsSpared, InForce, AllLet}
 use Rattle.machine.specs.Replays.{replay, Legal}
 use Rattle.instrument.specs.Books.{is_held}
-use Rattle.instrument.specs.Placements.{Instrument, is_leaving, sites_of}
+use Rattle.instrument.specs.Placements.{is_leaving, sites_of}
+use Rattle.instrument.specs.declared.instrument.Instrument.{Instrument}
 use Rattle.instrument.specs.Scenes.{Scene}
 use Rattle.instrument.specs.declared.entry.Entry.{Entry}
 use Rattle.instrument.specs.declared.entry.Entry.TheVariants.{WriteMini}

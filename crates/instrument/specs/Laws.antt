@@ -9,7 +9,8 @@ use Rattle.machine.specs.Events.{Apart, HasMini, IsEntered}
 use Rattle.machine.specs.Instruments.{Carries, InForce}
 use Rattle.machine.specs.Laws.{IsProgram}
 use Rattle.machine.specs.Replays.{replay, Legal}
-use Rattle.instrument.specs.Placements.{Placements, Instrument}
+use Rattle.instrument.specs.Placements.{Placements}
+use Rattle.instrument.specs.declared.instrument.Instrument.{Instrument}
 use Rattle.instrument.specs.Scenes.{Act, first_scene, AllCanDo, events_of, scene_after}
 use Rattle.instrument.specs.declared.entry.Entry.{Entry}
 use Rattle.instrument.specs.declared.entry.Entry.TheVariants.{WriteBase, WriteMini, LinkMini, LinkPoint, UnlinkMini, UnlinkPoint, Free}

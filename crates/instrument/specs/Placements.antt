@@ -13,17 +13,12 @@ use Rattle.instrument.specs.Books.{Book, is_held, without_site, rooms_behind, st
 use Rattle.instrument.specs.Fits.{slots_for}
 use Rattle.instrument.specs.declared.entry.Entry.{Entry}
 use Rattle.instrument.specs.declared.entry.Entry.TheVariants.{Free}
+use Rattle.instrument.specs.declared.instrument.Instrument.{Instrument}
 use Rattle.instrument.specs.declared.number.Refused.{Refused}
 use Rattle.instrument.specs.declared.number.Refused.TheVariants.{OverCost, TooMany, NoSlot}
 use Rattle.instrument.specs.declared.number.State.{State}
 use Rattle.instrument.specs.declared.number.State.TheVariants.{Placing, Armed, Leaving, Gone}
 use Rattle.instrument.specs.declared.room.Room.{Room}
-
--- an instrument that isn't gone
-pub record Instrument : Type 0 where
-  pub no : ℕ
-  pub placed : Placed
-  pub state : State
 
 -- The program's words and the number of instruments that are allowed at once, which stay; the book; the instruments that aren't
 -- gone, by number; and how many were admitted ever.

@@ -11,7 +11,8 @@ use Rattle.machine.specs.Events as events
 use Rattle.machine.specs.Events.{Event, May, MayArm, IsQuiet}
 use Rattle.instrument.specs.Books.{freed_point}
 use Rattle.instrument.specs.Handing.{event_of, is_barred}
-use Rattle.instrument.specs.Placements.{Placements, Instrument, no_placements, instrument_at, state_of, admission, or_same, armed, dropped, front, behind, free_front, free_behind, put_back, freed}
+use Rattle.instrument.specs.Placements.{Placements, no_placements, instrument_at, state_of, admission, or_same, armed, dropped, front, behind, free_front, free_behind, put_back, freed}
+use Rattle.instrument.specs.declared.instrument.Instrument.{Instrument}
 use Rattle.instrument.specs.declared.entry.Entry.{Entry}
 use Rattle.instrument.specs.declared.number.Refused.{Refused}
 use Rattle.instrument.specs.declared.number.State.TheVariants.{Placing, Armed}

@@ -6,12 +6,14 @@ mod blocks;
 mod costs;
 mod entry;
 mod freeing;
+mod instrument;
 mod laws;
 mod number;
 mod room;
 
 pub use costs::predicted;
 pub use entry::Entry;
+pub use instrument::Instrument;
 pub use laws::{acts_are_legal, admissions_tell, armed_stays_in_force, linked_is_placed, rooms_and_slots_apart, states_stay};
 pub use number::{InstrumentNo, Refused, State};
 pub use room::{Hold, Room};
