@@ -30,3 +30,4 @@ pub mod Lawful
 pub mod Searching
 pub mod Numbers
 pub mod Spacing
+pub mod Mapping

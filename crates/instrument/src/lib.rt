@@ -10,6 +10,7 @@ mod instrument;
 mod laws;
 mod number;
 mod room;
+mod rooms;
 
 pub use costs::predicted;
 pub use entry::Entry;
