@@ -1,5 +1,6 @@
 pub mod Books
 pub mod Agendas
+pub mod Ledgers
 pub mod Handing
 pub mod Fits
 pub mod Admission

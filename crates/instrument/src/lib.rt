@@ -8,6 +8,7 @@ mod entry;
 mod freeing;
 mod instrument;
 mod laws;
+mod ledger;
 mod number;
 mod room;
 mod rooms;

@@ -1,6 +1,6 @@
 //! Rooms in the order of their taking.
 
-ghost use Rattle.std.specs.Prelude.{◌≡◌, filter, find, map, vec_capacity};
+ghost use Rattle.std.specs.Prelude.{◌≡◌, ◌≤◌, filter, find, map, vec_capacity, vec_len};
 ghost use Rattle.instrument.specs.Books as books;
 
 use crate::room::Room;
@@ -59,6 +59,7 @@ pub fn unlink(rooms: &mut [Room], at: u64)
 /// The rooms of the unlinked blocks of a point are left out.
 pub fn free(rooms: &mut Vec<Room>, point: u64)
     ensures rooms { rooms.new.items ≡ filter (books.stays point) rooms.old.items }
+    ensures no_more { vec_len rooms.new ≤ vec_len rooms.old }
     ensures capacity { vec_capacity rooms.new ≡ vec_capacity rooms.old }
 {
     rooms.retain(|room| room.stays(point));

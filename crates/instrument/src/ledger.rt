@@ -1,0 +1,99 @@
+ghost use Rattle.std.specs.Prelude.{◌≡◌, ◌+◌, ◌<◌, ◌≤◌, [], ◌∷◌, ◌++◌, filter};
+ghost use Rattle.instrument.specs.Agendas as lists;
+ghost use Rattle.instrument.specs.Books as books;
+ghost use Rattle.instrument.specs.Placements.{agenda_in, behind_first};
+ghost use Rattle.instrument.specs.declared.entry.Entry.TheVariants.{Free};
+
+use crate::agenda::Agenda;
+use crate::entry::Entry;
+use crate::room::Room;
+use crate::rooms::{find_base, find_mini, free, leave_base, leave_mini, unlink};
+use std::marker::Model;
+
+/// The rooms that were taken and not given back, and the agenda.
+#[derive(Drop)]
+pub struct Ledger {
+    rooms: Vec<Room>,
+    agenda: Agenda,
+    // How many more rooms need no memory.
+    spare: usize,
+}
+
+impl Model for Ledger {
+    ghost use Rattle.std.specs.Prelude.{◌+◌, ◌≤◌, vec_capacity, vec_len};
+    ghost use Rattle.instrument.specs.Ledgers.{LedgerData};
+
+    ghost Value = { LedgerData };
+
+    ghost view = { λ l. record {
+      book = record { rooms = l.rooms.items; agenda = l.agenda.entries };
+      spare_rooms = l.spare;
+      spare_entries = l.agenda.room;
+    } };
+
+    ghost invariant = { λ l. vec_len l.rooms + l.spare ≤ vec_capacity l.rooms };
+}
+
+impl Ledger {
+    /// Hands out the first entry of the agenda. Where it unlinks a block, the block's room is noted.
+    pub fn hand_out(&mut self) -> Option<Entry>
+        ensures entry { result ≡ lists.first_entry self.old.book.agenda }
+        ensures book { self.new.book ≡ behind_first self.old.book.agenda self.old.book }
+        ensures spare { self.new.spare_rooms ≡ self.old.spare_rooms }
+    {
+        let entry = self.agenda.take_first()?;
+        if let Entry::UnlinkMini { at, .. } | Entry::UnlinkPoint { at, .. } = &entry {
+            unlink(&mut self.rooms, *at);
+        }
+        Some(entry)
+    }
+
+    /// Gives back the rooms of the unlinked blocks of a point.
+    pub fn free(&mut self, point: u64)
+        ensures rooms { self.new.book.rooms ≡ filter (books.stays point) self.old.book.rooms }
+        ensures agenda { self.new.book.agenda ≡ self.old.book.agenda }
+    {
+        free(&mut self.rooms, point);
+    }
+
+    /// Takes out the first Free before which no unlinking of its point stands, and answers its point.
+    pub fn take_free(&mut self) -> Option<u64>
+        ensures point { result ≡ lists.point_of (books.first_free [] self.old.book.agenda) }
+        ensures rooms { self.new.book.rooms ≡ self.old.book.rooms }
+        ensures agenda { self.new.book.agenda ≡ agenda_in (books.first_free [] self.old.book.agenda) self.old.book.agenda }
+    {
+        self.agenda.take_free()
+    }
+
+    /// Puts a refused Free at the back.
+    pub fn put_back(&mut self, point: u64)
+        requires { 0 < self.old.spare_entries }
+        ensures rooms { self.new.book.rooms ≡ self.old.book.rooms }
+        ensures agenda { self.new.book.agenda ≡ self.old.book.agenda ++ Free point ∷ [] }
+    {
+        self.agenda.push(Entry::Free { point });
+    }
+
+    /// Drops the site whose mini block has this room: it is unlinked, with its point where no other mini block is held there,
+    /// and the point is freed.
+    pub fn drop_site(&mut self, room: Room)
+        requires { 3 ≤ self.old.spare_entries }
+        ensures book { self.new.book ≡ books.without_site room self.old.book }
+        ensures spare { self.new.spare_rooms ≡ self.old.spare_rooms }
+        ensures entries { self.old.spare_entries ≤ self.new.spare_entries + 3 }
+    {
+        let Room { point, at, .. } = room;
+        leave_mini(&mut self.rooms, at);
+        self.agenda.push(Entry::UnlinkMini { point, at });
+        if find_mini(&self.rooms, point).is_none() {
+            if let Some(base) = find_base(&self.rooms, point) {
+                self.agenda.push(Entry::UnlinkPoint {
+                    point,
+                    at: base.at,
+                });
+            }
+            leave_base(&mut self.rooms, point);
+        }
+        self.agenda.push(Entry::Free { point });
+    }
+}
