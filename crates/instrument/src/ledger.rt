@@ -1,4 +1,4 @@
-ghost use Rattle.std.specs.Prelude.{◌≡◌, ◌+◌, ◌<◌, ◌≤◌, [], ◌∷◌, ◌++◌, filter};
+ghost use Rattle.std.specs.Prelude.{◌≡◌, ◌+◌, ◌<◌, ◌≤◌, [], ◌∷◌, ◌++◌, ◌^◌, None, IfSome, filter, length};
 ghost use Rattle.instrument.specs.Agendas as lists;
 ghost use Rattle.instrument.specs.Books as books;
 ghost use Rattle.instrument.specs.Placements.{agenda_in, behind_first};
@@ -9,6 +9,7 @@ use crate::entry::Entry;
 use crate::room::Room;
 use crate::rooms::{find_base, find_mini, free, leave_base, leave_mini, unlink};
 use std::marker::Model;
+use tramp_spec::Block;
 
 /// The rooms that were taken and not given back, and the agenda.
 #[derive(Drop)]
@@ -95,5 +96,57 @@ impl Ledger {
             leave_base(&mut self.rooms, point);
         }
         self.agenda.push(Entry::Free { point });
+    }
+
+    /// Takes a room behind the others.
+    fn take_room(&mut self, room: Room)
+        requires { 0 < self.old.spare_rooms }
+        ensures rooms { self.new.book.rooms ≡ self.old.book.rooms ++ room ∷ [] }
+        ensures agenda { self.new.book.agenda ≡ self.old.book.agenda }
+        ensures spare { self.new.spare_rooms + 1 ≡ self.old.spare_rooms }
+        ensures entries { self.new.spare_entries ≡ self.old.spare_entries }
+    {
+        self.rooms.push_reserved(room);
+        self.spare -= 1;
+    }
+
+    /// Places the mini block of a site of an instrument.
+    fn place_mini(&mut self, owner: u64, mini: Block)
+        requires rooms { 1 ≤ self.old.spare_rooms }
+        requires entries { 2 ≤ self.old.spare_entries }
+        requires short { length mini.words < 2 ^ 32 }
+        ensures book { self.new.book ≡ books.with_blocks owner (record { base = None; mini = mini }) self.old.book }
+        ensures rooms_left { self.new.spare_rooms + 1 ≡ self.old.spare_rooms }
+        ensures entries_left { self.new.spare_entries + 2 ≡ self.old.spare_entries }
+    {
+        let Block { point, at, .. } = mini;
+        self.take_room(Room::of_mini(owner, &mini));
+        self.agenda.push(Entry::WriteMini(mini));
+        self.agenda.push(Entry::LinkMini { point, at });
+    }
+
+    /// Places a site of an instrument: its blocks get their rooms, and what is to be done for them is put into the agenda.
+    pub fn place(&mut self, owner: u64, base: Option<Block>, mini: Block)
+        requires rooms { 2 ≤ self.old.spare_rooms }
+        requires entries { 4 ≤ self.old.spare_entries }
+        requires bases { IfSome base (λ block. length block.words < 2 ^ 32) }
+        requires minis { length mini.words < 2 ^ 32 }
+        ensures book { self.new.book ≡ books.with_blocks owner (record { base = base; mini = mini }) self.old.book }
+        ensures rooms_left { self.old.spare_rooms ≤ self.new.spare_rooms + 2 }
+        ensures entries_left { self.old.spare_entries ≤ self.new.spare_entries + 4 }
+    {
+        match base {
+            None => self.place_mini(owner, mini),
+            Some(base) => {
+                let link = Entry::LinkPoint {
+                    point: base.point,
+                    at: base.at,
+                };
+                self.take_room(Room::of_base(&base));
+                self.agenda.push(Entry::WriteBase(base));
+                self.place_mini(owner, mini);
+                self.agenda.push(link);
+            }
+        }
     }
 }

@@ -1,5 +1,7 @@
-ghost use Rattle.std.specs.Prelude.{◌≡◌};
+ghost use Rattle.std.specs.Prelude.{◌≡◌, ◌<◌, ◌^◌, length};
 ghost use Rattle.instrument.specs.Books as books;
+
+use tramp_spec::Block;
 
 /// How a room of the tool text is kept.
 #[derive(Clone, Copy, Debug, PartialEq, Eq, Drop)]
@@ -56,6 +58,36 @@ impl Hold {
 }
 
 impl Room {
+    /// The room of a base block.
+    pub fn of_base(block: &Block) -> Room
+        requires { length block.now.words < 2 ^ 32 }
+        ensures { result ≡ books.base_room block.now }
+    {
+        Room {
+            point: block.point,
+            at: block.at,
+            len: block.words.as_slice().len() as u32,
+            base: true,
+            owner: 0,
+            hold: Hold::Held,
+        }
+    }
+
+    /// The room of a mini block of an instrument.
+    pub fn of_mini(owner: u64, block: &Block) -> Room
+        requires { length block.now.words < 2 ^ 32 }
+        ensures { result ≡ books.mini_room owner block.now }
+    {
+        Room {
+            point: block.point,
+            at: block.at,
+            len: block.words.as_slice().len() as u32,
+            base: false,
+            owner,
+            hold: Hold::Held,
+        }
+    }
+
     /// It is that of a base block of the point whose unlinking wasn't asked for.
     pub fn is_base_of(&self, point: u64) -> bool
         ensures { result ≡ books.is_base_of point self.now }
