@@ -1,6 +1,7 @@
-ghost use Rattle.std.specs.Prelude.{◌≡◌, ◌+◌, ◌<◌, ◌≤◌, [], ◌∷◌, ◌++◌, ◌^◌, None, IfSome, filter, length};
+ghost use Rattle.std.specs.Prelude.{◌≡◌, ◌+◌, ◌<◌, ◌≤◌, [], ◌∷◌, ◌++◌, ◌^◌, None, IfSome, OnErr, OnOk, filter, length};
 ghost use Rattle.instrument.specs.Agendas as lists;
 ghost use Rattle.instrument.specs.Books as books;
+ghost use Rattle.instrument.specs.Ledgers as ledgers;
 ghost use Rattle.instrument.specs.Placements.{agenda_in, behind_first};
 ghost use Rattle.instrument.specs.declared.entry.Entry.TheVariants.{Free};
 
@@ -8,6 +9,8 @@ use crate::agenda::Agenda;
 use crate::entry::Entry;
 use crate::room::Room;
 use crate::rooms::{find_base, find_mini, free, leave_base, leave_mini, unlink};
+use pn_types::NoMemory;
+use std::alloc::Global;
 use std::marker::Model;
 use tramp_spec::Block;
 
@@ -36,6 +39,33 @@ impl Model for Ledger {
 }
 
 impl Ledger {
+    /// A ledger with no rooms and no entries.
+    pub fn new(alloc: Global) -> Ledger
+        ensures { result ≡ ledgers.no_ledger }
+    {
+        Ledger {
+            rooms: Vec::new(alloc),
+            agenda: Agenda::new(alloc),
+            spare: 0,
+        }
+    }
+
+    /// Takes the memory of at least so many more rooms and entries.
+    ///
+    /// # Errors
+    ///
+    /// `NoMemory` where memory is wanting. Then nothing has changed.
+    pub fn reserve(&mut self, rooms: usize, entries: usize) -> Result<(), NoMemory>
+        ensures ok { OnOk result (self.new ≡ ledgers.with_spare rooms entries self.old) }
+        ensures err { OnErr result (self.new ≡ self.old) }
+    {
+        let spare = self.spare.max(rooms);
+        self.rooms.reserve(spare)?;
+        self.agenda.reserve(entries)?;
+        self.spare = spare;
+        Ok(())
+    }
+
     /// Hands out the first entry of the agenda. Where it unlinks a block, the block's room is noted.
     pub fn hand_out(&mut self) -> Option<Entry>
         ensures entry { result ≡ lists.first_entry self.old.book.agenda }
