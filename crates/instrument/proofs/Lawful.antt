@@ -11,7 +11,7 @@ use Rattle.machine.specs.Instruments.{CarriesSites}
 use Rattle.machine.specs.Laws.{IsProgram}
 use Rattle.machine.proofs.Lists as lists
 use Rattle.machine.proofs.Beginning.{begins}
-use Rattle.instrument.specs.Laws.{AreApart, IsNoPlacing, Scenes, IsLegal, IsApart, IsPlacedWhenLinked, StaysInForce}
+use Rattle.instrument.specs.Laws.{Always, AreApart, IsNoPlacing, IsLegal, IsApart, IsPlacedWhenLinked, StaysInForce}
 use Rattle.instrument.specs.Placements.{is_leaving}
 use Rattle.instrument.specs.declared.instrument.Instrument.{Instrument}
 use Rattle.instrument.specs.Scenes as scenes
@@ -85,14 +85,14 @@ always image harts budget limit acts p c = all_whole (start_core image harts bud
 
 -- ---- the laws
 
-pub legal_always : Scenes IsLegal
+pub legal_always : Always IsLegal
 legal_always image harts budget limit acts p c = let w = always image harts budget limit acts p c in record { legal = w.legal; core = w.core }
 
 rooms_apart : (rooms : List Room) → AllApart (map room_row rooms) → AreApart rooms
 rooms_apart [] a = tt
 rooms_apart (x ∷ rooms) a = ((λ y h. a.0 (room_row y) (lists.map_in room_row rooms y h)), rooms_apart rooms a.1)
 
-pub apart_always : Scenes IsApart
+pub apart_always : Always IsApart
 apart_always image harts budget limit acts p c =
     let w = always image harts budget limit acts p c in
     record {
@@ -109,7 +109,7 @@ no_placing s (UnlinkMini p m) o = tt
 no_placing s (UnlinkPoint p m) o = tt
 no_placing s (Free p) o = tt
 
-pub placed_always : Scenes IsPlacedWhenLinked
+pub placed_always : Always IsPlacedWhenLinked
 placed_always image harts budget limit acts p c =
     let w = always image harts budget limit acts p c in
     let s = scene_after acts (first_scene image harts budget limit) in
@@ -135,7 +135,7 @@ carries_sites s i all l f (p ∷ ps) (q ∷ qs) sub h =
       carries_sites s i all l f ps qs (λ z k. sub z (inr k)) h.2,
     )
 
-pub force_always : Scenes StaysInForce
+pub force_always : Always StaysInForce
 force_always image harts budget limit acts p c =
     let w = always image harts budget limit acts p c in
     let s = scene_after acts (first_scene image harts budget limit) in

@@ -31,3 +31,4 @@ pub mod Searching
 pub mod Numbers
 pub mod Spacing
 pub mod Mapping
+pub mod Examples

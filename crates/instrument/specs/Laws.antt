@@ -49,8 +49,8 @@ IsLinked c i = (s : PlacedSite) → In s i.placed.sites → HasMini c s.at s.min
 
 -- ---- laws: behind all acts each of which could be done when its turn came
 
-abbrev pub Scenes : ((Image → ℕ → ℕ → ℕ → List Act → Type 0)) → Type 0
-Scenes Law = (image : Image) (harts budget limit : ℕ) (acts : List Act) → IsProgram image → AllCanDo acts (first_scene image harts budget limit) → Law image harts budget limit acts
+abbrev pub Always : (Image → ℕ → ℕ → ℕ → List Act → Type 0) → Type 0
+Always Law = (image : Image) (harts budget limit : ℕ) (acts : List Act) → IsProgram image → AllCanDo acts (first_scene image harts budget limit) → Law image harts budget limit acts
 
 -- each event that was done could happen when it came, and the machine is what the events make of it
 pub record IsLegal (image : Image) (harts budget limit : ℕ) (acts : List Act) : Type 0 where

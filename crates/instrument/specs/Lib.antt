@@ -8,3 +8,4 @@ pub mod Placements
 pub mod Scenes
 pub mod Laws
 pub mod Numbers
+pub mod ComesAndGoes
