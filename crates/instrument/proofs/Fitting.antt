@@ -38,10 +38,10 @@ free_at free (suc len) unit n e lo hi =
 none_in : {A : Type 0} (p : A → Bool) (xs : List A) (x : A) → not (list_any p xs) ≡ true → In x xs → p x ≡ true → ⊥
 none_in p xs x e h t = true≢false (sym e ∙ not_from_true _ (any_in p xs x h t))
 
-in_range_from : (at len a : ℕ) → at ≤ a → a < at + len → in_range at len a ≡ true
+pub in_range_from : (at len a : ℕ) → at ≤ a → a < at + len → in_range at len a ≡ true
 in_range_from at len a lo hi = let d : a - at < len = omega arith in and_from _ _ (le-leb _ _ lo) (lt-ltb _ _ d)
 
-range_of : (at len a : ℕ) → in_range at len a ≡ true → (at ≤ a) × (a < at + len)
+pub range_of : (at len a : ℕ) → in_range at len a ≡ true → (at ≤ a) × (a < at + len)
 range_of at len a e =
     let p = and_parts (nat_le at a) (nat_lt (a - at) len) e in
     let lo : at ≤ a = leb-true at a p.0 in

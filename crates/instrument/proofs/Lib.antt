@@ -32,3 +32,4 @@ pub mod Numbers
 pub mod Spacing
 pub mod Mapping
 pub mod Examples
+pub mod WordSpace
