@@ -12,6 +12,7 @@ mod ledger;
 mod number;
 mod room;
 mod rooms;
+mod roster;
 
 pub use costs::predicted;
 pub use entry::Entry;
