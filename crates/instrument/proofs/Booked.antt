@@ -1,22 +1,22 @@
 -- The book beside the rows: what is kept of them, and that admission and dropping keep it.
-use Rattle.std.proofs.Common.{◌≡◌, ℕ, List, [], ◌∷◌, ◌++◌, length, Option, Some, None, refl, sym, ap, ◌∙◌, subst, arith, ⊎_elim, inl, inr}
+use Rattle.std.proofs.Common.{◌≡◌, ℕ, List, [], ◌∷◌, ◌++◌, length, Option, Some, None, refl, sym, ap, ◌∙◌, subst, ⊎_elim, inl, inr}
 use Rattle.std.specs.Prelude.{map, filter, find, Bool, true, false, cond, not, ◌&&◌, ◌==◌}
-use Rattle.std.proofs.lemmas.Bool.{true≢false, cases_Bool, cases_eq, cond-true, cond-false, eq-eqb, ne_eqb, and_parts, and_from, and_left, and_right, not_from_false, not_from_true}
+use Rattle.std.proofs.lemmas.Bool.{cases_Bool, cond-true, cond-false, eq-eqb, ne_eqb, and_from, and_left, and_right}
 use Rattle.rv_word.specs.Plain.{Words}
 use Rattle.tramp_spec.specs.declared.block.Block.{Block}
-use Rattle.machine.specs.Cores.{In, Row, Status, Written, Live}
+use Rattle.machine.specs.Cores.{In, Row, Status, Live}
 use Rattle.machine.specs.Effects.{with_status, at_set}
 use Rattle.machine.specs.Events.{Apart, current_base}
 use Rattle.machine.proofs.Lists.{in_map, map_in, in_filter, filter_in}
-use Rattle.instrument.specs.Books.{is_held, is_unlinked, leaving, base_room, mini_room, is_base_of, is_mini_of, with_hold, rooms_of, placing, mini_leaves, base_leaves, removing, rooms_left}
+use Rattle.instrument.specs.Books.{is_held, is_unlinked, leaving, is_base_of, with_hold}
 use Rattle.instrument.specs.declared.entry.Entry.{Entry}
-use Rattle.instrument.specs.declared.entry.Entry.TheVariants.{UnlinkMini, UnlinkPoint, Free}
+use Rattle.instrument.specs.declared.entry.Entry.TheVariants.{Free}
 use Rattle.instrument.specs.declared.room.Hold.{Hold}
 use Rattle.instrument.specs.declared.room.Hold.TheVariants.{Held, Leaving, Unlinked}
 use Rattle.instrument.specs.declared.room.Room.{Room}
-use Rattle.instrument.proofs.Stages.{a_row, block_row, is_now, Fresh, Idle, Stage, stage, pending, Ok, Sound, ending, GoodBase, GoodMini, AllApart, is_other_mini, is_other_base, is_held_room, room_row, standing}
-use Rattle.instrument.proofs.Folds.{sound_append, sound_left, sound_right, ending_append, append_assoc, append_nil, pending_append, in_append, append_left, append_right, apart_append, filter_append, map_append, find_none, find_append, find_first, find_map}
-use Rattle.instrument.proofs.Claims.{Of, Claimed}
+use Rattle.instrument.proofs.Stages.{a_row, is_now, Fresh, Idle, Stage, stage, pending, Sound, ending, GoodBase, AllApart, is_held_room, room_row, standing}
+use Rattle.instrument.proofs.Folds.{sound_append, sound_left, sound_right, ending_append, pending_append, filter_append, map_append, find_map}
+use Rattle.instrument.proofs.Claims.{Claimed}
 
 -- a base block of a site, where its point has none, and room for it
 pub record BaseFits (t : Words) (rooms : List Room) (d m : Block) : Type 0 where

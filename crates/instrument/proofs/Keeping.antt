@@ -1,37 +1,30 @@
 -- What is kept of the machine and the book, and that doing an entry keeps it.
-use Rattle.std.proofs.Common.{◌≡◌, ℕ, zero, suc, List, [], ◌∷◌, ◌++◌, Option, Some, None, refl, sym, ap, ◌∙◌, subst, ⊎_elim, inl, inr}
-use Rattle.std.specs.Prelude.{map, filter, Bool, true, false, cond, slice_get, ◌⊎◌, ◌&&◌, ◌==◌}
-use Rattle.std.specs.List.{list_any}
-use Rattle.std.proofs.lemmas.Bool.{true≢false, cases_eq, cond-true, cond-false, eq-eqb, ne_eqb, and_parts, and_from, and_right, not_from_false, not_from_true, false_from_ne_true, or_left, or_right}
-use Rattle.rv_word.specs.Plain.{Words, Plain}
-use Rattle.tramp_spec.specs.Harts.{Hart}
+use Rattle.std.proofs.Common.{◌≡◌, ℕ, List, [], ◌∷◌, ◌++◌, refl, sym, ap, ◌∙◌, subst, ⊎_elim, inl, inr}
+use Rattle.std.specs.Prelude.{map, filter, Bool, true, false, ◌⊎◌, ◌&&◌, ◌==◌}
+use Rattle.std.proofs.lemmas.Bool.{true≢false, cases_eq, cond-true, cond-false, eq-eqb, ne_eqb, and_parts, and_from, and_right, not_from_false, not_from_true, false_from_ne_true}
+use Rattle.rv_word.specs.Plain.{Plain}
 use Rattle.machine.specs.Cores.{In, Row, Status, Live, Core}
 use Rattle.machine.specs.Effects.{with_status, at_set, after}
 use Rattle.machine.specs.Events as events
 use Rattle.machine.specs.Events.{Event, May, IsQuiet}
-use Rattle.machine.specs.Places.{holds}
-use Rattle.machine.specs.Replays.{Legal, replay}
-use Rattle.machine.specs.Turns.{turn_by}
 use Rattle.machine.proofs.Lists.{in_map, in_filter}
 use Rattle.machine.proofs.Invariant.{Inv}
-use Rattle.machine.proofs.Replaying.{legal-append, replay-append}
 use Rattle.machine.proofs.Steps.{step, fixed}
-use Rattle.instrument.specs.Books.{is_held, is_unlinked, is_base_of, with_hold, unlinked_at, stays, FoundFree, unlinks, freed_point, or_later, first_free}
-use Rattle.instrument.specs.Handing.{event_of, is_barred}
+use Rattle.instrument.specs.Books.{is_held, is_unlinked, is_base_of, with_hold, unlinked_at, stays}
+use Rattle.instrument.specs.Handing.{event_of}
 use Rattle.instrument.specs.declared.entry.Entry.{Entry}
 use Rattle.instrument.specs.declared.entry.Entry.TheVariants.{WriteBase, WriteMini, LinkMini, LinkPoint, UnlinkMini, UnlinkPoint, Free}
 use Rattle.instrument.specs.declared.room.Hold.{Hold}
 use Rattle.instrument.specs.declared.room.Hold.TheVariants.{Held, Leaving, Unlinked}
 use Rattle.instrument.specs.declared.room.Room.{Room}
 use Rattle.instrument.proofs.Stages.{block_row, is_now, Fresh, Idle, Ready, Stage, stage, puts, pending, next, Sound, ending, AllApart, is_other_mini, is_other_base, is_held_room, room_row, standing, rooms_done}
-use Rattle.instrument.proofs.Folds.{append_assoc, in_append, append_left, append_right, apart_across, append_nil, filter_filter, find_filter}
+use Rattle.instrument.proofs.Folds.{in_append, append_left, apart_across, filter_filter, find_filter}
 use Rattle.instrument.proofs.Claims.{Sized, sized_of}
 use Rattle.instrument.proofs.Rows.{same_row, base_of, pending_at}
 use Rattle.instrument.proofs.Ties.{Tied}
 use Rattle.instrument.proofs.Doings.{entry_done}
-use Rattle.instrument.proofs.Booked.{Based, Booked, standing_in, standing_same, based_hold, take_free, give_free}
-use Rattle.instrument.proofs.Entering.{admitted, dropped}
-use Rattle.instrument.proofs.Steps.{State, Out, out, a_book, done, release, hand_entry, hand, sweep, Step, Happened, Admitted, Dropped, Handed, Swept, does, LeavesBlocks, Can, AllCan, all_events, all_steps}
+use Rattle.instrument.proofs.Booked.{Based, Booked, standing_in, standing_same, based_hold}
+use Rattle.instrument.proofs.Steps.{State, a_book, done}
 
 pub record Kept (st : State) : Type 0 where
   pub plain : Plain

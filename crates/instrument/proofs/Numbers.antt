@@ -1,15 +1,15 @@
 -- What the calls make of the states of instruments.
-use Rattle.std.proofs.Common.{◌≡◌, ℕ, ◌+◌, ◌<◌, ◌≤◌, List, [], ◌∷◌, ◌++◌, length, Option, Some, None, Ok, Err, refl, sym, ap, ◌∙◌, subst, arith, ⊎_elim, inl, inr}
-use Rattle.std.specs.Prelude.{map, filter, find, Bool, true, false, cond, not, Result, nat_le, nat_lt, ◌==◌, ◌||◌}
+use Rattle.std.proofs.Common.{◌≡◌, ℕ, ◌+◌, ◌<◌, ◌≤◌, List, [], ◌∷◌, ◌++◌, length, Option, Some, None, Ok, Err, refl, sym, ap, ◌∙◌, subst, arith, ⊎_elim}
+use Rattle.std.specs.Prelude.{map, filter, find, Bool, true, false, cond, not, Result, nat_le, nat_lt, ◌==◌}
 use Rattle.std.specs.List.{list_any}
-use Rattle.std.proofs.lemmas.Bool.{true≢false, cases_eq, cases_lt, cond-true, cond-false, eq-eqb, ne_eqb, lt-ltb, or_left, eqb-true}
+use Rattle.std.proofs.lemmas.Bool.{true≢false, cases_lt, cond-true, cond-false, eq-eqb, ne_eqb, lt-ltb, or_left, eqb-true}
 use Rattle.pn_types.specs.declared.plan.Plan.{Plan}
 use Rattle.machine.specs.Cores.{In}
 use Rattle.machine.proofs.Lists.{in_map, in_filter, find_gives}
 use Rattle.instrument.specs.Admission.{predicted, slot_count, slots_from, with_sites}
 use Rattle.instrument.specs.Books.{Book, stays}
 use Rattle.instrument.specs.Fits.{slots_for}
-use Rattle.instrument.specs.Numbers.{Call, Admit, Arm, Drop, Next, NextFree, PutBack, Freed, called, IsNoDrop, IsNumbered, StatesStay, IsAdmission, AdmissionsTell}
+use Rattle.instrument.specs.Numbers.{Call, Admit, Arm, Drop, Next, NextFree, PutBack, Freed, called, IsNoDrop, IsNumbered, StatesStay, AdmissionsTell}
 use Rattle.instrument.specs.Placements.{Placements, is_leaving, is_mini_room_of, is_site_of, sites_of, without_sites, state_in, state_of, with_state, is_here, is_over, with_instrument, with_slots, slots_taken, or_same, admission}
 use Rattle.instrument.specs.declared.instrument.Instrument.{Instrument}
 use Rattle.instrument.specs.declared.number.Refused.{Refused}
@@ -17,7 +17,7 @@ use Rattle.instrument.specs.declared.number.Refused.TheVariants.{OverCost, TooMa
 use Rattle.instrument.specs.declared.number.State.{State}
 use Rattle.instrument.specs.declared.number.State.TheVariants.{Placing, Armed, Leaving, Gone}
 use Rattle.instrument.specs.declared.room.Room.{Room}
-use Rattle.instrument.proofs.Folds.{in_append, find_append, find_first, find_map, find_none}
+use Rattle.instrument.proofs.Folds.{in_append, find_append, find_first, find_map}
 
 abbrev at_no : ℕ → List Instrument → Option Instrument
 at_no n is = find (λ i. i.no == n) is

@@ -1,5 +1,5 @@
 -- The search for a Free, a place at a time.
-use Rattle.std.proofs.Common.{◌≡◌, ℕ, zero, suc, ◌+◌, ◌<◌, List, [], ◌∷◌, ◌++◌, length, Option, Some, None, refl, sym, ap, ◌∙◌, subst, arith, take, drop}
+use Rattle.std.proofs.Common.{◌≡◌, ℕ, zero, suc, ◌+◌, ◌<◌, List, [], ◌∷◌, ◌++◌, length, Option, Some, None, refl, sym, ap, ◌∙◌, arith, take, drop}
 use Rattle.std.specs.Prelude.{Bool, true, false, cond, slice_get, remove}
 use Rattle.std.specs.List.{list_any}
 use Rattle.instrument.specs.Agendas.{free_point, free_entry, IsFoundAt}

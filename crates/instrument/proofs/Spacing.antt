@@ -1,7 +1,7 @@
 -- The lowest place of the definitions is the room that a space gives.
-use Rattle.std.proofs.Common.{◌≡◌, ℕ, zero, suc, ◌+◌, ◌*◌, ◌<◌, ◌≤◌, List, [], ◌∷◌, ◌++◌, Option, Some, None, refl, sym, ap, ◌∙◌, subst, arith, ⊎_elim, inl, inr}
+use Rattle.std.proofs.Common.{◌≡◌, ℕ, zero, suc, ◌+◌, ◌<◌, ◌≤◌, List, [], ◌∷◌, ◌++◌, Some, None, refl, sym, ap, ◌∙◌, subst, arith, ⊎_elim, inl, inr}
 use Rattle.std.specs.Prelude.{Bool, true, false, cond, find, filter, not, nat_le, nat_lt, ◌&&◌, ◌||◌, ◌==◌, ◌⊎◌}
-use Rattle.std.specs.List.{list_any, range_with_len}
+use Rattle.std.specs.List.{range_with_len}
 use Rattle.std.proofs.lemmas.Bool.{true≢false, cases_Bool, cases_lt, and_parts, and_from, and_left, and_right, cond-true, cond-false, eqb-true, le-leb, lt-ltb, ltb-true, le-ltb, leb-true}
 use Rattle.std.proofs.lemmas.Grind.{common_steps}
 use Rattle.tool_space.proofs.Ranges.{in_range, below_range, above_range}

@@ -1,5 +1,5 @@
 -- Two instruments at one point come and go, and a third comes behind them: what the book then is.
-use Rattle.std.specs.Prelude.{◌≡◌, ℕ, true, false, Some, None, List, [], ◌∷◌}
+use Rattle.std.specs.Prelude.{◌≡◌, ℕ, true, false, Some, None, [], ◌∷◌}
 use Rattle.tramp_spec.specs.Marks.{tool}
 use Rattle.tramp_spec.specs.declared.block.Block.{Block}
 use Rattle.instrument.specs.Books.{Book, base_room, mini_room, with_blocks, without_site, with_hold, leaving}

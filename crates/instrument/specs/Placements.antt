@@ -2,7 +2,6 @@
 use Rattle.std.specs.Prelude.{ℕ, ◌+◌, ◌==◌, ◌&&◌, ◌||◌, not, nat_le, nat_lt, if◌then◌else◌, Bool, true, false, Option, Some, None, Result, Ok, Err, List, [], ◌∷◌, ◌++◌, length, map, filter, find, flat_map}
 use Rattle.std.specs.List.{list_any}
 use Rattle.pn_types.specs.declared.image.Image.{Image}
-use Rattle.pn_types.specs.declared.placed.Placed.{Placed}
 use Rattle.pn_types.specs.declared.placed.PlacedSite.{PlacedSite}
 use Rattle.pn_types.specs.declared.plan.Plan.{Plan}
 use Rattle.rv_mem.specs.Start.{program_of}

@@ -118,10 +118,7 @@ impl Ledger {
         self.agenda.push(Entry::UnlinkMini { point, at });
         if find_mini(&self.rooms, point).is_none() {
             if let Some(base) = find_base(&self.rooms, point) {
-                self.agenda.push(Entry::UnlinkPoint {
-                    point,
-                    at: base.at,
-                });
+                self.agenda.push(Entry::UnlinkPoint { point, at: base.at });
             }
             leave_base(&mut self.rooms, point);
         }

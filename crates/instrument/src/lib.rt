@@ -18,8 +18,8 @@ pub use costs::predicted;
 pub use entry::Entry;
 pub use instrument::Instrument;
 pub use laws::{
-    acts_are_legal, admissions_tell, armed_stays_in_force, comes_and_goes, linked_is_placed, rooms_and_slots_apart,
-    states_stay,
+    acts_are_legal, admissions_tell, armed_stays_in_force, comes_and_goes, linked_is_placed,
+    rooms_and_slots_apart, states_stay,
 };
 pub use number::{InstrumentNo, Refused, State};
 pub use room::{Hold, Room};

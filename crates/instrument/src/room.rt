@@ -115,7 +115,11 @@ impl Room {
     {
         let leaves = !self.base && self.at == at;
         Room {
-            hold: if leaves { self.hold.leaving() } else { self.hold },
+            hold: if leaves {
+                self.hold.leaving()
+            } else {
+                self.hold
+            },
             ..self
         }
     }
@@ -126,7 +130,11 @@ impl Room {
     {
         let leaves = self.base && self.point == point;
         Room {
-            hold: if leaves { self.hold.leaving() } else { self.hold },
+            hold: if leaves {
+                self.hold.leaving()
+            } else {
+                self.hold
+            },
             ..self
         }
     }
