@@ -145,7 +145,7 @@ module _ (c : Core) (s : Plain) (v : Inv c s) (fr : Fresh) (t : Tied c.code c.ro
 
     pub part_point : May c (events.UnlinkPoint p) × Leads_to c (point_unlinked (Some (qw.0)) p c) fr (UnlinkPoint p b.at)
     part_point = (
-      record { base = b.at; stands = subst (λ q. get c.code q ≡ Some (enter (jump_word q b.at))) qb.3 (t.doors b qb.1 qb.2 live) },
+      record { jump = jump_word p b.at; stands = subst (λ q. get c.code q ≡ Some (enter (jump_word q b.at))) qb.3 (t.doors b qb.1 qb.2 live) },
       record {
         tied = record { doors = q_doors qw.0; fresh = idle_ok _ _ fr idle };
         now = now_less (retired_at p) (is_other_base p) c.rows q_a q_b q_c;

@@ -70,7 +70,7 @@ linked_site c s v p m h e =
     let at : (f.0).row.point ≡ p = (f.1).point ∙ (sym (ap (λ (u : Row). u.point) a.2) ∙ h.point) in
     record {
       mini = h;
-      base = ⊎_elim (λ (o : get c.code p ≡ Some (own w.0)). let z = ap (λ (u : MarkedWord). u.mark) (same_some (get c.code p) (own w.0) (enter (jump_word p e.base)) o e.stands) in absurd cc)
+      base = ⊎_elim (λ (o : get c.code p ≡ Some (own w.0)). let z = ap (λ (u : MarkedWord). u.mark) (same_some (get c.code p) (own w.0) (enter e.jump) o e.stands) in absurd cc)
           (λ (o : (d : Piece) × In d v.ps × IsBase d × (d.row.point ≡ p) × (d.row.status ≡ Live) × Door c.code d). ((o.0).row, row_in c.program c.code c.rows v.ps v.clock v.static o.0 o.1, (o.2).base, o.3, o.4))
           (v.static.words p w.0 (ap (program_word c.program) (sym at) ∙ w.1));
     }
@@ -79,7 +79,7 @@ linked_site c s v p m h e =
 pub entered : (c : Core) (fr : Fresh) (t : Tied c.code c.rows fr) (p m : ℕ) → LinkedSite c p m → IsEntered c p
 entered c fr t p m l =
     let b = l.base in
-    record { base = (b.0).at; stands = subst (λ q. get c.code q ≡ Some (enter (jump_word q (b.0).at))) b.3 (t.doors b.0 b.1 b.2 b.4) }
+    record { jump = jump_word p (b.0).at; stands = subst (λ q. get c.code q ≡ Some (enter (jump_word q (b.0).at))) b.3 (t.doors b.0 b.1 b.2 b.4) }
 
 -- an entry passes a row by
 abbrev pub Passes : Entry → Row → Type 0
