@@ -16,4 +16,4 @@ mkdir -p crates/random_patches/src
 cp "$top/tools/random_patches.rs" crates/random_patches/src/main.rt
 echo "random_patches: pn_types rv_word rv_mem rv_exec tramp_spec relocate tramp_build prim_code code_store tool_space elf_form elf_load turn_order plain_run machine" >> crates.txt
 cd crates/random_patches
-rt try -- "$@"
+rt try --seconds 100000 -- "$@"

@@ -11,8 +11,8 @@ use Rattle.code_store.specs.Stores.{IsInToolText, StoredCode}
 use Rattle.machine.specs.Cores.{In, Row, Status, Live, Core}
 use Rattle.machine.specs.Effects.{after, is_kept, with_status}
 use Rattle.machine.specs.Effects as effects
-use Rattle.machine.specs.Events.{Event, Free, HasMini, May, MayWrite, Write}
-use Rattle.machine.specs.Links.{HasLink, is_before, owners_left}
+use Rattle.machine.specs.Events.{Event, Free, HasMini, May, MayWrite, Write, is_before}
+use Rattle.machine.specs.Links.{HasLink, owners_left}
 use Rattle.machine.specs.Reached.{AreOwners, IsReached, owner_by}
 use Rattle.machine.specs.Views.{BlockList, IsSound, core_of}
 use Rattle.machine.proofs.Lists.{find_gives}

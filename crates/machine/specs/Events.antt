@@ -63,9 +63,13 @@ next_of code r = target_at (get code (link_at r)) (link_at r)
 abbrev pub is_linked : Row → Bool
 is_linked r = if r.base then is_current r.status else is_live r.status
 
+-- a linked block leads to an address
+abbrev pub is_before : Code → ℕ → Row → Bool
+is_before code m r = is_linked r && (next_of code r == m)
+
 -- the linked block that leads to an address
 abbrev pub before : Core → ℕ → Option Row
-before c m = find (λ r. is_linked r && (next_of c.code r == m)) c.rows
+before c m = find (is_before c.code m) c.rows
 
 -- ---- conditions
 

@@ -24,10 +24,6 @@ pub record HasLink (program : Words) (r : Row) : Type 0 where
   pub small : link_at r < 2 ^ 64
   pub word : IsTrue (is_tool_word program (link_at r))
 
--- a linked block leads to an address
-abbrev pub is_before : Code → ℕ → Row → Bool
-is_before code m r = is_linked r && (next_of code r == m)
-
 -- the words of the point's retired blocks belong to no block
 abbrev pub owners_left : ℕ → List Row → Owners → Owners
 owners_left p [] owners = owners

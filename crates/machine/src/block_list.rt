@@ -3,8 +3,8 @@ ghost use Rattle.std.specs.Option.{option_map};
 ghost use Rattle.pn_types.specs.declared.limits.TheConstants.{TOOL_TEXT_LEN};
 ghost use Rattle.machine.specs.Cores.{In, Row, is_current};
 ghost use Rattle.machine.specs.Effects.{at_set, is_kept, retired_at, with_status};
-ghost use Rattle.machine.specs.Events.{current_base, is_linked, link_at, next_of, row_at};
-ghost use Rattle.machine.specs.Links.{HasLink, IsWithin, is_before, is_live_mini, owners_left};
+ghost use Rattle.machine.specs.Events.{current_base, is_before, is_linked, link_at, next_of, row_at};
+ghost use Rattle.machine.specs.Links.{HasLink, IsWithin, is_live_mini, owners_left};
 ghost use Rattle.machine.specs.States.{words_in};
 ghost use Rattle.machine.specs.Views.{row_of, status_of};
 

@@ -1,7 +1,7 @@
 use Rattle.std.proofs.Common.{◌≡◌, ◌∙◌, ap, sym, get_or}
 use Rattle.std.specs.Prelude.{false, map}
 use Rattle.code_store.proofs.Entries.{get_or-same}
-use Rattle.machine.specs.Links.{is_before}
+use Rattle.machine.specs.Events.{is_before}
 use Rattle.machine.specs.Views.{BlockList, row_of}
 use Rattle.machine.proofs.BlockLists.{find_past, no_row, not_before, not_next, row_read}
 use Rattle.machine.proofs.block_list.Blocks.before.Goals as goal

@@ -1,6 +1,6 @@
 use Rattle.std.proofs.Common.{◌≡◌, drop}
 use Rattle.std.specs.Prelude.{find, map}
-use Rattle.machine.specs.Links.{is_before}
+use Rattle.machine.specs.Events.{is_before}
 use Rattle.machine.specs.Views.{row_of}
 use Rattle.machine.proofs.block_list.Blocks.before.Given as goal
 
