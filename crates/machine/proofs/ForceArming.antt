@@ -14,7 +14,7 @@ use Rattle.tramp_spec.specs.Marks.{tool}
 use Rattle.tramp_spec.specs.Slots.{places_of, set_places}
 use Rattle.tramp_spec.specs.Statements.{body_of}
 use Rattle.tramp_spec.specs.declared.mark.MarkedWord.{MarkedWord}
-use Rattle.prim_code.specs.Fitting.{AreStmtsOf}
+use Rattle.prim_code.specs.Fitting.{AreStmtsOf, IsMeasurable}
 use Rattle.prim_code.proofs.Listing.{length_places}
 use Rattle.machine.specs.Cores.{In, Row, Live, Core, is_current}
 use Rattle.machine.specs.Effects.{after, armed}
@@ -22,7 +22,6 @@ use Rattle.machine.specs.Events.{Arm, MayArm, IsEntered}
 use Rattle.machine.specs.Instruments.{words_at, body_in, HasBody, CarriesSites, Carries, Spares, IsSpared}
 use Rattle.machine.specs.Measures.{site_at, opened}
 use Rattle.machine.specs.Openings.{opening, opening_now}
-use Rattle.machine.specs.Readings.{IsMeasurable}
 use Rattle.machine.proofs.Arming.{arms, get_map}
 use Rattle.machine.proofs.Force.{Fits, Mine, Ready, Reads}
 use Rattle.machine.proofs.ForceEvents.{Known}

@@ -16,7 +16,7 @@ use Rattle.machine.specs.Effects.{after}
 use Rattle.machine.specs.Events.{Write, LinkMini, Apart, target_at, MayWrite, MayLinkMini, MayLinkPoint}
 use Rattle.machine.specs.Laws.{IsProgram}
 use Rattle.machine.specs.LoopCounted.{loop, loop_core, count_up, rounds, counter, loop_base, loop_mini, linking}
-use Rattle.machine.specs.Readings.{IsMeasurable}
+use Rattle.prim_code.specs.Fitting.{IsMeasurable}
 use Rattle.machine.specs.Replays.{replay, Legal}
 
 pub program : IsProgram loop

@@ -15,6 +15,7 @@ use Rattle.rv_exec.specs.Start.{start}
 use Rattle.rv_exec.proofs.Runs.{length-plain, length-run_from}
 use Rattle.tramp_spec.specs.Harts.{Hart}
 use Rattle.tramp_spec.specs.Slots.{places, read_first, read_place}
+use Rattle.prim_code.specs.Fitting.{IsMeasurable}
 use Rattle.prim_code.specs.Standing.{HasValue}
 use Rattle.machine.specs.Cores.{Core, start_core}
 use Rattle.machine.specs.Effects.{after}
@@ -22,7 +23,7 @@ use Rattle.machine.specs.Events.{Event, Arm, IsQuiet}
 use Rattle.machine.specs.Instruments.{reading, Carries, IsSpared, AllLet}
 use Rattle.machine.specs.Laws.{IsProgram}
 use Rattle.machine.specs.Measures.{Level, passed_by, level, level_at, opened, is_timer, measured, difference, measure, measure_of}
-use Rattle.machine.specs.Readings.{reading_if, readings, ticks_of, IsMeasurable, ReadingsMeasure}
+use Rattle.machine.specs.Readings.{reading_if, readings, ticks_of, ReadingsMeasure}
 use Rattle.machine.specs.Replays.{replay, Legal, owns}
 use Rattle.machine.proofs.Beginning.{begins, starts}
 use Rattle.machine.proofs.ForceArming.{families_in, ages_in, arms_known}

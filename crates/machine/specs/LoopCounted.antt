@@ -15,7 +15,8 @@ use Rattle.machine.specs.Cores.{Core, start_core}
 use Rattle.machine.specs.Events.{Event, Turn, Write, LinkMini, LinkPoint, Arm}
 use Rattle.machine.specs.Laws.{IsProgram}
 use Rattle.machine.specs.Measures.{measure}
-use Rattle.machine.specs.Readings.{IsMeasurable, IsSampled, sampled_first, readings}
+use Rattle.prim_code.specs.Fitting.{IsMeasurable}
+use Rattle.machine.specs.Readings.{IsSampled, sampled_first, readings}
 use Rattle.machine.specs.Replays.{replay, Legal, owns}
 
 -- the one word is a jump to itself

@@ -9,7 +9,7 @@ use Rattle.rv_word.specs.Plain.{Words, Plain}
 use Rattle.rv_mem.specs.Start.{program_of}
 use Rattle.rv_exec.specs.Start.{start}
 use Rattle.tramp_spec.specs.Harts.{Hart}
-use Rattle.prim_code.specs.Fitting.{AreStmtsOf}
+use Rattle.prim_code.specs.Fitting.{IsMeasurable}
 use Rattle.machine.specs.Cores.{Core, start_core}
 use Rattle.machine.specs.Events.{Event, Arm, Sample, May}
 use Rattle.machine.specs.Instruments.{reading, Carries, InForce}
@@ -33,14 +33,6 @@ abbrev pub ticks_of : List Event → Core → ℕ
 ticks_of es c = length (owns es c)
 
 -- ---- the law
-
--- What a plan is within, so that its code measures it: values of 32 bits to begin with, and sites of different addresses, with at
--- most 32 statements each, which fit the variables.
-pub record IsMeasurable (plan : Plan) : Type 0 where
-  pub narrow : AllByRecursion (λ v. v.initially < 2 ^ 32) plan.vars
-  pub apart : IsDistinct (λ a b. a.at == b.at) plan.sites
-  pub few : AllByRecursion (λ s. length s.stmts ≤ 32) plan.sites
-  pub fitting : AllByRecursion (λ s. AreStmtsOf plan.vars s.stmts) plan.sites
 
 -- An instrument is armed in the course of these events, where it carries a plan, and is in force since. It can be sampled behind
 -- the first of the events since, which may be none, and again behind all.
