@@ -20,3 +20,4 @@ pub mod Views
 pub mod Performing
 pub mod LoopCounted
 pub mod Links
+pub mod ThreeCounters
