@@ -44,6 +44,7 @@ pub mod LoopLinked
 pub mod LoopCounted
 pub mod Traces
 pub mod ThreeLinked
+pub mod ThreeTurns
 pub mod BlockLists
 pub mod Reaching
 pub mod Owning

@@ -17,6 +17,7 @@ use Rattle.machine.specs.States.{leaving}
 use Rattle.machine.specs.Turns.{turn, may_turn}
 use Rattle.std.proofs.lemmas.Bool.{eqb-true}
 use Rattle.machine.proofs.Lists.{Stands}
+use Rattle.machine.proofs.Replaying.{replay-append, owns-append, legal-append}
 
 -- words with their addresses
 abbrev pub Trace : Type 0
@@ -78,6 +79,13 @@ pub record Run (es : List Event) (c d : Core) (ticks : List ℕ) : Type 0 where
   pub legal : Legal es c
   pub state : replay es c ≡ d
   pub owned_by : owns es c ≡ ticks
+
+pub and_then : {es fs : List Event} {c d e : Core} {ticks more : List ℕ} → Run es c d ticks → Run fs d e more → Run (es ++ fs) c e (ticks ++ more)
+and_then {es = es} {fs = fs} {c = c} {d = d} {e = e} {ticks = ticks} r s = record {
+  legal = legal-append es fs c r.legal (subst (Legal fs) (sym r.state) s.legal);
+  state = replay-append es fs c ∙ (ap (replay fs) r.state ∙ s.state);
+  owned_by = owns-append es fs c ∙ (ap (λ z. z ++ owns fs (replay es c)) r.owned_by ∙ ap (λ z. ticks ++ z) (ap (owns fs) r.state ∙ s.owned_by));
+}
 
 both : (a b : Bool) → (a && b) ≡ true → (a ≡ true) × (b ≡ true)
 both true b e = (refl, e)
