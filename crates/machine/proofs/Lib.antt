@@ -45,6 +45,7 @@ pub mod LoopCounted
 pub mod Traces
 pub mod ThreeLinked
 pub mod ThreeTurns
+pub mod ThreeCounters
 pub mod BlockLists
 pub mod Reaching
 pub mod Owning

@@ -28,9 +28,13 @@ use Rattle.machine.proofs.Traces.{one}
 abbrev pub mini_of : ℕ → ℕ → ℕ → List MarkedWord
 mini_of load keep last = tool 0x00000fb7 ∷ tool load ∷ tool 0x00128293 ∷ tool keep ∷ tool last ∷ []
 
--- the words that lead from block to block differ from time to time
-pub record Three (code : Code) (head first third : ℕ) : Type 0 where
-  pub entered : get code 0x10000 ≡ Some (enter 0x0000106f)
+-- the jump that enters at the point
+abbrev pub entering : MarkedWord
+entering = enter 0x0000106f
+
+-- the point's word, and those that lead from block to block, differ from time to time
+pub record Three (code : Code) (at_point : MarkedWord) (head first third : ℕ) : Type 0 where
+  pub point : get code 0x10000 ≡ Some at_point
   pub base : Stands code 0x11000 (tool 0x00503423 ∷ tool head ∷ tool 0x00803283 ∷ own 0xff5fe06f ∷ [])
   pub on_2 : Stands code 0x11010 (mini_of 0x010fb283 0x005fb823 first)
   pub on_3 : Stands code 0x11024 (mini_of 0x018fb283 0x005fbc23 0xfddff06f)
@@ -39,10 +43,10 @@ pub record Three (code : Code) (head first third : ℕ) : Type 0 where
 abbrev pub three_code : Code
 three_code = (replay (linking ++ adding) (loop_core 1000)).code
 
-pub three : Three three_code 0x0340006f 0xfe9ff06f 0xfddff06f
+pub three : Three three_code entering 0x0340006f 0xfe9ff06f 0xfddff06f
 unfolding body_of decode_of
 three = record {
-  entered = simp gets;
+  point = simp gets;
   base = (simp gets, (simp gets, (simp gets, (simp gets, tt))));
   on_2 = (simp gets, (simp gets, (simp gets, (simp gets, (simp gets, tt)))));
   on_3 = (simp gets, (simp gets, (simp gets, (simp gets, (simp gets, tt)))));
@@ -64,20 +68,34 @@ past_second = insert three_code 0x11048 (tool 0xfc9ff06f)
 abbrev pub past_both : Code
 past_both = insert past_second 0x11048 (tool 0xfc1ff06f)
 
-pub three_past_second : Three past_second 0x0340006f 0xfe9ff06f 0xfc9ff06f
+pub three_past_second : Three past_second entering 0x0340006f 0xfe9ff06f 0xfc9ff06f
 unfolding body_of decode_of
 three_past_second = record {
-  entered = simp gets;
+  point = simp gets;
   base = (simp gets, (simp gets, (simp gets, (simp gets, tt))));
   on_2 = (simp gets, (simp gets, (simp gets, (simp gets, (simp gets, tt)))));
   on_3 = (simp gets, (simp gets, (simp gets, (simp gets, (simp gets, tt)))));
   on_4 = (simp gets, (simp gets, (simp gets, (simp gets, (simp gets, tt)))));
 }
 
-pub three_past_both : Three past_both 0x0340006f 0xfe9ff06f 0xfc1ff06f
+pub three_past_both : Three past_both entering 0x0340006f 0xfe9ff06f 0xfc1ff06f
 unfolding body_of decode_of
 three_past_both = record {
-  entered = simp gets;
+  point = simp gets;
+  base = (simp gets, (simp gets, (simp gets, (simp gets, tt))));
+  on_2 = (simp gets, (simp gets, (simp gets, (simp gets, (simp gets, tt)))));
+  on_3 = (simp gets, (simp gets, (simp gets, (simp gets, (simp gets, tt)))));
+  on_4 = (simp gets, (simp gets, (simp gets, (simp gets, (simp gets, tt)))));
+}
+
+-- the program's word stands at the point again
+abbrev pub left_code : Code
+left_code = insert three_code 0x10000 (own 0x6f)
+
+pub three_left : Three left_code (own 0x6f) 0x0340006f 0xfe9ff06f 0xfddff06f
+unfolding body_of decode_of
+three_left = record {
+  point = simp gets;
   base = (simp gets, (simp gets, (simp gets, (simp gets, tt))));
   on_2 = (simp gets, (simp gets, (simp gets, (simp gets, (simp gets, tt)))));
   on_3 = (simp gets, (simp gets, (simp gets, (simp gets, (simp gets, tt)))));
@@ -88,10 +106,10 @@ three_past_both = record {
 abbrev pub fourth_code : Code
 fourth_code = insert (put_words 0x11010 (mini_on 2 0x11010 0x11038).words past_both) 0x11004 (tool 0x00c0006f)
 
-pub three_fourth : Three fourth_code 0x00c0006f 0x0180006f 0xfc1ff06f
+pub three_fourth : Three fourth_code entering 0x00c0006f 0x0180006f 0xfc1ff06f
 unfolding body_of decode_of
 three_fourth = record {
-  entered = simp gets;
+  point = simp gets;
   base = (simp gets, (simp gets, (simp gets, (simp gets, tt))));
   on_2 = (simp gets, (simp gets, (simp gets, (simp gets, (simp gets, tt)))));
   on_3 = (simp gets, (simp gets, (simp gets, (simp gets, (simp gets, tt)))));
@@ -137,7 +155,7 @@ apart_from [] mini a r h = absurd h
 apart_from (x ∷ rows) mini a r (inl e) = subst (λ (u : Row). Apart u.at u.len mini 5) (sym e) a.0
 apart_from (x ∷ rows) mini a r (inr h) = apart_from rows mini a.1 r h
 
-may_write : (code : Code) (rows : List Row) (x : Hart) (slot mini next : ℕ) → 2 ≤ slot → slot < 5 → mini % 4 ≡ 0 → reaches (mini + 16) next ≡ true → 0x11000 ≤ mini → mini + 20 ≤ 0x71000 → AreApart rows mini
+pub may_write : (code : Code) (rows : List Row) (x : Hart) (slot mini next : ℕ) → 2 ≤ slot → slot < 5 → mini % 4 ≡ 0 → reaches (mini + 16) next ≡ true → 0x11000 ≤ mini → mini + 20 ≤ 0x71000 → AreApart rows mini
     → MayWrite (at code rows x) (mini_on slot mini next)
 unfolding body_of
 may_write code rows x slot mini next low high aligned reached above below apart = record {
@@ -147,7 +165,7 @@ may_write code rows x slot mini next low high aligned reached above below apart 
   apart = apart_from rows mini apart;
 }
 
-links_mini : (code : Code) (x : Hart) (rows : List Row) (base : Row) (mini next : ℕ) (i : In (row mini Written) rows) → current_base rows 0x10000 ≡ Some base → next_of code base ≡ next → next_of code (row mini Written) ≡ next → MayLinkMini (at code rows x) 0x10000 mini
+pub links_mini : (code : Code) (x : Hart) (rows : List Row) (base : Row) (mini next : ℕ) (i : In (row mini Written) rows) → current_base rows 0x10000 ≡ Some base → next_of code base ≡ next → next_of code (row mini Written) ≡ next → MayLinkMini (at code rows x) 0x10000 mini
 links_mini code x rows base mini next i current head last = record {
   base = base;
   current = current;
