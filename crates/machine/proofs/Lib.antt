@@ -46,6 +46,7 @@ pub mod Traces
 pub mod ThreeLinked
 pub mod ThreeTurns
 pub mod ThreeCounters
+pub mod HartInside
 pub mod BlockLists
 pub mod Reaching
 pub mod Owning

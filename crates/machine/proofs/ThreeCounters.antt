@@ -1,11 +1,10 @@
 -- Three counters at the loop's point, event by event.
-use Rattle.std.proofs.Common.{◌≡◌, ℕ, zero, suc, ◌+◌, List, [], ◌∷◌, ◌++◌, Option, Some, None, refl, sym, ap, ◌∙◌, subst, arith, inl, inr}
+use Rattle.std.proofs.Common.{◌≡◌, ℕ, zero, suc, List, [], ◌∷◌, ◌++◌, Some, refl, sym, ap, ◌∙◌, subst, arith, inl, inr}
 use Rattle.std.specs.FinMap.{get, gets, insert}
-use Rattle.std.specs.Prelude.{Bool, true, false, IsTrue, replicate, slice_set, map}
+use Rattle.std.specs.Prelude.{true, false, IsTrue, replicate, slice_set, map}
 use Rattle.pn_types.specs.declared.placed.PlacedSite.{PlacedSite}
 use Rattle.rv_word.specs.Registers.{with_reg}
 use Rattle.rv_word.specs.Table.{decode_of}
-use Rattle.rv_exec.specs.Start.{start_regs, start_hart}
 use Rattle.tramp_spec.specs.Banks.{bank_len}
 use Rattle.tramp_spec.specs.Codes.{Code, put_words}
 use Rattle.tramp_spec.specs.Harts.{Hart}
@@ -14,13 +13,13 @@ use Rattle.tramp_spec.specs.Marks.{own, tool}
 use Rattle.tramp_spec.specs.Statements.{body_of}
 use Rattle.machine.specs.Cores.{Core, Row, Status, Written, Live, Retired, In}
 use Rattle.machine.specs.Effects.{after, mini_unlinked}
-use Rattle.machine.specs.Events.{Event, Turn, UnlinkMini, UnlinkPoint, Free, Arm, May, MayArm, HasMini, IsLinked, IsQuiet, before, next_of, target_at}
+use Rattle.machine.specs.Events.{UnlinkMini, UnlinkPoint, Free, May, MayArm, HasMini, IsLinked, IsQuiet, before, target_at}
 use Rattle.machine.specs.Places.{holds}
-use Rattle.machine.specs.LoopCounted.{loop, loop_core, linking}
+use Rattle.machine.specs.LoopCounted.{loop_core, linking}
 use Rattle.machine.specs.Readings.{readings}
 use Rattle.machine.specs.Replays.{replay, Legal, owns}
 use Rattle.machine.specs.States.{settling}
-use Rattle.machine.specs.ThreeCounters.{counter_on, mini_on, first, second, third, fourth, adding, arming, turns, counted, at_second, passing_by, passed_by, gone_on, renewing, renewed, ended, MinisUnlinked, at_third, left, gone_out, PointUnlinked}
+use Rattle.machine.specs.ThreeCounters.{counter_on, mini_on, first, third, fourth, adding, arming, turns, counted, at_second, passing_by, passed_by, gone_on, renewing, renewed, ended, MinisUnlinked, at_third, left, gone_out, PointUnlinked}
 use Rattle.std.proofs.lemmas.Bool.{true≢false}
 use Rattle.machine.proofs.LoopLinked.{linked, linking_legal}
 use Rattle.machine.proofs.Replaying.{replay-append, legal-append}
@@ -69,13 +68,12 @@ begins = refl
 arming_legal : Legal arming (at three_code (rows_third Live) unarmed)
 arming_legal =
     let armed_first = record unarmed { bank = slice_set (replicate bank_len 0) 2 0 } in
-    let armed_second = record unarmed { bank = slice_set (slice_set (replicate bank_len 0) 2 0) 3 0 } in
-    (
+    let armed_second = record unarmed { bank = slice_set (slice_set (replicate bank_len 0) 2 0) 3 0 } in (
       arms three_code (rows_third Live) unarmed 2 0x11010 0x0340006f 0xfe9ff06f 0xfddff06f refl (inr (inl refl)) three,
       (
         arms three_code (rows_third Live) armed_first 3 0x11024 0x0340006f 0xfe9ff06f 0xfddff06f refl (inr (inr (inl refl))) three,
-        (arms three_code (rows_third Live) armed_second 4 0x11038 0x0340006f 0xfe9ff06f 0xfddff06f refl (inr (inr (inr (inl refl)))) three, tt)
-      )
+        (arms three_code (rows_third Live) armed_second 4 0x11038 0x0340006f 0xfe9ff06f 0xfddff06f refl (inr (inr (inr (inl refl)))) three, tt),
+      ),
     )
 
 counts : Legal (linking ++ adding ++ arming) (loop_core 1000)
@@ -121,11 +119,10 @@ module _ (x : Hart) where
   has_mini code rows mini i = record { row = row mini Live; listed = i; mini = refl; point = refl; at = refl; is = refl }
 
   passing_legal : Legal passing_by (at three_code (rows_passed Live Live) x)
-  passing_legal =
-      (
-        has_mini three_code (rows_passed Live Live) 0x11024 (inr (inr (inl refl))),
-        (subst (λ c. May c (UnlinkMini 0x10000 0x11010)) (sym passes_second) (has_mini past_second (rows_passed Live Retired) 0x11010 (inr (inl refl))), tt)
-      )
+  passing_legal = (
+    has_mini three_code (rows_passed Live Live) 0x11024 (inr (inr (inl refl))),
+    (subst (λ c. May c (UnlinkMini 0x10000 0x11010)) (sym passes_second) (has_mini past_second (rows_passed Live Retired) 0x11010 (inr (inl refl))), tt),
+  )
 
 -- a hart that is outside lets everything be freed
 frees : (code : Code) (rows : List Row) (x : Hart) → x.inside ≡ false → May (at code rows x) (Free 0x10000)
@@ -144,16 +141,15 @@ renews : (x : Hart) → x.inside ≡ false → Legal renewing (at past_both (row
 unfolding body_of decode_of
 renews x o =
     let head : get fourth_written 0x11004 ≡ Some (tool 0x0340006f) = simp gets in
-    let last : get fourth_written 0x11020 ≡ Some (tool 0x0180006f) = simp gets in
-    (
+    let last : get fourth_written 0x11020 ≡ Some (tool 0x0180006f) = simp gets in (
       frees past_both (rows_passed Retired Retired) x o,
       (
         may_write past_both (base_row ∷ row 0x11038 Live ∷ []) x 2 0x11010 0x11038 (omega arith) (omega arith) refl refl (omega arith) (omega arith) (inl (omega arith), (inr (omega arith), tt)),
         (
           links_mini fourth_written x (rows_freed Written) base_row 0x11010 0x11038 (inr (inr (inl refl))) refl (ap (λ o. target_at o 0x11004) head) (ap (λ o. target_at o 0x11020) last),
-          (arms fourth_code (rows_freed Live) x 2 0x11010 0x00c0006f 0x0180006f 0xfc1ff06f o (inr (inr (inl refl))) three_fourth, tt)
-        )
-      )
+          (arms fourth_code (rows_freed Live) x 2 0x11010 0x00c0006f 0x0180006f 0xfc1ff06f o (inr (inr (inl refl))) three_fourth, tt),
+        ),
+      ),
     )
 
 renewed_so : (x : Hart) → replay renewing (at past_both (rows_passed Retired Retired) x) ≡ at fourth_code (rows_freed Live) (record x { bank = slice_set x.bank 2 0 })

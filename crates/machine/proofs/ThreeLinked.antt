@@ -1,5 +1,5 @@
 -- The blocks of the three counters may be written and linked, and the words that stand then.
-use Rattle.std.proofs.Common.{◌≡◌, ℕ, zero, suc, ◌+◌, ◌%◌, ◌≤◌, ◌<◌, List, [], ◌∷◌, ◌++◌, Some, refl, sym, ap, ◌∙◌, subst, arith, ⊎_elim, inl, inr}
+use Rattle.std.proofs.Common.{◌≡◌, ℕ, zero, suc, ◌+◌, ◌%◌, ◌≤◌, ◌<◌, List, [], ◌∷◌, ◌++◌, Some, refl, sym, ap, ◌∙◌, subst, arith, inl, inr}
 use Rattle.std.specs.FinMap.{get, gets, insert}
 use Rattle.std.specs.Prelude.{true, false, ◌⊎◌, slice_get}
 use Rattle.rv_mem.specs.Start.{program_of}
@@ -15,7 +15,7 @@ use Rattle.tramp_spec.specs.Jumps.{reaches}
 use Rattle.tramp_spec.specs.Marks.{own, enter, tool}
 use Rattle.tramp_spec.specs.Statements.{body_of}
 use Rattle.tramp_spec.specs.declared.mark.MarkedWord.{MarkedWord}
-use Rattle.machine.specs.Cores.{Core, Row, In, first_hart, Status, Written, Live, Retired}
+use Rattle.machine.specs.Cores.{Core, Row, In, first_hart, Status, Written, Live}
 use Rattle.machine.specs.Events.{Apart, MayWrite, MayLinkMini, current_base, next_of, target_at}
 use Rattle.machine.specs.Replays.{replay, Legal}
 use Rattle.machine.specs.LoopCounted.{loop, loop_core, count_up, rounds, linking}
@@ -203,8 +203,7 @@ adding_legal =
     let head : get second_written 0x11004 ≡ Some (tool 0x00c0006f) = simp gets in
     let last : get second_written 0x11034 ≡ Some (tool 0xfddff06f) = simp gets in
     let next_head : get third_written 0x11004 ≡ Some (tool 0x0200006f) = simp gets in
-    let next_last : get third_written 0x11048 ≡ Some (tool 0xfddff06f) = simp gets in
-    (
+    let next_last : get third_written 0x11048 ≡ Some (tool 0xfddff06f) = simp gets in (
       may_write linked_code rows_first unarmed 3 0x11024 0x11010 (omega arith) (omega arith) refl refl (omega arith) (omega arith) (inl (omega arith), (inl (omega arith), tt)),
       (
         links_mini second_written unarmed (rows_second Written) base_row 0x11024 0x11010 (inr (inr (inl refl))) refl (ap (λ o. target_at o 0x11004) head) (ap (λ o. target_at o 0x11034) last),
@@ -212,10 +211,10 @@ adding_legal =
           may_write second_linked (rows_second Live) unarmed 4 0x11038 0x11024 (omega arith) (omega arith) refl refl (omega arith) (omega arith) (inl (omega arith), (inl (omega arith), (inl (omega arith), tt))),
           (
             links_mini third_written unarmed (rows_third Written) base_row 0x11038 0x11024 (inr (inr (inr (inl refl)))) refl (ap (λ o. target_at o 0x11004) next_head) (ap (λ o. target_at o 0x11048) next_last),
-            tt
-          )
-        )
-      )
+            tt,
+          ),
+        ),
+      ),
     )
 
 pub added : replay adding (linked 1000) ≡ at three_code (rows_third Live) unarmed

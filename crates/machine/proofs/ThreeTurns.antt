@@ -1,7 +1,7 @@
 -- The turns of the hart through the blocks of the three counters.
-use Rattle.std.proofs.Common.{◌≡◌, ℕ, suc, ◌+◌, List, [], ◌∷◌, Some, None, refl, ap}
+use Rattle.std.proofs.Common.{◌≡◌, ℕ, List, [], ◌∷◌, Some, None, refl}
 use Rattle.std.specs.FinMap.{get}
-use Rattle.std.specs.Prelude.{Bool, true, false, replicate}
+use Rattle.std.specs.Prelude.{Bool, true, false}
 use Rattle.rv_word.specs.Exec.{action, perform}
 use Rattle.rv_word.specs.Registers.{reg, with_reg}
 use Rattle.rv_word.specs.Table.{decode_of}
@@ -10,15 +10,15 @@ use Rattle.rv_exec.specs.Start.{start, start_regs}
 use Rattle.tramp_spec.specs.Banks.{bank_len}
 use Rattle.tramp_spec.specs.Codes.{Code}
 use Rattle.tramp_spec.specs.Harts.{Hart, Solo}
-use Rattle.tramp_spec.specs.Marks.{own, enter, tool}
+use Rattle.tramp_spec.specs.Marks.{own, tool}
 use Rattle.tramp_spec.specs.Steps.{perform_on}
 use Rattle.tramp_spec.specs.declared.mark.MarkedWord.{MarkedWord}
-use Rattle.machine.specs.Cores.{Core, Row}
+use Rattle.machine.specs.Cores.{Row}
 use Rattle.machine.specs.Places.{program_pc}
 use Rattle.machine.specs.LoopCounted.{loop}
 use Rattle.machine.specs.States.{leaving}
 use Rattle.machine.proofs.ThreeLinked.{Three, entering, mini_of, at}
-use Rattle.machine.proofs.Traces.{Trace, placed, AllStand, stand_placed, traced, fits, leaves, turns, Run, and_then, follows, leaving_so}
+use Rattle.machine.proofs.Traces.{Trace, placed, AllStand, stand_placed, turns, Run, and_then, follows, leaving_so}
 
 -- the hart by its pc, x5, ticks, inside, and the doublewords 2 to 4 of its bank
 abbrev pub hart : List ℕ → ℕ → ℕ → ℕ → Bool → ℕ → ℕ → ℕ → Hart
@@ -68,10 +68,17 @@ module _ (code : Code) (rows : List Row) (rest : List ℕ) where
       (stand_placed code 0x11010 (mini_of 0x010fb283 0x005fb823 0xfe9ff06f) through_tail s.on_2 (s.base.1.1.0, (s.base.1.1.1.0, tt)))
 
   stands_round : Three code entering 0x00c0006f 0x0180006f 0xfc1ff06f → AllStand code a_round
-  stands_round s =
-      (s.point, (s.base.0, (s.base.1.0,
-      stand_placed code 0x11010 (mini_of 0x010fb283 0x005fb823 0x0180006f) (through_third 0xfc1ff06f through_tail) s.on_2
-      (stand_placed code 0x11038 (mini_of 0x020fb283 0x025fb023 0xfc1ff06f) through_tail s.on_4 (s.base.1.1.0, (s.base.1.1.1.0, tt))))))
+  stands_round s = (
+    s.point,
+    (
+      s.base.0,
+      (
+        s.base.1.0,
+        stand_placed code 0x11010 (mini_of 0x010fb283 0x005fb823 0x0180006f) (through_third 0xfc1ff06f through_tail) s.on_2
+            (stand_placed code 0x11038 (mini_of 0x020fb283 0x025fb023 0xfc1ff06f) through_tail s.on_4 (s.base.1.1.0, (s.base.1.1.1.0, tt))),
+      ),
+    ),
+  )
 
   pub comes_to_third : (first third : ℕ) → Three code entering 0x0340006f first third → Turns 3 (hart rest 0x10000 0 0 false 0 0 0) (hart rest 0x11038 0 0 true 0 0 0) []
   unfolding decode_of action perform perform_on reg with_reg bank_len

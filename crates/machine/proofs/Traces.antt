@@ -1,16 +1,15 @@
 -- The turns of a machine's one hart along words that stand where it comes.
-use Rattle.std.proofs.Common.{◌≡◌, ℕ, zero, suc, ◌+◌, List, [], ◌∷◌, ◌++◌, Option, Some, None, refl, sym, ap, ◌∙◌, subst}
+use Rattle.std.proofs.Common.{◌≡◌, ℕ, zero, suc, ◌+◌, List, [], ◌∷◌, ◌++◌, Some, refl, sym, ap, ◌∙◌, subst}
 use Rattle.std.specs.FinMap.{get}
-use Rattle.std.specs.Prelude.{Bool, true, false, ◌&&◌, ◌==◌, if◌then◌else◌, IsTrue, length, replicate, cond}
-use Rattle.rv_word.specs.Exec.{Prog}
+use Rattle.std.specs.Prelude.{Bool, true, false, ◌&&◌, ◌==◌, if◌then◌else◌, length, replicate}
 use Rattle.rv_word.specs.Plain.{Words}
 use Rattle.tramp_spec.specs.Codes.{Code, fetched_at, is_tool_word, is_text_word}
 use Rattle.tramp_spec.specs.Harts.{Hart, Solo, step_of, is_tick}
 use Rattle.tramp_spec.specs.declared.mark.MarkedWord.{MarkedWord}
 use Rattle.machine.specs.Cores.{Core, Row}
-use Rattle.machine.specs.Effects.{after, owned}
-use Rattle.machine.specs.Events.{Event, Turn, May}
-use Rattle.machine.specs.Leaving.{is_out_now, is_out}
+use Rattle.machine.specs.Effects.{owned}
+use Rattle.machine.specs.Events.{Event, Turn}
+use Rattle.machine.specs.Leaving.{is_out_now}
 use Rattle.machine.specs.Places.{program_pc}
 use Rattle.machine.specs.Replays.{replay, Legal, owns}
 use Rattle.machine.specs.States.{leaving}

@@ -21,3 +21,4 @@ pub mod Performing
 pub mod LoopCounted
 pub mod Links
 pub mod ThreeCounters
+pub mod HartInside

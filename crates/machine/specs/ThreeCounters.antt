@@ -1,13 +1,13 @@
 -- An example: three counters at the loop's point. Two of their mini blocks, or all blocks of the point, are unlinked while a hart
 -- is inside, which goes on through them.
-use Rattle.std.specs.Prelude.{◌≡◌, ℕ, true, false, Some, List, [], ◌∷◌, ◌++◌, map, replicate}
+use Rattle.std.specs.Prelude.{◌≡◌, ℕ, false, Some, List, [], ◌∷◌, ◌++◌, map, replicate}
 use Rattle.std.specs.FinMap.{get}
 use Rattle.pn_types.specs.declared.placed.Placed.{Placed}
 use Rattle.tramp_spec.specs.Blocks.{mini_words}
 use Rattle.tramp_spec.specs.Marks.{own}
 use Rattle.tramp_spec.specs.Statements.{body_of}
 use Rattle.tramp_spec.specs.declared.block.Block.{Block}
-use Rattle.machine.specs.Cores.{Core, Row, Live, Retired}
+use Rattle.machine.specs.Cores.{Core, Retired}
 use Rattle.machine.specs.Events.{Event, Turn, Write, LinkMini, UnlinkMini, UnlinkPoint, Free, Arm, May}
 use Rattle.machine.specs.LoopCounted.{loop_core, count_up, rounds, linking}
 use Rattle.machine.specs.Readings.{readings}
