@@ -2,7 +2,11 @@
 #![tactic(auto)]
 
 mod blocks;
+mod events;
 mod images;
+mod machines;
 
 pub use blocks::{counter, loop_base, mini};
+pub use events::{add_mini, arm, link_blocks, take_turns};
 pub use images::{loop_image, three_image};
+pub use machines::{counted_loop, linked_loop, three_counted};
