@@ -199,7 +199,9 @@ minis_unlinked = record {
   passed = ap (readings first (0 ∷ [])) gone_so;
   renews = subst (Legal renewing) (sym gone_so) (renews went refl);
   rounds = subst (Legal (turns 45)) (sym renewed_is) rounds.legal;
-  ticks = ap (owns (turns 45)) renewed_is ∙ rounds.owned_by;
+  three = ap (owns (turns 45)) renewed_is ∙ rounds.owned_by;
+  ticks = ap (λ (c : Core). map (λ x. x.ticks) c.harts) ended_so;
+  quiet = subst IsQuiet (sym ended_so) (quiet_at fourth_code (rows_freed Live) (hart rest 0x10000 0 4 false 3 1 4) refl);
   third_reads = ap (readings third (0 ∷ [])) ended_so;
   fourth_reads = ap (readings fourth (0 ∷ [])) ended_so;
 }

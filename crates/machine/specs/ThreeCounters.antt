@@ -8,7 +8,7 @@ use Rattle.tramp_spec.specs.Marks.{own}
 use Rattle.tramp_spec.specs.Statements.{body_of}
 use Rattle.tramp_spec.specs.declared.block.Block.{Block}
 use Rattle.machine.specs.Cores.{Core, Retired}
-use Rattle.machine.specs.Events.{Event, Turn, Write, LinkMini, UnlinkMini, UnlinkPoint, Free, Arm, May}
+use Rattle.machine.specs.Events.{Event, Turn, Write, LinkMini, UnlinkMini, UnlinkPoint, Free, Arm, Sample, May}
 use Rattle.machine.specs.LoopCounted.{loop_core, count_up, rounds, linking}
 use Rattle.machine.specs.Readings.{readings}
 use Rattle.machine.specs.Replays.{replay, Legal, owns}
@@ -90,7 +90,9 @@ pub record MinisUnlinked : Type 0 where
   pub passed : readings first (0 ∷ []) gone_on ≡ 1
   pub renews : Legal renewing gone_on
   pub rounds : Legal (turns 45) renewed
-  pub ticks : owns (turns 45) renewed ≡ 0 ∷ 0 ∷ 0 ∷ []
+  pub three : owns (turns 45) renewed ≡ 0 ∷ 0 ∷ 0 ∷ []
+  pub ticks : map (λ x. x.ticks) ended.harts ≡ 4 ∷ []
+  pub quiet : May ended (Sample third)
   pub third_reads : readings third (0 ∷ []) ended ≡ 4
   pub fourth_reads : readings fourth (0 ∷ []) ended ≡ 3
 
