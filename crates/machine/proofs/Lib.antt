@@ -42,6 +42,11 @@ pub mod ForceArming
 pub mod Readings
 pub mod LoopLinked
 pub mod LoopCounted
+pub mod Traces
+pub mod ThreeLinked
+pub mod ThreeTurns
+pub mod ThreeCounters
+pub mod HartInside
 pub mod BlockLists
 pub mod Reaching
 pub mod Owning

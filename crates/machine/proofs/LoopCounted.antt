@@ -25,7 +25,7 @@ use Rattle.machine.specs.Replays.{replay, Legal, owns}
 use Rattle.machine.specs.Turns.{turn}
 use Rattle.machine.proofs.Replaying.{replay-append, owns-append, legal-append}
 use Rattle.std.proofs.lemmas.Bool.{true≢false}
-use Rattle.machine.proofs.LoopLinked.{program, measurable, bank_is, places, base_row, mini_row, linked, linking_legal, Stand, stand}
+use Rattle.machine.proofs.LoopLinked.{program, measurable, bank_is, places, base_row, mini_row, linked, linked_code, linking_legal, Stand, stand}
 
 -- ---- a round
 
@@ -140,48 +140,48 @@ with_bank bank =
       budget = 1000;
       harts = record { pc = 0x10000; regs = start_regs 0 1; ticks = 0; stop = None; inside = false; bank = slice_set bank 2 0 } ∷ [];
       prog = (start loop 1).prog;
-      code = linked.code;
+      code = linked_code;
       rows = rows;
     }
 
 abbrev behind : ℕ → Core
-behind n = core linked.code (start loop 1).prog (hart rest 0x10000 0 n false 0 n)
+behind n = core linked_code (start loop 1).prog (hart rest 0x10000 0 n false 0 n)
 
 bank_so : replicate bank_len 0 ≡ 0 ∷ 0 ∷ 0 ∷ rest
 unfolding rest
 bank_so = ap (λ n. replicate n 0) bank_is.1
 
-armed_so : after linked (Arm counter) ≡ with_bank (replicate bank_len 0)
+armed_so : after (linked 1000) (Arm counter) ≡ with_bank (replicate bank_len 0)
 unfolding body_of
 armed_so = refl
 
-begins : after linked (Arm counter) ≡ core linked.code (start loop 1).prog (hart rest 0x10000 0 0 false 0 0)
+begins : after (linked 1000) (Arm counter) ≡ core linked_code (start loop 1).prog (hart rest 0x10000 0 0 false 0 0)
 unfolding with_reg
 begins = armed_so ∙ ap with_bank bank_so
 
-run : Run (replicate 30 (Turn 0)) (after linked (Arm counter)) (core linked.code (start loop 1).prog (hart rest 0x10000 0 3 false 0 3)) (0 ∷ 0 ∷ 0 ∷ [])
-run = subst (λ c. Run (replicate 30 (Turn 0)) c (core linked.code (start loop 1).prog (hart rest 0x10000 0 3 false 0 3)) (0 ∷ 0 ∷ 0 ∷ [])) (sym begins) (three linked.code stand (start loop 1).prog rest)
+run : Run (replicate 30 (Turn 0)) (after (linked 1000) (Arm counter)) (core linked_code (start loop 1).prog (hart rest 0x10000 0 3 false 0 3)) (0 ∷ 0 ∷ 0 ∷ [])
+run = subst (λ c. Run (replicate 30 (Turn 0)) c (core linked_code (start loop 1).prog (hart rest 0x10000 0 3 false 0 3)) (0 ∷ 0 ∷ 0 ∷ [])) (sym begins) (three linked_code stand (start loop 1).prog rest)
 
-outside : (n : ℕ) → IsQuiet (core linked.code (start loop 1).prog (hart rest 0x10000 0 n false 0 n))
+outside : (n : ℕ) → IsQuiet (core linked_code (start loop 1).prog (hart rest 0x10000 0 n false 0 n))
 outside n zero x e = let s : hart rest 0x10000 0 n false 0 n ≡ x = cc in ap (λ (u : Hart). u.inside) (sym s)
 outside n (suc h) x e = absurd cc
 
-arms : MayArm linked counter
+arms : (budget : ℕ) → MayArm (linked budget) counter
 unfolding body_of
-arms = record { quiet = quiet; linked = sites }
+arms budget = record { quiet = quiet; linked = sites }
   where
-    quiet : IsQuiet linked
+    quiet : IsQuiet (linked budget)
     quiet zero x e = let s : first_hart (start_hart loop 1 0) ≡ x = cc in ap (λ (u : Hart). u.inside) (sym s)
     quiet (suc h) x e = absurd cc
 
-    at_loop : HasMini linked 0x10000 0x11010 Live × IsEntered linked 0x10000
+    at_loop : HasMini (linked budget) 0x10000 0x11010 Live × IsEntered (linked budget) 0x10000
     at_loop = (record { row = mini_row; listed = inr (inl refl); mini = refl; point = refl; at = refl; is = refl }, record { jump = jump_word 0x10000 0x11000; stands = stand.entered })
 
-    sites : (s : PlacedSite) → In s counter.sites → HasMini linked s.at s.mini Live × IsEntered linked s.at
-    sites s (inl e) = subst (λ (u : PlacedSite). HasMini linked u.at u.mini Live × IsEntered linked u.at) (sym e) at_loop
+    sites : (s : PlacedSite) → In s counter.sites → HasMini (linked budget) s.at s.mini Live × IsEntered (linked budget) s.at
+    sites s (inl e) = subst (λ (u : PlacedSite). HasMini (linked budget) u.at u.mini Live × IsEntered (linked budget) u.at) (sym e) at_loop
     sites s (inr h) = absurd h
 
-carries : Carries linked counter rounds
+carries : Carries (linked 1000) counter rounds
 unfolding body_of
 carries = record {
   vars = refl;
@@ -190,7 +190,7 @@ carries = record {
   sites = (refl, record { row = mini_row; listed = inr (inl refl); mini = refl; point = refl; at = refl; is = body }, tt);
 }
   where
-    body : body_in linked.code mini_row ≡ body_of (2 ∷ []) count_up
+    body : body_in linked_code mini_row ≡ body_of (2 ∷ []) count_up
     body =
         let a = ap (λ o. unwrap_or o (tool 0)) stand.high in
         let b = ap (λ o. unwrap_or o (tool 0)) stand.load in
@@ -198,13 +198,13 @@ carries = record {
         let d = ap (λ o. unwrap_or o (tool 0)) stand.keep in
         cc
 
-all_legal : Legal three_rounds loop_core
-all_legal = legal-append linking (Arm counter ∷ replicate 30 (Turn 0)) loop_core linking_legal (arms, run.legal)
+all_legal : Legal three_rounds (loop_core 1000)
+all_legal = legal-append linking (Arm counter ∷ replicate 30 (Turn 0)) (loop_core 1000) (linking_legal 1000) (arms 1000, run.legal)
 
-in_force : InForce counter three_rounds loop_core
+in_force : InForce counter three_rounds (loop_core 1000)
 in_force = record { before = linking; since = replicate 30 (Turn 0); is = refl; spared = spared; lets = turns 30 }
   where
-    spared : IsSpared linked counter
+    spared : IsSpared (linked 1000) counter
     spared r (inl e) b = absurd (true≢false (sym (ap (λ (u : Row). u.base) e) ∙ b))
     spared r (inr (inl e)) b = inl (record { at = 0x10000; mini = 0x11010 }, inl refl, sym (ap (λ (u : Row). u.at) e))
     spared r (inr (inr h)) b = absurd h
@@ -213,8 +213,8 @@ in_force = record { before = linking; since = replicate 30 (Turn 0); is = refl; 
     turns zero = tt
     turns (suc n) = (tt, turns n)
 
-at_end : replay three_rounds loop_core ≡ core linked.code (start loop 1).prog (hart rest 0x10000 0 3 false 0 3)
-at_end = replay-append linking (Arm counter ∷ replicate 30 (Turn 0)) loop_core ∙ run.state
+at_end : replay three_rounds (loop_core 1000) ≡ core linked_code (start loop 1).prog (hart rest 0x10000 0 3 false 0 3)
+at_end = replay-append linking (Arm counter ∷ replicate 30 (Turn 0)) (loop_core 1000) ∙ run.state
 
 measured : measure (program_of loop) rounds (0 ∷ []) 0 0 3 (0 ∷ 0 ∷ 0 ∷ []) (start loop 1) ≡ 3
 unfolding decode_of action perform reg with_reg
@@ -225,6 +225,7 @@ unfolding in_force
 loop_counted = record {
   program = program;
   measurable = measurable;
+  begins = λ budget. legal-append linking (Arm counter ∷ []) (loop_core budget) (linking_legal budget) (arms budget, tt);
   legal = all_legal;
   sampled = record {
     force = in_force;
@@ -236,7 +237,7 @@ loop_counted = record {
     now = subst IsQuiet (sym at_end) (outside 3);
   };
   from_arm = refl;
-  owned = owns-append linking (Arm counter ∷ replicate 30 (Turn 0)) loop_core ∙ run.owned_by;
+  owned = owns-append linking (Arm counter ∷ replicate 30 (Turn 0)) (loop_core 1000) ∙ run.owned_by;
   at_first = ap (readings counter (0 ∷ [])) begins;
   at_last = ap (readings counter (0 ∷ [])) at_end;
   measured = measured;

@@ -76,18 +76,18 @@ base_row = record { point = 0x10000; at = 0x11000; len = 4; base = true; status 
 abbrev pub mini_row : Row
 mini_row = record { point = 0x10000; at = 0x11010; len = 5; base = false; status = Live }
 
-writes_base : MayWrite loop_core loop_base
+writes_base : (budget : ℕ) → MayWrite (loop_core budget) loop_base
 unfolding moved_of decode_of
-writes_base = record {
+writes_base budget = record {
   shape = (record { aligned = refl; word = 0x6f; here = refl; moved = own 0xff5fe06f ∷ []; movable = refl; reached = refl; is = refl }, λ r h. absurd h);
   low = omega arith;
   high = omega arith;
   apart = λ r h. absurd h;
 }
 
-writes_mini : MayWrite (after loop_core (Write loop_base)) loop_mini
+writes_mini : (budget : ℕ) → MayWrite (after (loop_core budget) (Write loop_base)) loop_mini
 unfolding body_of
-writes_mini = record {
+writes_mini budget = record {
   shape = (0x11008, record { aligned = refl; body = body_of (2 ∷ []) count_up; harmless = (statements_work (2 ∷ []) counter.vars count_up refl places (measurable.fitting).0).harmless; reached = refl; is = refl });
   low = omega arith;
   high = omega arith;
@@ -95,14 +95,14 @@ writes_mini = record {
 }
 
 -- both written
-abbrev written : Core
-written = after (after loop_core (Write loop_base)) (Write loop_mini)
+abbrev written : ℕ → Core
+written budget = after (after (loop_core budget) (Write loop_base)) (Write loop_mini)
 
-links_mini : MayLinkMini written 0x10000 0x11010
+links_mini : (budget : ℕ) → MayLinkMini (written budget) 0x10000 0x11010
 unfolding body_of decode_of
-links_mini =
-    let head : get written.code 0x11004 ≡ Some (tool 0x0040006f) = simp gets in
-    let next : get written.code 0x11020 ≡ Some (tool 0xfe9ff06f) = simp gets in
+links_mini budget =
+    let head : get (written budget).code 0x11004 ≡ Some (tool 0x0040006f) = simp gets in
+    let next : get (written budget).code 0x11020 ≡ Some (tool 0xfe9ff06f) = simp gets in
     record {
       base = record { point = 0x10000; at = 0x11000; len = 4; base = true; status = Written };
       current = refl;
@@ -110,12 +110,12 @@ links_mini =
       next = ap (λ o. target_at o 0x11020) next ∙ sym (ap (λ o. target_at o 0x11004) head);
     }
 
-abbrev chained : Core
-chained = after written (LinkMini 0x10000 0x11010)
+abbrev chained : ℕ → Core
+chained budget = after (written budget) (LinkMini 0x10000 0x11010)
 
-links_point : MayLinkPoint chained 0x10000
+links_point : (budget : ℕ) → MayLinkPoint (chained budget) 0x10000
 unfolding body_of decode_of
-links_point = record {
+links_point budget = record {
   base = record { point = 0x10000; at = 0x11000; len = 4; base = true; status = Written };
   current = refl;
   word = 0x6f;
@@ -124,11 +124,11 @@ links_point = record {
 }
 
 -- the blocks are linked
-abbrev pub linked : Core
-linked = replay linking loop_core
+abbrev pub linked : ℕ → Core
+linked budget = replay linking (loop_core budget)
 
-pub linking_legal : Legal linking loop_core
-linking_legal = (writes_base, (writes_mini, (links_mini, (links_point, tt))))
+pub linking_legal : (budget : ℕ) → Legal linking (loop_core budget)
+linking_legal budget = (writes_base budget, (writes_mini budget, (links_mini budget, (links_point budget, tt))))
 
 -- ---- the words that stand
 
@@ -144,7 +144,11 @@ pub record Stand (code : Code) : Type 0 where
   pub keep : get code 0x1101c ≡ Some (tool 0x005fb823)
   pub last : get code 0x11020 ≡ Some (tool 0xfe9ff06f)
 
-pub stand : Stand linked.code
+-- the words of the linked loop
+abbrev pub linked_code : Code
+linked_code = (linked 0).code
+
+pub stand : Stand linked_code
 unfolding body_of decode_of
 stand =
     record {

@@ -20,3 +20,5 @@ pub mod Views
 pub mod Performing
 pub mod LoopCounted
 pub mod Links
+pub mod ThreeCounters
+pub mod HartInside

@@ -1,5 +1,5 @@
 -- An example: a hart goes round a loop of one word, which a counter counts. Armed before three rounds, it reads 3 behind them.
-use Rattle.std.specs.Prelude.{◌≡◌, true, false, List, [], ◌∷◌, ◌++◌, codes, replicate}
+use Rattle.std.specs.Prelude.{◌≡◌, ℕ, true, false, List, [], ◌∷◌, ◌++◌, codes, replicate}
 use Rattle.pn_types.specs.declared.image.Image.{Image}
 use Rattle.pn_types.specs.declared.placed.Placed.{Placed}
 use Rattle.pn_types.specs.declared.plan.Act.TheVariants.{Up}
@@ -23,8 +23,8 @@ use Rattle.machine.specs.Replays.{replay, Legal, owns}
 abbrev pub loop : Image
 loop = record { segments = record { at = 0x10000; bytes = 0x6f ∷ 0 ∷ 0 ∷ 0 ∷ []; size = 4 } ∷ []; text_at = 0x10000; text_len = 4; entry = 0x10000; symbols = [] }
 
-abbrev pub loop_core : Core
-loop_core = start_core loop 1 1000
+abbrev pub loop_core : ℕ → Core
+loop_core budget = start_core loop 1 budget
 
 abbrev pub count_up : List Stmt
 count_up = record { conds = []; act = Up 0 } ∷ []
@@ -44,18 +44,24 @@ loop_mini = record { point = 0x10000; at = 0x11010; words = mini_words 0x11010 (
 abbrev pub linking : List Event
 linking = Write loop_base ∷ Write loop_mini ∷ LinkMini 0x10000 0x11010 ∷ LinkPoint 0x10000 ∷ []
 
+-- the blocks are linked, and the counter is armed
+abbrev pub counting : List Event
+counting = linking ++ Arm counter ∷ []
+
 -- a round takes ten turns, of which one is a tick
 abbrev pub three_rounds : List Event
-three_rounds = linking ++ Arm counter ∷ replicate 30 (Turn 0)
+three_rounds = counting ++ replicate 30 (Turn 0)
 
--- All that the law of readings asks is so, and both its sides are 3.
+-- The blocks can be linked and the counter armed under any budget. Under one of 1,000 all that the law of readings asks is so, and
+-- both its sides are 3.
 pub record LoopCounted : Type 0 where
   pub program : IsProgram loop
   pub measurable : IsMeasurable rounds
-  pub legal : Legal three_rounds loop_core
-  pub sampled : IsSampled counter rounds three_rounds loop_core
-  pub from_arm : sampled_first sampled ≡ linking ++ Arm counter ∷ []
-  pub owned : owns three_rounds loop_core ≡ 0 ∷ 0 ∷ 0 ∷ []
-  pub at_first : readings counter (0 ∷ []) (replay (linking ++ Arm counter ∷ []) loop_core) ≡ 0
-  pub at_last : readings counter (0 ∷ []) (replay three_rounds loop_core) ≡ 3
+  pub begins : (budget : ℕ) → Legal counting (loop_core budget)
+  pub legal : Legal three_rounds (loop_core 1000)
+  pub sampled : IsSampled counter rounds three_rounds (loop_core 1000)
+  pub from_arm : sampled_first sampled ≡ counting
+  pub owned : owns three_rounds (loop_core 1000) ≡ 0 ∷ 0 ∷ 0 ∷ []
+  pub at_first : readings counter (0 ∷ []) (replay counting (loop_core 1000)) ≡ 0
+  pub at_last : readings counter (0 ∷ []) (replay three_rounds (loop_core 1000)) ≡ 3
   pub measured : measure (program_of loop) rounds (0 ∷ []) 0 0 3 (0 ∷ 0 ∷ 0 ∷ []) (start loop 1) ≡ 3

@@ -14,7 +14,7 @@ mod slots;
 
 pub use instruments::Sample;
 pub use laws::{
-    arming_sets, erasure, first_turns, leaves_soon, levels_go_on, loop_counted, measures_add,
-    readings_measure, replays_go_on,
+    arming_sets, erasure, first_turns, hart_inside, leaves_soon, levels_go_on, loop_counted,
+    measures_add, minis_unlinked, point_unlinked, readings_measure, replays_go_on,
 };
 pub use machine::Machine;
