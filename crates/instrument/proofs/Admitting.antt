@@ -15,7 +15,8 @@ use Rattle.machine.specs.Events.{Event}
 use Rattle.machine.specs.Instruments.{InForce}
 use Rattle.machine.specs.Replays.{Legal, replay}
 use Rattle.machine.proofs.Lists.{get_append, get_before}
-use Rattle.instrument.specs.Admission.{slot_count, slots_from, with_sites, predicted}
+use Rattle.instrument.specs.Admission.{slot_count, slots_from, with_sites}
+use Rattle.prim_code.specs.Counts.{predicted}
 use Rattle.instrument.specs.Books.{Book, Blocks, is_held, mini_room, rooms_of}
 use Rattle.instrument.specs.Fits.{slots_for}
 use Rattle.instrument.specs.Placements.{is_leaving, is_mini_room_of, sites_of, slots_taken, is_over, with_instrument, with_slots}

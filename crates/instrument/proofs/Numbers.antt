@@ -6,7 +6,8 @@ use Rattle.std.proofs.lemmas.Bool.{true≢false, cases_lt, cond-true, cond-false
 use Rattle.pn_types.specs.declared.plan.Plan.{Plan}
 use Rattle.machine.specs.Cores.{In}
 use Rattle.machine.proofs.Lists.{in_map, in_filter, find_gives}
-use Rattle.instrument.specs.Admission.{predicted, slot_count, slots_from, with_sites}
+use Rattle.instrument.specs.Admission.{slot_count, slots_from, with_sites}
+use Rattle.prim_code.specs.Counts.{predicted}
 use Rattle.instrument.specs.Books.{Book, stays}
 use Rattle.instrument.specs.Fits.{slots_for}
 use Rattle.instrument.specs.Numbers.{Call, Admit, Arm, Drop, Next, NextFree, PutBack, Freed, called, IsNoDrop, IsNumbered, StatesStay, AdmissionsTell}

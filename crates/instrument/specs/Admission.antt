@@ -1,9 +1,7 @@
 -- How the sites of a plan are placed: by ascending address, each with the lowest rooms, up to the first that has none.
 use Rattle.std.specs.Prelude.{ℕ, ◌+◌, if◌then◌else◌, true, false, Option, Some, None, Result, Ok, Err, List, [], ◌∷◌, ◌++◌, length, find, sum_by}
-use Rattle.pn_types.specs.declared.plan.Plan.{Plan}
 use Rattle.pn_types.specs.declared.plan.Site.{Site}
 use Rattle.pn_types.specs.declared.plan.Var.{Var}
-use Rattle.prim_code.specs.Counts.{word_count}
 use Rattle.rv_word.specs.Plain.{Words, program_word}
 use Rattle.rv_word.specs.Table.{decode_of}
 use Rattle.tramp_spec.specs.Blocks.{base_words, mini_words, tail_of, moved_at}
@@ -18,14 +16,6 @@ use Rattle.instrument.specs.declared.number.Refused.TheVariants.{NoRoom, Unmovab
 use Rattle.instrument.specs.declared.room.Room.{Room}
 
 -- ---- costs
-
--- a mini block has its statements' words and one more
-abbrev pub site_words : Site → ℕ
-site_words s = word_count s.stmts + 1
-
--- The predicted cost of a plan: the words of its mini blocks.
-abbrev pub predicted : Plan → ℕ
-predicted plan = sum_by site_words plan.sites
 
 -- a base block has three words and those of the moved word
 abbrev pub base_len : ℕ → ℕ

@@ -3,7 +3,7 @@ use Rattle.std.specs.Prelude.{◌≡◌, ℕ, ◌+◌, ◌<◌, ◌≤◌, false
 use Rattle.pn_types.specs.declared.image.Image.{Image}
 use Rattle.pn_types.specs.declared.plan.Plan.{Plan}
 use Rattle.machine.specs.Cores.{In}
-use Rattle.instrument.specs.Admission.{predicted}
+use Rattle.prim_code.specs.Counts.{predicted}
 use Rattle.instrument.specs.Placements.{Placements, no_placements, is_leaving, state_of, admission, admitted, armed, dropped, behind, free_behind, put_back, freed}
 use Rattle.instrument.specs.declared.instrument.Instrument.{Instrument}
 use Rattle.instrument.specs.declared.number.State.TheVariants.{Placing, Gone}

@@ -7,7 +7,8 @@ use Rattle.pn_types.specs.declared.plan.Plan.{Plan}
 use Rattle.rv_mem.specs.Start.{program_of}
 use Rattle.rv_word.specs.Plain.{Words}
 use Rattle.tramp_spec.specs.Slots.{Place, places_of}
-use Rattle.instrument.specs.Admission.{predicted, slot_count, slots_from, with_sites}
+use Rattle.instrument.specs.Admission.{slot_count, slots_from, with_sites}
+use Rattle.prim_code.specs.Counts.{predicted}
 use Rattle.instrument.specs.Books.{Book, is_held, without_site, rooms_behind, stays, FoundFree, first_free}
 use Rattle.instrument.specs.Fits.{slots_for}
 use Rattle.instrument.specs.declared.entry.Entry.{Entry}

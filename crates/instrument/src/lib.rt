@@ -14,7 +14,6 @@ mod room;
 mod rooms;
 mod roster;
 
-pub use costs::predicted;
 pub use entry::Entry;
 pub use instrument::Instrument;
 pub use laws::{

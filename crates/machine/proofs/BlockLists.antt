@@ -14,7 +14,6 @@ use Rattle.tramp_spec.specs.declared.mark.MarkedWord.{MarkedWord}
 use Rattle.machine.specs.Cores.{In, Row, Status}
 use Rattle.machine.specs.Effects.{with_status}
 use Rattle.machine.specs.Events.{is_before, is_linked, next_of, target_at}
-
 use Rattle.machine.specs.Views.{BlockList, row_of, status_of}
 use Rattle.machine.specs.declared.block_list.BlockRow.{BlockRow}
 use Rattle.machine.specs.declared.block_list.BlockStatus.{BlockStatus}

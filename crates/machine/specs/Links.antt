@@ -3,7 +3,7 @@ use Rattle.std.specs.Prelude.{ℕ, ◌^◌, ◌<◌, ◌==◌, ◌&&◌, not, if
 use Rattle.pn_types.specs.declared.placed.Placed.{Placed}
 use Rattle.pn_types.specs.declared.placed.PlacedSite.{PlacedSite}
 use Rattle.rv_word.specs.Plain.{Words}
-use Rattle.tramp_spec.specs.Codes.{Code, fetched_at, is_tool_word}
+use Rattle.tramp_spec.specs.Codes.{fetched_at, is_tool_word}
 use Rattle.tramp_spec.specs.Harts.{Hart}
 use Rattle.tramp_spec.specs.Slots.{initials, places_of, set_places}
 use Rattle.tramp_spec.specs.declared.mark.Mark.{Mark}
@@ -13,7 +13,7 @@ use Rattle.code_store.specs.Owners.{Owners, owners_without}
 use Rattle.code_store.specs.Stores.{IsInToolText}
 use Rattle.machine.specs.Cores.{Row, Core, is_live}
 use Rattle.machine.specs.Effects.{is_kept}
-use Rattle.machine.specs.Events.{is_linked, link_at, next_of, row_at}
+use Rattle.machine.specs.Events.{link_at, row_at}
 
 -- the words of a block are words of the tool text
 abbrev pub IsWithin : Words → Row → Type 0
