@@ -1,4 +1,4 @@
-//! Small programs that are patched and counted, and tests of the patched machine's calls on them.
+//! Small programs that are patched and counted.
 #![tactic(auto)]
 
 mod blocks;
@@ -12,6 +12,3 @@ pub use events::{add_mini, arm, link_blocks, take_turns};
 pub use images::{loop_image, three_image};
 pub use machines::{counted_loop, linked_loop, three_counted};
 pub use unlinking::{Renewal, passed_by, renew};
-
-#[cfg(test)]
-mod tests;
