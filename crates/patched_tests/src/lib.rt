@@ -12,3 +12,6 @@ pub use events::{add_mini, arm, link_blocks, take_turns};
 pub use images::{loop_image, three_image};
 pub use machines::{counted_loop, linked_loop, three_counted};
 pub use unlinking::{Renewal, passed_by, renew};
+
+#[cfg(test)]
+mod tests;

@@ -1,0 +1,19 @@
+use crate::blocks::{counter, mini};
+use crate::unlinking::{passed_by, renew};
+use std::test::Fail;
+
+#[test]
+fn unlinked_blocks_are_freed_once_left(rt: HostRuntime) -> Result<(), Fail> {
+    let alloc = rt.alloc();
+    let fourth = counter(alloc, 2, 0x11010)?;
+    let block = mini(alloc, 2, 0x11010, 0x11038)?;
+    let mut machine = passed_by(alloc)?;
+    assert!(rt; !machine.quiet());
+    let renewal = renew(&mut machine, &block, &fourth);
+    assert!(rt; !renewal.held);
+    assert_eq!(rt; renewal.settled, 11);
+    assert!(rt; renewal.freed);
+    assert!(rt; machine.quiet());
+    assert_eq!(rt; machine.output().len(), 0);
+    Ok(())
+}
