@@ -15,11 +15,12 @@ use Rattle.machine.specs.Cores.{Core, Row, Status, Written, Live, Retired, In}
 use Rattle.machine.specs.Effects.{after, mini_unlinked}
 use Rattle.machine.specs.Events.{UnlinkMini, UnlinkPoint, Free, May, MayArm, HasMini, IsLinked, IsQuiet, before, target_at}
 use Rattle.machine.specs.Places.{holds}
+use Rattle.machine.specs.FirstTurns.{turns}
 use Rattle.machine.specs.LoopCounted.{loop_core, linking}
 use Rattle.machine.specs.Readings.{readings}
 use Rattle.machine.specs.Replays.{replay, Legal, owns}
 use Rattle.machine.specs.States.{settling}
-use Rattle.machine.specs.ThreeCounters.{counter_on, mini_on, first, third, fourth, adding, arming, turns, counted, at_second, passing_by, passed_by, gone_on, renewing, renewed, ended, MinisUnlinked, at_third, left, gone_out, PointUnlinked}
+use Rattle.machine.specs.ThreeCounters.{counter_on, mini_on, first, third, fourth, adding, arming, counted, at_second, passing_by, passed_by, gone_on, renewing, renewed, ended, MinisUnlinked, at_third, left, gone_out, PointUnlinked}
 use Rattle.std.proofs.lemmas.Bool.{true≢false}
 use Rattle.machine.proofs.LoopLinked.{linked, linking_legal}
 use Rattle.machine.proofs.Replaying.{replay-append, legal-append}

@@ -1,7 +1,7 @@
 -- The turns of a machine's one hart along words that stand where it comes.
 use Rattle.std.proofs.Common.{◌≡◌, ℕ, zero, suc, ◌+◌, List, [], ◌∷◌, ◌++◌, Some, refl, sym, ap, ◌∙◌, subst}
 use Rattle.std.specs.FinMap.{get}
-use Rattle.std.specs.Prelude.{Bool, true, false, ◌&&◌, ◌==◌, if◌then◌else◌, length, replicate}
+use Rattle.std.specs.Prelude.{Bool, true, false, ◌&&◌, ◌==◌, if◌then◌else◌, length}
 use Rattle.rv_word.specs.Plain.{Words}
 use Rattle.tramp_spec.specs.Codes.{Code, fetched_at, is_tool_word, is_text_word}
 use Rattle.tramp_spec.specs.Harts.{Hart, Solo, step_of, is_tick}
@@ -9,6 +9,7 @@ use Rattle.tramp_spec.specs.declared.mark.MarkedWord.{MarkedWord}
 use Rattle.machine.specs.Cores.{Core, Row}
 use Rattle.machine.specs.Effects.{owned}
 use Rattle.machine.specs.Events.{Event, Turn}
+use Rattle.machine.specs.FirstTurns.{turns}
 use Rattle.machine.specs.Leaving.{is_out_now}
 use Rattle.machine.specs.Places.{program_pc}
 use Rattle.machine.specs.Replays.{replay, Legal, owns}
@@ -69,9 +70,6 @@ ticks_on (w ∷ ws) = (if is_tick (Some w.1) then 0 ∷ [] else []) ++ ticks_on 
 abbrev pub more : Trace → ℕ → ℕ
 more [] spare = spare
 more (w ∷ ws) spare = suc (more ws spare)
-
-abbrev pub turns : ℕ → List Event
-turns n = replicate n (Turn 0)
 
 -- turns that may be taken, where they lead and their ticks
 pub record Run (es : List Event) (c d : Core) (ticks : List ℕ) : Type 0 where

@@ -1,6 +1,6 @@
 -- An example: three counters at the loop's point. Two of their mini blocks, or all blocks of the point, are unlinked while a hart
 -- is inside, which goes on through them.
-use Rattle.std.specs.Prelude.{◌≡◌, ℕ, false, Some, List, [], ◌∷◌, ◌++◌, map, replicate}
+use Rattle.std.specs.Prelude.{◌≡◌, ℕ, false, Some, List, [], ◌∷◌, ◌++◌, map}
 use Rattle.std.specs.FinMap.{get}
 use Rattle.pn_types.specs.declared.placed.Placed.{Placed}
 use Rattle.tramp_spec.specs.Blocks.{mini_words}
@@ -8,7 +8,8 @@ use Rattle.tramp_spec.specs.Marks.{own}
 use Rattle.tramp_spec.specs.Statements.{body_of}
 use Rattle.tramp_spec.specs.declared.block.Block.{Block}
 use Rattle.machine.specs.Cores.{Core, Retired}
-use Rattle.machine.specs.Events.{Event, Turn, Write, LinkMini, UnlinkMini, UnlinkPoint, Free, Arm, Sample, May}
+use Rattle.machine.specs.Events.{Event, Write, LinkMini, UnlinkMini, UnlinkPoint, Free, Arm, Sample, May}
+use Rattle.machine.specs.FirstTurns.{turns}
 use Rattle.machine.specs.LoopCounted.{loop_core, count_up, rounds, linking}
 use Rattle.machine.specs.Readings.{readings}
 use Rattle.machine.specs.Replays.{replay, Legal, owns}
@@ -42,9 +43,6 @@ adding = Write (mini_on 3 0x11024 0x11010) ∷ LinkMini 0x10000 0x11024 ∷ Writ
 
 abbrev pub arming : List Event
 arming = Arm first ∷ Arm second ∷ Arm third ∷ []
-
-abbrev pub turns : ℕ → List Event
-turns n = replicate n (Turn 0)
 
 -- ---- two mini blocks are unlinked
 

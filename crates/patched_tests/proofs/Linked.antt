@@ -1,10 +1,10 @@
 -- What is known of machines from the blocks and counters of which they were made.
-use Rattle.std.proofs.Common.{◌≡◌, ℕ, suc, ◌+◌, ◌-◌, ◌++◌, List, [], ◌∷◌, refl, sym, ap, ◌∙◌, subst}
+use Rattle.std.proofs.Common.{◌≡◌, ℕ, ◌-◌, ◌++◌, [], ◌∷◌, sym, ap, ◌∙◌, subst}
 use Rattle.pn_types.specs.declared.placed.Placed.{Placed}
 use Rattle.tramp_spec.specs.declared.block.Block.{Block}
 use Rattle.machine.specs.Cores.{Core}
 use Rattle.machine.specs.Effects.{after}
-use Rattle.machine.specs.Events.{Event, Arm, May}
+use Rattle.machine.specs.Events.{Arm, May}
 use Rattle.machine.specs.LoopCounted.{loop_core, linking, counter}
 use Rattle.machine.specs.Replays.{Legal, replay}
 use Rattle.machine.specs.States.{Machine}

@@ -1,6 +1,6 @@
 -- Turns of hart 0, one by one.
-use Rattle.std.proofs.Common.{◌≡◌, ℕ, suc, ◌+◌, ◌-◌, ◌<◌, List, [], ◌∷◌, length, refl, sym, ap, ◌∙◌, subst, arith}
-use Rattle.std.specs.Prelude.{IsTrue, replicate}
+use Rattle.std.proofs.Common.{◌≡◌, ℕ, suc, ◌-◌, ◌<◌, List, [], ◌∷◌, length, refl, ap, subst, arith}
+use Rattle.std.specs.Prelude.{IsTrue}
 use Rattle.tramp_spec.specs.Harts.{Hart}
 use Rattle.machine.specs.Cores.{Core}
 use Rattle.machine.specs.FirstTurns.{turns}

@@ -3,9 +3,8 @@ use Rattle.std.proofs.Common.{◌≡◌, ℕ, refl, sym, ap, ◌∙◌, subst}
 use Rattle.std.specs.Prelude.{Bool, true, false, if◌then◌else◌, ◌↔◌, IsTrue}
 use Rattle.machine.specs.Cores.{Core}
 use Rattle.machine.specs.Effects.{after}
-use Rattle.machine.specs.Events.{Event, Free, May}
-use Rattle.machine.specs.Replays.{replay}
-use Rattle.machine.specs.States.{Machine, with_core, settling}
+use Rattle.machine.specs.Events.{Free, May}
+use Rattle.machine.specs.States.{Machine, with_core}
 
 pub goes_to : (f : Core → Core) (m n : Machine) (c : Core) (room : ℕ) → m ≡ record { core = c; room = room } → n ≡ with_core m (f m.core) → n ≡ record { core = f c; room = room }
 goes_to f m n c room e h = h ∙ ap (λ (k : Machine). record { core = f k.core; room = k.room }) e

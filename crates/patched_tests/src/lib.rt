@@ -1,4 +1,4 @@
-//! Small programs that are patched and counted, and tests of the patched machine's calls on them.
+//! Small programs that are patched and counted, and tests of the patched machine by its public calls alone.
 #![tactic(auto)]
 
 mod blocks;

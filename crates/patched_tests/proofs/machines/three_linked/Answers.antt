@@ -1,4 +1,3 @@
-use Rattle.std.proofs.Common.{◌≡◌}
 use Rattle.machine.specs.Cores.{Core}
 use Rattle.machine.specs.Replays.{replay}
 use Rattle.machine.specs.ThreeCounters.{mini_on}

@@ -1,4 +1,4 @@
-use Rattle.std.proofs.Common.{◌≡◌, sym, subst}
+use Rattle.std.proofs.Common.{sym, subst}
 use Rattle.machine.specs.Cores.{Live}
 use Rattle.machine.specs.Effects.{after}
 use Rattle.machine.specs.Events.{HasMini, UnlinkMini}

@@ -1,4 +1,4 @@
-use Rattle.std.proofs.Common.{◌≡◌, ℕ, suc, ◌<◌, ◌∙◌, Bool, sym, ap, subst, arith}
+use Rattle.std.proofs.Common.{◌≡◌, ◌∙◌, Bool, ap, arith}
 use Rattle.std.specs.Prelude.{if◌then◌else◌, ◌↔◌, IsTrue}
 use Rattle.machine.specs.Cores.{Core}
 use Rattle.machine.specs.Effects.{after}
