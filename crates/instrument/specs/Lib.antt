@@ -1,6 +1,8 @@
 pub mod Books
 pub mod Agendas
 pub mod Ledgers
+pub mod Spaces
+pub mod Rosters
 pub mod Handing
 pub mod Fits
 pub mod Admission

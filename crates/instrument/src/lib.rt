@@ -13,6 +13,7 @@ mod number;
 mod room;
 mod rooms;
 mod roster;
+mod slots;
 
 pub use costs::predicted;
 pub use entry::Entry;
