@@ -66,11 +66,19 @@ impl Ledger {
         Ok(())
     }
 
+    /// The rooms, in the order of their taking.
+    pub fn rooms(&self) -> &[Room]
+        ensures { result.now ≡ self.now.book.rooms }
+    {
+        &self.rooms
+    }
+
     /// Hands out the first entry of the agenda. Where it unlinks a block, the block's room is noted.
     pub fn hand_out(&mut self) -> Option<Entry>
         ensures entry { result ≡ lists.first_entry self.old.book.agenda }
         ensures book { self.new.book ≡ behind_first self.old.book.agenda self.old.book }
         ensures spare { self.new.spare_rooms ≡ self.old.spare_rooms }
+        ensures entries { self.new.spare_entries ≡ (lists.without_first (record { entries = self.old.book.agenda; room = self.old.spare_entries })).room }
     {
         let entry = self.agenda.take_first()?;
         if let Entry::UnlinkMini { at, .. } | Entry::UnlinkPoint { at, .. } = &entry {
@@ -83,6 +91,8 @@ impl Ledger {
     pub fn free(&mut self, point: u64)
         ensures rooms { self.new.book.rooms ≡ filter (books.stays point) self.old.book.rooms }
         ensures agenda { self.new.book.agenda ≡ self.old.book.agenda }
+        ensures spare { self.new.spare_rooms ≡ self.old.spare_rooms }
+        ensures entries { self.new.spare_entries ≡ self.old.spare_entries }
     {
         free(&mut self.rooms, point);
     }
@@ -92,6 +102,8 @@ impl Ledger {
         ensures point { result ≡ lists.point_of (books.first_free [] self.old.book.agenda) }
         ensures rooms { self.new.book.rooms ≡ self.old.book.rooms }
         ensures agenda { self.new.book.agenda ≡ agenda_in (books.first_free [] self.old.book.agenda) self.old.book.agenda }
+        ensures spare { self.new.spare_rooms ≡ self.old.spare_rooms }
+        ensures entries { self.new.spare_entries ≡ (lists.without_free (record { entries = self.old.book.agenda; room = self.old.spare_entries })).room }
     {
         self.agenda.take_free()
     }
@@ -101,6 +113,8 @@ impl Ledger {
         requires { 0 < self.old.spare_entries }
         ensures rooms { self.new.book.rooms ≡ self.old.book.rooms }
         ensures agenda { self.new.book.agenda ≡ self.old.book.agenda ++ Free point ∷ [] }
+        ensures spare { self.new.spare_rooms ≡ self.old.spare_rooms }
+        ensures entries { self.new.spare_entries + 1 ≡ self.old.spare_entries }
     {
         self.agenda.push(Entry::Free { point });
     }

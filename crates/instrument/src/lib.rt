@@ -10,6 +10,7 @@ mod instrument;
 mod laws;
 mod ledger;
 mod number;
+mod program;
 mod room;
 mod rooms;
 mod roster;
