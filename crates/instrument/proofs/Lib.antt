@@ -33,5 +33,6 @@ pub mod Spacing
 pub mod Holdings
 pub mod Fitted
 pub mod Slotted
+pub mod Texts
 pub mod Mapping
 pub mod Examples

@@ -3,6 +3,7 @@ pub mod Agendas
 pub mod Ledgers
 pub mod Spaces
 pub mod Rosters
+pub mod ToolTexts
 pub mod Handing
 pub mod Fits
 pub mod Admission

@@ -15,6 +15,7 @@ mod room;
 mod rooms;
 mod roster;
 mod slots;
+mod tool_text;
 
 pub use costs::predicted;
 pub use entry::Entry;
