@@ -34,5 +34,6 @@ pub mod Holdings
 pub mod Fitted
 pub mod Slotted
 pub mod Texts
+pub mod Sites
 pub mod Mapping
 pub mod Examples

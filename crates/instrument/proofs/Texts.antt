@@ -1,6 +1,6 @@
 -- The rooms of a book in their space, and the entries for drops, where the holds of rooms change.
 use Rattle.std.proofs.Common.{◌≡◌, ℕ, ◌+◌, ◌*◌, ◌/◌, ◌^◌, ◌<◌, ◌≤◌, List, [], ◌∷◌, ◌++◌, Option, Some, None, refl, sym, ap, ◌∙◌, subst, arith, filter, take, drop, get_or, length, map, cond}
-use Rattle.std.specs.Prelude.{Bool, true, false, not, ◌&&◌, ◌==◌, ◌-◌, IfSome, nat_lt}
+use Rattle.std.specs.Prelude.{Bool, true, false, not, ◌&&◌, ◌==◌, ◌-◌, IfSome, nat_lt, find}
 use Rattle.std.proofs.lemmas.Bool.{lt-ltb}
 use Rattle.pn_types.specs.declared.limits.TheConstants.{TOOL_TEXT_LEN}
 use Rattle.rv_word.specs.Plain.{Words}
@@ -9,9 +9,9 @@ use Rattle.tramp_spec.specs.Codes.{tool_at}
 use Rattle.machine.specs.Cores.{In}
 use Rattle.machine.proofs.Lists.{in_map}
 use Rattle.instrument.specs.Agendas.{first_entry, without_first}
-use Rattle.instrument.specs.Books.{Book, is_held, is_unlinked, stays, with_hold, unlinked_at, rooms_behind}
+use Rattle.instrument.specs.Books.{Book, is_held, is_unlinked, stays, is_mini_of, mini_leaves, base_leaves, rooms_left, without_site, with_hold, unlinked_at, rooms_behind}
 use Rattle.instrument.specs.Ledgers.{LedgerData}
-use Rattle.instrument.specs.Placements.{behind_first}
+use Rattle.instrument.specs.Placements.{behind_first, is_site_of, without_sites}
 use Rattle.instrument.specs.Spaces.{IsSpaceOf, words_of_room, IsWhole, AreRoomsOf}
 use Rattle.instrument.specs.ToolTexts.{is_held_mini, held_minis, for_drops, IsToolText}
 use Rattle.instrument.specs.declared.entry.Entry.{Entry}
@@ -154,3 +154,21 @@ entries_freed l m point b e =
     let f = fewer_filter (stays point) l.book.rooms in
     let h = ap held_minis b in
     omega (arith, f, h, e)
+
+-- ---- sites are dropped
+
+rooms_left_of : (o : Option Room) (p : ℕ) (t : Words) (space : Rooms) (rooms : List Room) → AreRoomsOf t space rooms → AreRoomsOf t space (rooms_left o p rooms)
+rooms_left_of (Some r) p t space rooms k = k
+rooms_left_of None p t space rooms k = rooms_hold (base_leaves p) t space rooms k
+
+pub rooms_without_sites : (t : Words) (space : Rooms) (xs : List Room) (book : Book) → AreRoomsOf t space book.rooms → AreRoomsOf t space (without_sites xs book).rooms
+rooms_without_sites t space [] book k = k
+rooms_without_sites t space (x ∷ xs) book k =
+    rooms_without_sites t space xs (without_site x book) (rooms_left_of (find (is_mini_of x.point) (map (with_hold (mini_leaves x.at)) book.rooms)) x.point t space _ (rooms_hold (mini_leaves x.at) t space book.rooms k))
+
+pub text_dropped : (n : ℕ) (t : Words) (l m : LedgerData) (words : Rooms) → IsToolText t l words → m.book ≡ without_sites (filter (is_site_of n) l.book.rooms) l.book
+    → l.spare_entries + for_drops m.book.rooms ≤ m.spare_entries + for_drops l.book.rooms → IsToolText t m words
+text_dropped n t l m words k b e = record {
+  rooms = subst (λ (z : Book). AreRoomsOf t words z.rooms) (sym b) (rooms_without_sites t words (filter (is_site_of n) l.book.rooms) l.book k.rooms);
+  entries = omega (arith, e, k.entries);
+}

@@ -88,3 +88,8 @@ pub record AreSlotsOf (space : Rooms) (instruments : List Instrument) : Type 0 w
 pub record IsRoster (space : Rooms) (instruments : List Instrument) (len capacity room : ℕ) : Type 0 where
   pub slots : AreSlotsOf space instruments
   pub memory : len + room ≤ capacity
+
+-- no word is of two rooms, and each room is whole
+pub record AreDistinct (rooms : List Room) : Type 0 where
+  pub apart : AllDistant words_of_room rooms
+  pub whole : (x : Room) → In x rooms → IsWhole x

@@ -2,7 +2,9 @@ ghost use Rattle.std.specs.Prelude.{◌≡◌, ◌+◌, ◌<◌, ◌≤◌, [], 
 ghost use Rattle.instrument.specs.Agendas as lists;
 ghost use Rattle.instrument.specs.Books as books;
 ghost use Rattle.instrument.specs.Ledgers as ledgers;
-ghost use Rattle.instrument.specs.Placements.{agenda_in, behind_first};
+ghost use Rattle.instrument.specs.Placements.{agenda_in, behind_first, is_site_of, without_sites};
+ghost use Rattle.instrument.specs.Spaces.{AreDistinct};
+ghost use Rattle.instrument.specs.ToolTexts.{for_drops};
 ghost use Rattle.instrument.specs.declared.entry.Entry.TheVariants.{Free};
 
 use crate::agenda::Agenda;
@@ -137,6 +139,23 @@ impl Ledger {
             leave_base(&mut self.rooms, point);
         }
         self.agenda.push(Entry::Free { point });
+    }
+
+    /// Drops the sites of an instrument, in the order of their placing.
+    pub fn drop_sites(&mut self, owner: u64)
+        requires distinct { AreDistinct self.old.book.rooms }
+        requires entries { for_drops self.old.book.rooms ≤ self.old.spare_entries }
+        ensures book { self.new.book ≡ without_sites (filter (is_site_of owner) self.old.book.rooms) self.old.book }
+        ensures distinct { AreDistinct self.new.book.rooms }
+        ensures spare { self.new.spare_rooms ≡ self.old.spare_rooms }
+        ensures entries { self.old.spare_entries + for_drops self.new.book.rooms ≤ self.new.spare_entries + for_drops self.old.book.rooms }
+    {
+        for place in 0..self.rooms().len() {
+            let room = self.rooms()[place];
+            if room.is_site_of(owner) {
+                self.drop_site(room);
+            }
+        }
     }
 
     /// Takes a room behind the others.

@@ -125,4 +125,15 @@ impl ToolText {
         give_rooms(&mut self.words, self.ledger.rooms(), point);
         self.ledger.free(point);
     }
+
+    /// Drops the sites of an instrument, in the order of their placing.
+    pub fn drop_sites(&mut self, owner: u64)
+        ensures program { self.new.program ≡ self.old.program }
+        ensures book { self.new.book ≡ without_sites (filter (is_site_of owner) self.old.book.rooms) self.old.book }
+        ensures spare { self.new.spare_rooms ≡ self.old.spare_rooms }
+        ensures takes { self.new.takes ≡ self.old.takes }
+        ensures entries { self.old.entries ≤ self.new.entries }
+    {
+        self.ledger.drop_sites(owner);
+    }
 }
