@@ -35,5 +35,6 @@ pub mod Fitted
 pub mod Slotted
 pub mod Texts
 pub mod Sites
+pub mod RoomsTaken
 pub mod Mapping
 pub mod Examples

@@ -1,5 +1,5 @@
 -- For proofs alone: what is taken of a row of units, and the space that says which of them are free.
-use Rattle.std.specs.Prelude.{◌≡◌, ℕ, ◌+◌, ◌-◌, ◌/◌, ◌%◌, ◌<◌, ◌≤◌, ◌&&◌, not, nat_lt, if◌then◌else◌, Bool, true, List, [], ◌∷◌}
+use Rattle.std.specs.Prelude.{◌≡◌, ℕ, ◌+◌, ◌-◌, ◌*◌, ◌/◌, ◌%◌, ◌<◌, ◌≤◌, ◌&&◌, not, nat_lt, if◌then◌else◌, Bool, true, Option, Some, None, List, [], ◌∷◌, ◌++◌}
 use Rattle.std.specs.List.{list_any}
 use Rattle.pn_types.specs.declared.limits.TheConstants.{TOOL_TEXT_LEN}
 use Rattle.pn_types.specs.declared.placed.Placed.{Placed}
@@ -9,6 +9,7 @@ use Rattle.tramp_spec.specs.Codes.{tool_at}
 use Rattle.tool_space.specs.Rooms.{Rooms, is_within, is_free}
 use Rattle.machine.specs.Cores.{In}
 use Rattle.instrument.specs.Admission.{slot_count, slots_from}
+use Rattle.instrument.specs.Fits.{room_for}
 use Rattle.instrument.specs.declared.instrument.Instrument.{Instrument}
 use Rattle.instrument.specs.declared.room.Room.{Room}
 
@@ -93,3 +94,16 @@ pub record IsRoster (space : Rooms) (instruments : List Instrument) (len capacit
 pub record AreDistinct (rooms : List Room) : Type 0 where
   pub apart : AllDistant words_of_room rooms
   pub whole : (x : Room) → In x rooms → IsWhole x
+
+-- the lowest room of a length was taken, by its address
+pub record IsRoomTaken (before after : Rooms) (at len : ℕ) : Type 0 where
+  pub found : (program : Words) (rooms : List Room) → AreRoomsOf program before rooms → room_for program rooms len ≡ Some at
+  pub kept : (program : Words) (rooms : List Room) → AreRoomsOf program before rooms → (x : Room) → x.at ≡ at → x.len ≡ len → AreRoomsOf program after (rooms ++ x ∷ [])
+  pub aligned : at % 4 ≡ 0
+  pub high : at + 4 * len ≤ 4 * before.end
+  pub takes : after.takes + 1 ≡ before.takes
+  pub end : after.end ≡ before.end
+
+-- there is no room of a length
+abbrev pub HasNoRoom : Rooms → ℕ → Type 0
+HasNoRoom space len = (program : Words) (rooms : List Room) → AreRoomsOf program space rooms → room_for program rooms len ≡ None

@@ -12,6 +12,7 @@ mod laws;
 mod ledger;
 mod number;
 mod placer;
+mod placing;
 mod program;
 mod room;
 mod rooms;

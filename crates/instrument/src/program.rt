@@ -1,4 +1,4 @@
-ghost use Rattle.std.specs.Prelude.{◌≡◌, ◌+◌, ◌≤◌, IfOk};
+ghost use Rattle.std.specs.Prelude.{◌≡◌, ◌+◌, ◌<◌, ◌≤◌, IfOk, IfSome};
 ghost use Rattle.pn_types.specs.Images.{IsImage};
 ghost use Rattle.rv_mem.specs.Start.{program_of};
 ghost use Rattle.rv_word.specs.Names.{words_of};
@@ -62,7 +62,8 @@ impl Program {
 
     /// The word at an address, where the text has one there.
     pub fn word(&self, at: u64) -> Option<u32>
-        ensures { result ≡ program_word self.now at }
+        ensures word { result ≡ program_word self.now at }
+        ensures low { IfSome result (λ word. at < SEGMENTS_TO) }
     {
         if at < self.text_at || (at - self.text_at) % 4 != 0 {
             return None;
