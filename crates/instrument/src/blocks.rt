@@ -37,10 +37,11 @@ pub fn move_base(point: u64, word: u32, at: u64, words: Vec<MarkedWord>) -> Opti
 {
     match move_word(word, point, at + 12) {
         Ok(moved) => {
+            let moved_words = moved.words;
             // No word becomes more than four.
             let len = moved.len.min(4);
             let moved = Moved {
-                words: moved.words,
+                words: moved_words,
                 len,
             };
             Some(build_base(point, at, &moved, words))
