@@ -1,11 +1,12 @@
 //! A site is placed: its blocks get the lowest rooms.
 
-ghost use Rattle.std.specs.Prelude.{◌≡◌, ◌+◌, ◌*◌, ◌<◌, ◌≤◌, ◌^◌, [], IfErr, IfNone, IfSome, OnOk, Ok, Err, length, vec_capacity};
+ghost use Rattle.std.specs.Prelude.{◌≡◌, ◌+◌, ◌*◌, ◌<◌, ◌≤◌, ◌^◌, ◌⊎◌, [], IfErr, IfNone, IfSome, OnOk, Ok, Err, length, vec_capacity};
 ghost use Rattle.prim_code.specs.Counts.{word_count};
 ghost use Rattle.prim_code.specs.Named.{AreBelow};
 ghost use Rattle.rv_word.specs.Plain.{Words, program_word};
 ghost use Rattle.tramp_spec.specs.Statements.{body_of};
 ghost use Rattle.instrument.specs.Admission as table;
+ghost use Rattle.instrument.specs.declared.number.Refused.TheVariants.{NoMemory};
 ghost use Rattle.instrument.specs.Spaces.{AreRoomsOf, HasNoRoom, IsRoomTaken};
 
 use crate::blocks::{build_mini, move_base};
@@ -13,8 +14,10 @@ use crate::costs::base_len;
 use crate::ledger::Ledger;
 use crate::number::Refused;
 use crate::program::Program;
+use crate::rooms::find_base;
 use pn_types::Site;
 use prim_code::words_of;
+use std::alloc::Global;
 use tool_space::Space;
 use tramp_spec::{Block, MarkedWord};
 
@@ -119,4 +122,47 @@ fn place_based(
             Err(refused)
         }
     }
+}
+
+/// Places a site of an instrument: a base block too, where its point has none.
+///
+/// # Errors
+///
+/// Why it has no room, or `NoMemory`. Then nothing was placed.
+pub fn place_site(
+    alloc: Global,
+    program: &Program,
+    ledger: &mut Ledger,
+    words: &mut Space,
+    owner: u64,
+    slots: &[u32],
+    site: &Site,
+) -> Result<(), Refused>
+    requires tied { AreRoomsOf program.now words.old ledger.old.book.rooms }
+    requires rooms { 2 ≤ ledger.old.spare_rooms }
+    requires entries { 4 ≤ ledger.old.spare_entries }
+    requires reserved { 2 ≤ words.old.takes }
+    requires low { words.old.end < 2 ^ 60 }
+    requires named { AreBelow (length slots.now) site.now.stmts }
+    requires count { word_count site.now.stmts + 1 < 2 ^ 32 }
+    ensures ok { OnOk result (table.with_site program.now owner slots.now site.now ledger.old.book ≡ Ok ledger.new.book) }
+    ensures refused { IfErr result (λ refused. (refused ≡ NoMemory) ⊎ (table.with_site program.now owner slots.now site.now ledger.old.book ≡ Err refused)) }
+    ensures unchanged { IfErr result (λ refused. ledger.new ≡ ledger.old) }
+    ensures tied { AreRoomsOf program.now words.new ledger.new.book.rooms }
+    ensures rooms_left { ledger.old.spare_rooms ≤ ledger.new.spare_rooms + 2 }
+    ensures entries_left { ledger.old.spare_entries ≤ ledger.new.spare_entries + 4 }
+    ensures takes_left { words.old.takes ≤ words.new.takes + 2 }
+    ensures end { words.new.end ≡ words.old.end }
+{
+    let len = words_of(site.stmts.as_slice()) as usize + 1;
+    let Ok(buffer) = Vec::with_capacity(alloc, len) else {
+        return Err(Refused::NoMemory);
+    };
+    if find_base(ledger.rooms(), site.at).is_some() {
+        return place_mini(ledger, words, owner, slots, site, None, buffer);
+    }
+    let Ok(base_buffer) = Vec::with_capacity(alloc, 7) else {
+        return Err(Refused::NoMemory);
+    };
+    place_based(program, ledger, words, owner, slots, site, base_buffer, buffer)
 }
