@@ -1,18 +1,17 @@
 -- A space in which things take units: what a take, a give and a change of the things make of it.
-use Rattle.std.proofs.Common.{◌≡◌, ℕ, zero, suc, ◌+◌, ◌<◌, ◌≤◌, List, [], ◌∷◌, ◌++◌, Option, Some, None, refl, sym, ap, ◌∙◌, subst, arith, ⊎_elim, inl, inr, map, filter, length, cond, take, drop, get_or}
-use Rattle.std.specs.Prelude.{Bool, true, false, not, nat_le, nat_lt, ◌&&◌, ◌||◌, ◌⊎◌, find}
-use Rattle.std.specs.List.{list_any, range_with_len}
-use Rattle.std.proofs.lemmas.Bool.{true≢false, cond-true, cond-false, cases_lt, and_parts, and_from, not_from_true, le-leb, lt-ltb, ltb-true, ltb-false, leb-true, false_from_ne_true}
+use Rattle.std.proofs.Common.{◌≡◌, ℕ, ◌+◌, ◌<◌, ◌≤◌, List, [], ◌∷◌, ◌++◌, refl, sym, ap, ◌∙◌, subst, arith, ⊎_elim, inl, inr, map, filter, length, cond, take, drop, get_or}
+use Rattle.std.specs.Prelude.{Bool, true, false, not, nat_le, nat_lt, ◌&&◌, ◌||◌}
+use Rattle.std.specs.List.{list_any}
+use Rattle.std.proofs.lemmas.Bool.{true≢false, cond-true, cond-false, and_parts, and_from, not_from_true, le-leb, lt-ltb, ltb-true, ltb-false, leb-true, false_from_ne_true}
 use Rattle.std.proofs.lemmas.List.{take_more, drop_more}
 use Rattle.std.proofs.lemmas.List.Folds.{list_any-append}
-use Rattle.tool_space.specs.Rooms.{Rooms, is_within, is_free, IsRoom, IsLowestRoom, IsTaken, after_take, after_give, new_space}
-use Rattle.tool_space.proofs.Ranges.{in_range, below_range, above_range}
+use Rattle.tool_space.specs.Rooms.{Rooms, is_within, IsRoom, IsTaken, after_take, after_give, new_space}
 use Rattle.machine.specs.Cores.{In}
-use Rattle.machine.proofs.Lists.{in_map, in_filter}
+use Rattle.machine.proofs.Lists.{in_map}
 use Rattle.instrument.specs.Spaces.{Span, covers, AreDistant, AllDistant, owed, is_left, IsSpaceOf}
 use Rattle.instrument.proofs.Folds.{in_append, append_left, append_right, append_assoc, append_nil, filter_append}
 use Rattle.instrument.proofs.Going.{any_in}
-use Rattle.instrument.proofs.Spacing.{Tied, taken_tied, given_tied, range_has}
+use Rattle.instrument.proofs.Spacing.{taken_tied, given_tied, range_has}
 
 -- ---- lists apart
 

@@ -1,6 +1,6 @@
 -- A room of words is taken, given back, and becomes that of a block.
-use Rattle.std.proofs.Common.{◌≡◌, ℕ, ◌+◌, ◌-◌, ◌*◌, ◌/◌, ◌%◌, ◌<◌, ◌≤◌, List, [], ◌∷◌, ◌++◌, length, Option, Some, None, refl, sym, ap, ◌∙◌, subst, arith, inl, inr, ⊎_elim}
-use Rattle.std.specs.Prelude.{Result, Ok, Err}
+use Rattle.std.proofs.Common.{◌≡◌, ℕ, ◌+◌, ◌*◌, ◌/◌, ◌<◌, ◌≤◌, List, [], ◌∷◌, ◌++◌, length, Option, Some, None, refl, sym, ap, ◌∙◌, subst, arith, ⊎_elim}
+use Rattle.std.specs.Prelude.{Ok, Err}
 use Rattle.pn_types.specs.declared.limits.TheConstants.{TOOL_TEXT_LEN}
 use Rattle.std.specs.Prelude.{false}
 use Rattle.std.specs.Option.{option_map}
@@ -11,17 +11,15 @@ use Rattle.tramp_spec.specs.MovedWords.{moved_of}
 use Rattle.tramp_spec.specs.Codes.{tool_at}
 use Rattle.tramp_spec.specs.declared.block.Block.{Block}
 use Rattle.tramp_spec.specs.declared.mark.MarkedWord.{MarkedWord}
-use Rattle.machine.specs.Cores.{In}
 use Rattle.instrument.specs.Admission.{base_len, a_base, a_mini, rooms_with, with_mini, with_mini_at, with_moved, with_base_at, with_base}
 use Rattle.instrument.specs.Books.{Book, mini_room, with_blocks, rooms_of, base_room}
 use Rattle.instrument.specs.Fits.{room_for}
 use Rattle.instrument.specs.Spaces.{IsSpaceOf, words_of_room, IsWhole, AreRoomsOf, IsRoomTaken, HasNoRoom}
-use Rattle.instrument.specs.declared.number.Refused.{Refused}
 use Rattle.instrument.specs.declared.number.Refused.TheVariants.{NoRoom}
 use Rattle.instrument.specs.declared.room.Hold.TheVariants.{Held}
 use Rattle.instrument.specs.declared.room.Room.{Room}
 use Rattle.std.proofs.Common.{length-append}
-use Rattle.instrument.proofs.Fitted.{room_given, no_room}
+use Rattle.instrument.proofs.Fitted.{room_given}
 use Rattle.instrument.proofs.Folds.{append_assoc, append_nil, in_append}
 use Rattle.instrument.proofs.Holdings.{space_take, space_give, middle, without, may_give, taken}
 use Rattle.instrument.proofs.MovedLens.{moved_len}
@@ -66,9 +64,10 @@ pub mini_placed : (t : Words) (before after : Rooms) (owner point at : ℕ) (bod
 mini_placed t before after owner point at body base book new mini len n r k e f =
     let found : room_for t (rooms_with base book.rooms) (length body + 1) ≡ Some at = sym (ap (room_for t (rooms_with base book.rooms)) n) ∙ r.found t (rooms_with base book.rooms) k in
     let long : length mini.words ≡ len = ap (λ (b : Block). length b.words) e ∙ (length-append body _ ∙ sym n) in
-    let is_at : mini.at ≡ at = ap (λ (b : Block). b.at) e in
-    (ap (λ o. with_mini_at o owner point body base book) found ∙ ap Ok (ap (λ (m : Block). with_blocks owner (record { base = base; mini = m }) book) (sym e) ∙ sym f),
-    subst (λ (b : Book). AreRoomsOf t after b.rooms) (sym f) (subst (λ (xs : List Room). AreRoomsOf t after xs) (with_rooms base owner mini book.rooms) (r.kept t (rooms_with base book.rooms) k (mini_room owner mini) is_at long)))
+    let is_at : mini.at ≡ at = ap (λ (b : Block). b.at) e in (
+      ap (λ o. with_mini_at o owner point body base book) found ∙ ap Ok (ap (λ (m : Block). with_blocks owner (record { base = base; mini = m }) book) (sym e) ∙ sym f),
+      subst (λ (b : Book). AreRoomsOf t after b.rooms) (sym f) (subst (λ (xs : List Room). AreRoomsOf t after xs) (with_rooms base owner mini book.rooms) (r.kept t (rooms_with base book.rooms) k (mini_room owner mini) is_at long)),
+    )
 
 pub no_mini : (t : Words) (before : Rooms) (owner point : ℕ) (body : List MarkedWord) (base : Option Block) (book : Book) (len : ℕ) → len ≡ length body + 1 → HasNoRoom before len → AreRoomsOf t before (rooms_with base book.rooms) → with_mini t owner point body base book ≡ Err (NoRoom len)
 no_mini t before owner point body base book len n r k =

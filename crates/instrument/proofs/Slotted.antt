@@ -1,5 +1,5 @@
 -- The slots of instruments in a space: what is given back where some are gone.
-use Rattle.std.proofs.Common.{◌≡◌, ℕ, ◌+◌, ◌^◌, ◌<◌, ◌≤◌, ◌-◌, List, [], ◌++◌, map, refl, sym, subst, arith, filter, take, drop, get_or, length, cond}
+use Rattle.std.proofs.Common.{◌≡◌, ℕ, ◌+◌, ◌^◌, ◌<◌, ◌-◌, List, [], ◌++◌, map, refl, sym, subst, arith, filter, take, drop, get_or, length, cond}
 use Rattle.std.specs.Prelude.{Bool, true, false, nat_lt}
 use Rattle.tool_space.specs.Rooms.{Rooms, new_space, after_give}
 use Rattle.tramp_spec.specs.Banks.{bank_len, first_slot}
@@ -8,10 +8,10 @@ use Rattle.machine.proofs.Lists.{in_map}
 use Rattle.pn_types.specs.declared.limits.TheConstants.{BANK_LEN, FIRST_SLOT}
 use Rattle.instrument.specs.Admission.{slot_count}
 use Rattle.instrument.specs.Placements.{with_state}
-use Rattle.instrument.specs.Spaces.{IsSpaceOf, slots_of, IsRow, AreSlotsOf, IsRoster}
+use Rattle.instrument.specs.Spaces.{slots_of, IsRow, AreSlotsOf, IsRoster}
 use Rattle.instrument.specs.declared.number.State.{State}
 use Rattle.instrument.specs.declared.instrument.Instrument.{Instrument}
-use Rattle.instrument.proofs.Holdings.{space_new, space_map, space_goes, next_stays, next_here, left_before}
+use Rattle.instrument.proofs.Holdings.{space_new, space_map, space_goes, next_stays, left_before}
 
 pub few_slots : (space : Rooms) (xs : List Instrument) (i : Instrument) → AreSlotsOf space xs → In i xs → slot_count i.placed.vars < 2 ^ 32
 unfolding bank_len

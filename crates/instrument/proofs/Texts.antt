@@ -1,23 +1,22 @@
 -- The rooms of a book in their space, and the entries for drops, where the holds of rooms change.
-use Rattle.std.proofs.Common.{◌≡◌, ℕ, ◌+◌, ◌*◌, ◌/◌, ◌^◌, ◌<◌, ◌≤◌, List, [], ◌∷◌, ◌++◌, Option, Some, None, refl, sym, ap, ◌∙◌, subst, arith, filter, take, drop, get_or, length, map, cond}
-use Rattle.std.specs.Prelude.{Bool, true, false, not, ◌&&◌, ◌==◌, ◌-◌, IfSome, nat_lt, find}
+use Rattle.std.proofs.Common.{◌≡◌, ℕ, ◌+◌, ◌/◌, ◌<◌, ◌≤◌, List, [], ◌∷◌, ◌++◌, Option, Some, None, refl, sym, ap, ◌∙◌, subst, arith, filter, take, drop, get_or, length, map, cond}
+use Rattle.std.specs.Prelude.{Bool, true, false, not, ◌&&◌, ◌==◌, ◌-◌, IfSome, find}
 use Rattle.std.proofs.lemmas.Bool.{lt-ltb}
 use Rattle.pn_types.specs.declared.limits.TheConstants.{TOOL_TEXT_LEN}
 use Rattle.rv_word.specs.Plain.{Words}
 use Rattle.tool_space.specs.Rooms.{Rooms, new_space, after_give}
 use Rattle.tramp_spec.specs.Codes.{tool_at}
-use Rattle.machine.specs.Cores.{In}
 use Rattle.machine.proofs.Lists.{in_map}
 use Rattle.instrument.specs.Agendas.{first_entry, without_first}
-use Rattle.instrument.specs.Books.{Book, is_held, is_unlinked, stays, is_mini_of, mini_leaves, base_leaves, rooms_left, without_site, with_hold, unlinked_at, rooms_behind}
+use Rattle.instrument.specs.Books.{Book, is_held, stays, is_mini_of, mini_leaves, base_leaves, rooms_left, without_site, with_hold, unlinked_at, rooms_behind}
 use Rattle.instrument.specs.Ledgers.{LedgerData}
 use Rattle.instrument.specs.Placements.{behind_first, is_site_of, without_sites}
 use Rattle.instrument.specs.Spaces.{IsSpaceOf, words_of_room, IsWhole, AreRoomsOf}
-use Rattle.instrument.specs.ToolTexts.{is_held_mini, held_minis, for_drops, IsToolText}
+use Rattle.instrument.specs.ToolTexts.{held_minis, for_drops, IsToolText}
 use Rattle.instrument.specs.declared.entry.Entry.{Entry}
 use Rattle.instrument.specs.declared.entry.Entry.TheVariants.{WriteBase, WriteMini, LinkMini, LinkPoint, UnlinkMini, UnlinkPoint, Free}
 use Rattle.instrument.specs.declared.room.Hold.{Hold}
-use Rattle.instrument.specs.declared.room.Hold.TheVariants.{Held, Leaving, Unlinked}
+use Rattle.instrument.specs.declared.room.Hold.TheVariants.{Unlinked}
 use Rattle.instrument.specs.declared.room.Room.{Room}
 use Rattle.instrument.proofs.Holdings.{space_new, space_map, space_goes, next_stays, left_before}
 

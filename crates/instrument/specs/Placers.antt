@@ -1,5 +1,5 @@
 -- The placements with the memory that they have: so many entries of the agenda can be put in beside those that drops need.
-use Rattle.std.specs.Prelude.{ℕ, []}
+use Rattle.std.specs.Prelude.{ℕ}
 use Rattle.pn_types.specs.declared.image.Image.{Image}
 use Rattle.instrument.specs.Placements.{Placements, no_placements}
 use Rattle.instrument.specs.Rosters.{RosterData}

@@ -164,5 +164,14 @@ pub fn place_site(
     let Ok(base_buffer) = Vec::with_capacity(alloc, 7) else {
         return Err(Refused::NoMemory);
     };
-    place_based(program, ledger, words, owner, slots, site, base_buffer, buffer)
+    place_based(
+        program,
+        ledger,
+        words,
+        owner,
+        slots,
+        site,
+        base_buffer,
+        buffer,
+    )
 }

@@ -1,4 +1,4 @@
-use Rattle.std.proofs.Common.{rules, ◌≡◌, ◌+◌, ◌/◌, ◌<◌, ◌∙◌, ap, sym, subst, List, length, arith}
+use Rattle.std.proofs.Common.{◌/◌, ◌<◌, ◌∙◌, sym, subst, arith}
 use Rattle.tool_space.specs.Rooms.{Rooms, IsTaken, after_give}
 use Rattle.tramp_spec.specs.Statements.{body_of}
 use Rattle.instrument.specs.Ledgers.{LedgerData}

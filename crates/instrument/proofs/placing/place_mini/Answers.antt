@@ -1,4 +1,4 @@
-use Rattle.std.proofs.Common.{◌≡◌, ◌+◌, ◌∙◌, ap, sym, subst, List, length, arith}
+use Rattle.std.proofs.Common.{◌+◌, ◌∙◌, ap, sym, length}
 use Rattle.tramp_spec.specs.Statements.{body_of}
 use Rattle.instrument.proofs.RoomsTaken.{mini_placed}
 use Rattle.instrument.proofs.placing.place_mini.Goals as goal

@@ -1,4 +1,4 @@
-use Rattle.std.proofs.Common.{◌≡◌, ◌*◌, subst, sym}
+use Rattle.std.proofs.Common.{◌*◌, subst, sym}
 use Rattle.tool_space.specs.Rooms.{Rooms}
 use Rattle.instrument.specs.Spaces.{IsRoomTaken}
 use Rattle.instrument.proofs.RoomsTaken.{room_taken}

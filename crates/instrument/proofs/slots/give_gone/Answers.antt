@@ -1,8 +1,6 @@
-use Rattle.std.proofs.Common.{rules, ◌≡◌, sym, ◌∙◌, ap, subst, cond, filter, take, drop, ◌++◌, ◌+◌, arith}
-use Rattle.std.specs.Prelude.{true, false, not, nat_lt}
-use Rattle.std.proofs.lemmas.Bool.{not_from_false, not_from_true}
-use Rattle.tool_space.specs.Rooms.{Rooms, after_give}
-use Rattle.tramp_spec.specs.Banks.{first_slot}
+use Rattle.std.proofs.Common.{sym, ◌∙◌, ap, subst, filter, take, drop, ◌++◌, ◌+◌}
+use Rattle.std.specs.Prelude.{nat_lt}
+use Rattle.tool_space.specs.Rooms.{Rooms}
 use Rattle.instrument.specs.Placements as placements
 use Rattle.instrument.specs.Spaces.{AreSlotsOf, slots_of}
 use Rattle.instrument.proofs.Holdings.{next_here, next_gives, taken}
@@ -21,16 +19,16 @@ give_slots-requires-clause-taken c = λ some. taken slots_of _ _ _ _ c.loop-inst
 
 pub loop-instrument-preserved : goal.loop-instrument-preserved
 loop-instrument-preserved c = elim c.if-not-is_here.branch [
-    then-not-is_here w ↦
-        let e = w.slots-is ∙ w.give_slots.ensures in
-        record {
-          slots = subst (λ (z : Rooms). AreSlotsOf z (filter (placements.is_here c.args.rooms.now) (take (c.loop-instrument.instrument-index + 1) c.args.instruments.now) ++ drop (c.loop-instrument.instrument-index + 1) c.args.instruments.now)) (sym e)
-              (one_goes c.loop-instrument.slots (placements.is_here c.args.rooms.now) c.args.instruments.now c.loop-instrument.instrument-index _ c.loop-instrument-test.true c.instrument-item.is (sym c.is_here.ensures ∙ w.if-not-is_here.true) c.loop-instrument.invariant.slots);
-          takes = ap (λ (z : Rooms). z.takes) e ∙ (gives_keep_takes (nat_lt 0 (slots_of c.instrument-item.result).len) c.loop-instrument.slots (slots_of c.instrument-item.result).at (slots_of c.instrument-item.result).len ∙ c.loop-instrument.invariant.takes);
-        }
-    | else-not-is_here w ↦ record {
-      slots = subst (λ (z : Rooms). AreSlotsOf z (filter (placements.is_here c.args.rooms.now) (take (c.loop-instrument.instrument-index + 1) c.args.instruments.now) ++ drop (c.loop-instrument.instrument-index + 1) c.args.instruments.now)) (sym w.slots-is)
-          (one_stays c.loop-instrument.slots (placements.is_here c.args.rooms.now) c.args.instruments.now c.loop-instrument.instrument-index _ c.loop-instrument-test.true c.instrument-item.is (sym c.is_here.ensures ∙ w.if-not-is_here.false) c.loop-instrument.invariant.slots);
-      takes = ap (λ (z : Rooms). z.takes) w.slots-is ∙ c.loop-instrument.invariant.takes;
-    }
-    ]
+  | then-not-is_here w ↦
+      let e = w.slots-is ∙ w.give_slots.ensures in
+      record {
+        slots = subst (λ (z : Rooms). AreSlotsOf z (filter (placements.is_here c.args.rooms.now) (take (c.loop-instrument.instrument-index + 1) c.args.instruments.now) ++ drop (c.loop-instrument.instrument-index + 1) c.args.instruments.now)) (sym e)
+            (one_goes c.loop-instrument.slots (placements.is_here c.args.rooms.now) c.args.instruments.now c.loop-instrument.instrument-index _ c.loop-instrument-test.true c.instrument-item.is (sym c.is_here.ensures ∙ w.if-not-is_here.true) c.loop-instrument.invariant.slots);
+        takes = ap (λ (z : Rooms). z.takes) e ∙ (gives_keep_takes (nat_lt 0 (slots_of c.instrument-item.result).len) c.loop-instrument.slots (slots_of c.instrument-item.result).at (slots_of c.instrument-item.result).len ∙ c.loop-instrument.invariant.takes);
+      }
+  | else-not-is_here w ↦ record {
+    slots = subst (λ (z : Rooms). AreSlotsOf z (filter (placements.is_here c.args.rooms.now) (take (c.loop-instrument.instrument-index + 1) c.args.instruments.now) ++ drop (c.loop-instrument.instrument-index + 1) c.args.instruments.now)) (sym w.slots-is)
+        (one_stays c.loop-instrument.slots (placements.is_here c.args.rooms.now) c.args.instruments.now c.loop-instrument.instrument-index _ c.loop-instrument-test.true c.instrument-item.is (sym c.is_here.ensures ∙ w.if-not-is_here.false) c.loop-instrument.invariant.slots);
+    takes = ap (λ (z : Rooms). z.takes) w.slots-is ∙ c.loop-instrument.invariant.takes;
+  }
+]

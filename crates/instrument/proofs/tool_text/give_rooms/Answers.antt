@@ -1,9 +1,7 @@
-use Rattle.std.proofs.Common.{rules, ◌≡◌, sym, ◌∙◌, ap, subst, filter, take, drop, ◌++◌, ◌+◌, ◌/◌, get_or, arith, ◌<◌}
-use Rattle.std.specs.Prelude.{true, false}
+use Rattle.std.proofs.Common.{sym, ◌∙◌, ap, subst, filter, take, drop, ◌++◌, ◌+◌}
+use Rattle.std.specs.Prelude.{false}
 use Rattle.std.proofs.lemmas.List.{get_or_default}
-use Rattle.pn_types.specs.declared.limits.TheConstants.{TOOL_TEXT_LEN}
-use Rattle.rv_word.specs.Plain.{Words}
-use Rattle.tool_space.specs.Rooms.{Rooms, after_give}
+use Rattle.tool_space.specs.Rooms.{Rooms}
 use Rattle.instrument.specs.Books.{stays}
 use Rattle.instrument.specs.Spaces.{AreRoomsOf, words_of_room}
 use Rattle.instrument.specs.declared.room.Room.{Room}
@@ -31,15 +29,15 @@ give-requires-clause-taken c =
 
 pub loop-room-preserved : goal.loop-room-preserved
 loop-room-preserved c = elim c.if-not-stays.branch [
-    then-not-stays w ↦ record {
-      rooms = λ program k. subst (λ (z : Rooms). AreRoomsOf program z (filter (stays c.args.point) (take (c.loop-room.room-index + 1) c.args.rooms.now) ++ drop (c.loop-room.room-index + 1) c.args.rooms.now)) (sym (w.words-is ∙ w.give.ensures))
-          (room_goes program c.loop-room.words (stays c.args.point) c.args.rooms.now c.loop-room.room-index _ c.loop-room-test.true (get_or_default c.args.rooms.now c.loop-room.room-index nowhere _ c.loop-room-test.true) (sym c.stays.ensures ∙ w.if-not-stays.true) (c.loop-room.invariant.rooms program k)
-          ((c.loop-room.invariant.rooms program k).whole _ (next_here (stays c.args.point) c.args.rooms.now c.loop-room.room-index _ c.loop-room-test.true (get_or_default c.args.rooms.now c.loop-room.room-index nowhere _ c.loop-room-test.true))).0);
-      takes = ap (λ (z : Rooms). z.takes) (w.words-is ∙ w.give.ensures) ∙ c.loop-room.invariant.takes;
-    }
-    | else-not-stays w ↦ record {
-      rooms = λ program k. subst (λ (z : Rooms). AreRoomsOf program z (filter (stays c.args.point) (take (c.loop-room.room-index + 1) c.args.rooms.now) ++ drop (c.loop-room.room-index + 1) c.args.rooms.now)) (sym w.words-is)
-          (room_stays program c.loop-room.words (stays c.args.point) c.args.rooms.now c.loop-room.room-index _ c.loop-room-test.true (get_or_default c.args.rooms.now c.loop-room.room-index nowhere _ c.loop-room-test.true) (sym c.stays.ensures ∙ w.if-not-stays.false) (c.loop-room.invariant.rooms program k));
-      takes = ap (λ (z : Rooms). z.takes) w.words-is ∙ c.loop-room.invariant.takes;
-    }
-    ]
+  | then-not-stays w ↦ record {
+    rooms = λ program k. subst (λ (z : Rooms). AreRoomsOf program z (filter (stays c.args.point) (take (c.loop-room.room-index + 1) c.args.rooms.now) ++ drop (c.loop-room.room-index + 1) c.args.rooms.now)) (sym (w.words-is ∙ w.give.ensures))
+        (room_goes program c.loop-room.words (stays c.args.point) c.args.rooms.now c.loop-room.room-index _ c.loop-room-test.true (get_or_default c.args.rooms.now c.loop-room.room-index nowhere _ c.loop-room-test.true) (sym c.stays.ensures ∙ w.if-not-stays.true) (c.loop-room.invariant.rooms program k)
+        ((c.loop-room.invariant.rooms program k).whole _ (next_here (stays c.args.point) c.args.rooms.now c.loop-room.room-index _ c.loop-room-test.true (get_or_default c.args.rooms.now c.loop-room.room-index nowhere _ c.loop-room-test.true))).0);
+    takes = ap (λ (z : Rooms). z.takes) (w.words-is ∙ w.give.ensures) ∙ c.loop-room.invariant.takes;
+  }
+  | else-not-stays w ↦ record {
+    rooms = λ program k. subst (λ (z : Rooms). AreRoomsOf program z (filter (stays c.args.point) (take (c.loop-room.room-index + 1) c.args.rooms.now) ++ drop (c.loop-room.room-index + 1) c.args.rooms.now)) (sym w.words-is)
+        (room_stays program c.loop-room.words (stays c.args.point) c.args.rooms.now c.loop-room.room-index _ c.loop-room-test.true (get_or_default c.args.rooms.now c.loop-room.room-index nowhere _ c.loop-room-test.true) (sym c.stays.ensures ∙ w.if-not-stays.false) (c.loop-room.invariant.rooms program k));
+    takes = ap (λ (z : Rooms). z.takes) w.words-is ∙ c.loop-room.invariant.takes;
+  }
+]

@@ -1,4 +1,4 @@
-use Rattle.std.proofs.Common.{◌≡◌, ◌≤◌, List, filter, subst, ap, sym}
+use Rattle.std.proofs.Common.{◌≤◌, List, filter, subst, sym}
 use Rattle.instrument.specs.Books.{stays}
 use Rattle.instrument.specs.Spaces.{AreRoomsOf}
 use Rattle.instrument.specs.ToolTexts.{ToolTextData, text_data}

@@ -1,4 +1,4 @@
-use Rattle.std.proofs.Common.{◌≡◌, ◌<◌, ◌≤◌, subst}
+use Rattle.std.proofs.Common.{◌<◌, ◌≤◌, subst}
 use Rattle.std.specs.Prelude.{IfSome}
 use Rattle.instrument.specs.ToolTexts.{ToolTextData, text_data}
 use Rattle.instrument.proofs.Texts.{text_behind, entries_behind, entry_freed}

@@ -1,5 +1,5 @@
-use Rattle.std.proofs.Common.{◌≡◌, ◌∙◌, ◌/◌, ap, sym, subst, arith}
-use Rattle.tool_space.specs.Rooms.{Rooms, new_space}
+use Rattle.std.proofs.Common.{◌∙◌, ◌/◌, ap, sym, subst, arith}
+use Rattle.tool_space.specs.Rooms.{new_space}
 use Rattle.instrument.specs.Ledgers.{LedgerData}
 use Rattle.instrument.specs.ToolTexts.{IsToolText}
 use Rattle.instrument.proofs.Texts.{rooms_new}
