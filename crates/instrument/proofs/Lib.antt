@@ -30,6 +30,11 @@ pub mod Lawful
 pub mod Searching
 pub mod Numbers
 pub mod Spacing
+pub mod Holdings
+pub mod Fitted
+pub mod Slotted
+pub mod Texts
+pub mod Sites
+pub mod RoomsTaken
 pub mod Mapping
 pub mod Examples
-pub mod WordSpace

@@ -95,7 +95,7 @@ above : (at unit : ℕ) → unit < at → nat_le at unit ≡ false
 above at unit l = ⊎_elim (λ e. let z : at ≤ unit = leb-true at unit e in absurd (omega arith)) (λ e. e) (cases_Bool (nat_le at unit))
 
 -- the units of a range are those within
-range_has : (at len unit : ℕ) → is_one_of (range_with_len at len) unit ≡ is_within at len unit
+pub range_has : (at len unit : ℕ) → is_one_of (range_with_len at len) unit ≡ is_within at len unit
 range_has at len unit = ⊎_elim
     (λ (l : unit < at). below_range at len unit l ∙ sym (and_left (nat_le at unit) (nat_lt unit (at + len)) (above at unit l)))
     (λ (l : at ≤ unit). ⊎_elim

@@ -21,7 +21,8 @@ pub fn slot_count(vars: &[Var]) -> u32
 
 /// How many words the base block of a word has.
 pub fn base_len(word: u32) -> u32
-    ensures { result ≡ table.base_len word }
+    ensures len { result ≡ table.base_len word }
+    ensures short { result < 8 }
 {
     3 + moved_len(word)
 }

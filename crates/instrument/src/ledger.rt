@@ -2,7 +2,9 @@ ghost use Rattle.std.specs.Prelude.{◌≡◌, ◌+◌, ◌<◌, ◌≤◌, [], 
 ghost use Rattle.instrument.specs.Agendas as lists;
 ghost use Rattle.instrument.specs.Books as books;
 ghost use Rattle.instrument.specs.Ledgers as ledgers;
-ghost use Rattle.instrument.specs.Placements.{agenda_in, behind_first};
+ghost use Rattle.instrument.specs.Placements.{agenda_in, behind_first, is_site_of, without_sites};
+ghost use Rattle.instrument.specs.Spaces.{AreDistinct};
+ghost use Rattle.instrument.specs.ToolTexts.{for_drops};
 ghost use Rattle.instrument.specs.declared.entry.Entry.TheVariants.{Free};
 
 use crate::agenda::Agenda;
@@ -66,11 +68,19 @@ impl Ledger {
         Ok(())
     }
 
+    /// The rooms, in the order of their taking.
+    pub fn rooms(&self) -> &[Room]
+        ensures { result.now ≡ self.now.book.rooms }
+    {
+        &self.rooms
+    }
+
     /// Hands out the first entry of the agenda. Where it unlinks a block, the block's room is noted.
     pub fn hand_out(&mut self) -> Option<Entry>
         ensures entry { result ≡ lists.first_entry self.old.book.agenda }
         ensures book { self.new.book ≡ behind_first self.old.book.agenda self.old.book }
         ensures spare { self.new.spare_rooms ≡ self.old.spare_rooms }
+        ensures entries { self.new.spare_entries ≡ (lists.without_first (record { entries = self.old.book.agenda; room = self.old.spare_entries })).room }
     {
         let entry = self.agenda.take_first()?;
         if let Entry::UnlinkMini { at, .. } | Entry::UnlinkPoint { at, .. } = &entry {
@@ -83,6 +93,8 @@ impl Ledger {
     pub fn free(&mut self, point: u64)
         ensures rooms { self.new.book.rooms ≡ filter (books.stays point) self.old.book.rooms }
         ensures agenda { self.new.book.agenda ≡ self.old.book.agenda }
+        ensures spare { self.new.spare_rooms ≡ self.old.spare_rooms }
+        ensures entries { self.new.spare_entries ≡ self.old.spare_entries }
     {
         free(&mut self.rooms, point);
     }
@@ -92,6 +104,8 @@ impl Ledger {
         ensures point { result ≡ lists.point_of (books.first_free [] self.old.book.agenda) }
         ensures rooms { self.new.book.rooms ≡ self.old.book.rooms }
         ensures agenda { self.new.book.agenda ≡ agenda_in (books.first_free [] self.old.book.agenda) self.old.book.agenda }
+        ensures spare { self.new.spare_rooms ≡ self.old.spare_rooms }
+        ensures entries { self.new.spare_entries ≡ (lists.without_free (record { entries = self.old.book.agenda; room = self.old.spare_entries })).room }
     {
         self.agenda.take_free()
     }
@@ -101,6 +115,8 @@ impl Ledger {
         requires { 0 < self.old.spare_entries }
         ensures rooms { self.new.book.rooms ≡ self.old.book.rooms }
         ensures agenda { self.new.book.agenda ≡ self.old.book.agenda ++ Free point ∷ [] }
+        ensures spare { self.new.spare_rooms ≡ self.old.spare_rooms }
+        ensures entries { self.new.spare_entries + 1 ≡ self.old.spare_entries }
     {
         self.agenda.push(Entry::Free { point });
     }
@@ -123,6 +139,23 @@ impl Ledger {
             leave_base(&mut self.rooms, point);
         }
         self.agenda.push(Entry::Free { point });
+    }
+
+    /// Drops the sites of an instrument, in the order of their placing.
+    pub fn drop_sites(&mut self, owner: u64)
+        requires distinct { AreDistinct self.old.book.rooms }
+        requires entries { for_drops self.old.book.rooms ≤ self.old.spare_entries }
+        ensures book { self.new.book ≡ without_sites (filter (is_site_of owner) self.old.book.rooms) self.old.book }
+        ensures distinct { AreDistinct self.new.book.rooms }
+        ensures spare { self.new.spare_rooms ≡ self.old.spare_rooms }
+        ensures entries { self.old.spare_entries + for_drops self.new.book.rooms ≤ self.new.spare_entries + for_drops self.old.book.rooms }
+    {
+        for place in 0..self.rooms().len() {
+            let room = self.rooms()[place];
+            if room.is_site_of(owner) {
+                self.drop_site(room);
+            }
+        }
     }
 
     /// Takes a room behind the others.

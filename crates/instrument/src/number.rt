@@ -1,3 +1,6 @@
+ghost use Rattle.std.specs.Prelude.{◌≡◌};
+ghost use Rattle.instrument.specs.Placements as placements;
+
 /// The number of an instrument, among all that were admitted.
 #[derive(Clone, Copy, Debug, PartialEq, Eq, Drop)]
 pub struct InstrumentNo {
@@ -16,6 +19,15 @@ pub enum State {
     Leaving,
     /// Nothing of it is left.
     Gone,
+}
+
+impl State {
+    /// It was dropped.
+    pub fn is_leaving(self) -> bool
+        ensures { result ≡ placements.is_leaving self }
+    {
+        matches!(self, State::Leaving | State::Gone)
+    }
 }
 
 /// Why a plan isn't admitted.

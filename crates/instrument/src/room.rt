@@ -1,5 +1,6 @@
 ghost use Rattle.std.specs.Prelude.{◌≡◌, ◌<◌, ◌^◌, length};
 ghost use Rattle.instrument.specs.Books as books;
+ghost use Rattle.instrument.specs.Placements as placements;
 
 use tramp_spec::Block;
 
@@ -100,6 +101,13 @@ impl Room {
         ensures { result ≡ books.is_mini_of point self.now }
     {
         !self.base && self.point == point && self.hold.is_held()
+    }
+
+    /// It is that of a mini block of an instrument whose unlinking wasn't asked for.
+    pub fn is_site_of(&self, owner: u64) -> bool
+        ensures { result ≡ placements.is_site_of owner self.now }
+    {
+        !self.base && self.owner == owner && self.hold.is_held()
     }
 
     /// It stays where the point is freed.
