@@ -4,3 +4,4 @@ pub mod Ascending
 pub mod Sorting
 pub mod NamedProcs
 pub mod Kept
+pub mod LowObjects

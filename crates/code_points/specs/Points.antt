@@ -1,13 +1,12 @@
 -- The points of procedures.
 use Rattle.std.specs.Prelude.{ℕ, ◌+◌, ◌-◌, ◌*◌, ◌/◌, ◌==◌, ◌&&◌, ◌||◌, nat_lt, Bool, Option, option_and_then, List, [], ◌∷◌, ◌++◌, map}
 use Rattle.std.specs.List.{filter, range_with_len}
-use Rattle.pn_types.specs.Images.{text_of}
 use Rattle.pn_types.specs.declared.code.Point.{Point}
 use Rattle.pn_types.specs.declared.code.Proc.{Proc}
 use Rattle.pn_types.specs.declared.image.Image.{Image}
 use Rattle.rv_mem.specs.Start.{program_of}
 use Rattle.rv_word.specs.Names.{is_call_of, is_return_of}
-use Rattle.rv_word.specs.Plain.{Words, program_word, words_from}
+use Rattle.rv_word.specs.Plain.{Words, program_word}
 use Rattle.rv_word.specs.Table.{decode_of}
 use Rattle.rv_word.specs.declared.instr.Instr.{Instr}
 

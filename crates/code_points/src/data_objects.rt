@@ -1,8 +1,10 @@
 //! The objects of a program.
 
-ghost use Rattle.std.specs.Prelude.{◌≡◌, IfOk};
-ghost use Rattle.std.specs.List.{list_any};
+ghost use Rattle.std.specs.Prelude.{◌≡◌, ◌<◌, IfOk};
+ghost use Rattle.std.specs.List.{list_any, AllByRecursion};
 ghost use Rattle.code_points.specs.Objects.{end_of, holds_range, is_outside, is_data, objects_of};
+ghost use Rattle.pn_types.specs.Images.{IsImage};
+ghost use Rattle.pn_types.specs.declared.limits.TheConstants.{SEGMENTS_TO};
 
 use pn_types::{Image, NoMemory, Segment, SymKind, Symbol};
 use std::alloc::Global;
@@ -50,9 +52,10 @@ fn is_data(image: &Image, symbol: &Symbol) -> bool
 }
 
 /// The objects of a program, in the order of the image's symbols: the object symbols that lie in one segment and outside
-/// the text. One without a size is its one address.
+/// the text. One without a size is its one address. So each lies below where segments end.
 pub fn objects(alloc: Global, image: &Image) -> Result<Vec<Symbol>, NoMemory>
-    ensures { IfOk result (λ objects. objects.items ≡ objects_of image.now) }
+    ensures objects { IfOk result (λ objects. objects.items ≡ objects_of image.now) }
+    ensures low { IsImage image.now → IfOk result (λ objects. AllByRecursion (λ s. s.at < SEGMENTS_TO) objects.items) }
 {
     let mut objects = Vec::new(alloc);
     for symbol in image.symbols.as_slice() {

@@ -1,6 +1,7 @@
 //! What a store begins with.
 
-ghost use Rattle.std.specs.Prelude.{◌≡◌, IfOk, map, replicate};
+ghost use Rattle.std.specs.Prelude.{◌≡◌, ◌<◌, ◌^◌, IfOk, map, replicate};
+ghost use Rattle.std.specs.List.{AllByRecursion};
 ghost use Rattle.rv_word.specs.Names.{words_of};
 ghost use Rattle.tramp_spec.specs.Marks.{own, tool};
 ghost use Rattle.code_store.specs.declared.word_use.WordUse.TheVariants.{Unwritten};
@@ -25,6 +26,11 @@ pub fn words(alloc: Global, text: &[u8]) -> Result<Vec<u32>, NoMemory>
     }
     Ok(words)
 }
+
+/// What holds of any words: they have 32 bits.
+pub fn have_32_bits(words: &[u32])
+    ensures { AllByRecursion (λ word. word < 2 ^ 32) words.now }
+{}
 
 /// A slot for each word, as the program's own.
 pub fn own_slots(alloc: Global, words: &[u32]) -> Result<Vec<Slot>, NoMemory>

@@ -1,5 +1,6 @@
-ghost use Rattle.std.specs.Prelude.{◌≡◌, ◌+◌, ◌-◌, ◌*◌, ◌/◌, ◌<◌, ◌≤◌, ◌||◌, IfOk, IsTrue, length};
+ghost use Rattle.std.specs.Prelude.{◌≡◌, ◌+◌, ◌-◌, ◌*◌, ◌/◌, ◌<◌, ◌≤◌, ◌^◌, ◌||◌, IfOk, IsTrue, length};
 ghost use Rattle.std.specs.FinMap.{get, insert, remove};
+ghost use Rattle.std.specs.List.{AllByRecursion};
 ghost use Rattle.std.specs.Option.{option_copied};
 ghost use Rattle.pn_types.specs.Images.{IsImage};
 ghost use Rattle.rv_word.specs.Plain.{program_word};
@@ -7,7 +8,7 @@ ghost use Rattle.tramp_spec.specs.Codes.{fetched_at, is_text_word, is_tool_word,
 ghost use Rattle.code_store.specs.Owners.{owners_with, owners_without};
 ghost use Rattle.code_store.specs.Stores.{first_code, IsInToolText};
 
-use crate::building::{blank_slots, blank_uses, own_slots, words};
+use crate::building::{blank_slots, blank_uses, have_32_bits, own_slots, words};
 use crate::slot::Slot;
 use crate::span::{Span, place_of};
 use crate::word_use::WordUse;
@@ -45,10 +46,11 @@ impl Model for Store {
 }
 
 impl Store {
-    /// The words of an image, with a tool text in which nothing was put. It takes all the memory that the store ever has.
+    /// The words of an image, each of 32 bits, with a tool text in which nothing was put. It takes all the memory that the store ever has.
     pub fn new(alloc: Global, image: &Image) -> Result<Store, NoMemory>
         requires { IsImage image.now }
-        ensures { IfOk result (λ store. store ≡ first_code image.now) }
+        ensures first { IfOk result (λ store. store ≡ first_code image.now) }
+        ensures narrow { IfOk result (λ store. AllByRecursion (λ word. word < 2 ^ 32) store.program.words) }
     {
         Store::with_room(alloc, image, (TOOL_TEXT_LEN / 4) as usize)
     }
@@ -57,9 +59,11 @@ impl Store {
     fn with_room(alloc: Global, image: &Image, room: usize) -> Result<Store, NoMemory>
         requires image { IsImage image.now }
         requires room { 4 * room ≡ TOOL_TEXT_LEN }
-        ensures { IfOk result (λ store. store ≡ first_code image.now) }
+        ensures first { IfOk result (λ store. store ≡ first_code image.now) }
+        ensures narrow { IfOk result (λ store. AllByRecursion (λ word. word < 2 ^ 32) store.program.words) }
     {
         let words = words(alloc, image.text_bytes())?;
+        have_32_bits(&words);
         let text = Span {
             at: image.text_at,
             slots: own_slots(alloc, &words)?,

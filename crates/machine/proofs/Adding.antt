@@ -18,7 +18,7 @@ use Rattle.machine.specs.Cores.{In, Row, Live, Core, is_live, is_current}
 use Rattle.machine.specs.Events.{Apart, MayWrite, HasShape}
 use Rattle.machine.specs.Effects.{row_of, written}
 use Rattle.machine.proofs.Lists.{in_snoc, snoc_old, map_snoc, put_words_other, put_words_stand, stands_put, Stands}
-use Rattle.machine.proofs.Invariant.{Piece, the_row, IsBase, Linked, LiveOf, base_with, BaseShape, MiniShape, ShapedAs, Shaped, Placed, Leads, HasFamily, Door, Static, InBase, InMini, Dynamic, Inv}
+use Rattle.machine.proofs.Invariant.{Piece, the_row, IsBase, Linked, LiveOf, BaseShape, MiniShape, ShapedAs, Shaped, Placed, Leads, HasFamily, Door, Static, InBase, InMini, Dynamic, Inv}
 use Rattle.machine.proofs.Homes.{has_len, row_in}
 use Rattle.machine.proofs.Texts.{text_low}
 use Rattle.machine.proofs.Follow.{Image, Kept, All, Nowhere}

@@ -15,7 +15,7 @@ use Rattle.machine.specs.Openings.{opening_now}
 use Rattle.machine.proofs.Lists.{length_slice_set}
 use Rattle.machine.proofs.Invariant.{Piece, Outside, InBase, InMini, Dynamic, Inv}
 
-length_place : (timer : Bool) (s v ticks : ℕ) (bank : List ℕ) → length (set_place timer s v ticks bank) ≡ length bank
+pub length_place : (timer : Bool) (s v ticks : ℕ) (bank : List ℕ) → length (set_place timer s v ticks bank) ≡ length bank
 length_place false s v ticks bank = length_slice_set bank s v
 length_place true s v ticks bank = length_slice_set (slice_set bank (s + 1) v) s (if v == 0 then 0 else (2 ^ 64 - ticks) % 2 ^ 64) ∙ length_slice_set bank (s + 1) v
 
@@ -24,12 +24,12 @@ length_places [] values ticks bank = refl
 length_places (p ∷ ps) [] ticks bank = refl
 length_places (p ∷ ps) (v ∷ values) ticks bank = length_places ps values ticks (set_place p.timer p.slot v ticks bank) ∙ length_place p.timer p.slot v ticks bank
 
-get_map : {A B : Type 0} (f : A → B) (xs : List A) (h : ℕ) (y : B) → slice_get (map f xs) h ≡ Some y → (x : A) × (slice_get xs h ≡ Some x) × (y ≡ f x)
+pub get_map : {A B : Type 0} (f : A → B) (xs : List A) (h : ℕ) (y : B) → slice_get (map f xs) h ≡ Some y → (x : A) × (slice_get xs h ≡ Some x) × (y ≡ f x)
 get_map f [] h y e = absurd cc
 get_map f (x ∷ xs) zero y e = let i : f x ≡ y = cc in (x, refl, sym i)
 get_map f (x ∷ xs) (suc h) y e = get_map f xs h y e
 
-arms_hart : (t : Words) (budget : ℕ) (ps : List Piece) (bank : List ℕ) (x : Hart) (y : PlainHart) → x.inside ≡ false → length bank ≡ bank_len → Dynamic t budget ps x y → Dynamic t budget ps (record x { bank = bank }) y
+pub arms_hart : (t : Words) (budget : ℕ) (ps : List Piece) (bank : List ℕ) (x : Hart) (y : PlainHart) → x.inside ≡ false → length bank ≡ bank_len → Dynamic t budget ps x y → Dynamic t budget ps (record x { bank = bank }) y
 arms_hart t budget ps bank x y quiet len d =
     record {
       ticks = d.ticks;
@@ -42,7 +42,7 @@ arms_hart t budget ps bank x y quiet len d =
           (λ (r : InBase t budget ps x y ⊎ InMini budget ps x y). absurd (⊎_elim (λ (k : InBase t budget ps x y). true≢false (sym k.inside ∙ quiet)) (λ (k : InMini budget ps x y). true≢false (sym k.inside ∙ quiet)) r)) (d.hart e);
     }
 
-pub arms : (c : Core) (s : Plain) (i : Placed) → IsQuiet c → Inv c s → Inv (record c { harts = map (armed c i) c.harts }) s
+unfoldable pub arms : (c : Core) (s : Plain) (i : Placed) → IsQuiet c → Inv c s → Inv (record c { harts = map (armed c i) c.harts }) s
 arms c s i quiet v =
     record {
       ground = v.ground;

@@ -76,7 +76,7 @@ ground image p =
 length_start : (h n : ℕ) → length (start_regs h n) ≡ 32
 length_start h n = length_with _ 2 (stack_at h + stack_len) ∙ (length_with _ 13 heap_len ∙ (length_with _ 12 heap_at ∙ (length_with _ 11 n ∙ length_with (replicate 32 0) 10 h)))
 
-starts : (m h n i : ℕ) (image : Image) (y : PlainHart) → slice_get (harts_from m h image n) i ≡ Some y → (k : ℕ) × (y ≡ start_hart image n k)
+pub starts : (m h n i : ℕ) (image : Image) (y : PlainHart) → slice_get (harts_from m h image n) i ≡ Some y → (k : ℕ) × (y ≡ start_hart image n k)
 starts zero h n i image y e = absurd cc
 starts (suc m) h n zero image y e = (h, let s : start_hart image n h ≡ y = cc in sym s)
 starts (suc m) h n (suc i) image y e = starts m (h + 1) n i image y e

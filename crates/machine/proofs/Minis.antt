@@ -20,7 +20,7 @@ use Rattle.machine.proofs.Points.{at_hit, at_miss, Current, current_piece, famil
 use Rattle.machine.proofs.Follow.{Kept, All, NoPiece, Nowhere, reworked}
 use Rattle.machine.proofs.Blocks.{shaped_other, shaped_next, link_in, static_kept, leads_kept, rework, door_of}
 
-link_is : (code : Code) (row : Row) (a n w : ℕ) → link_at row ≡ a → Hops a n w → get code a ≡ Some (tool w) → next_of code row ≡ n
+pub link_is : (code : Code) (row : Row) (a n w : ℕ) → link_at row ≡ a → Hops a n w → get code a ≡ Some (tool w) → next_of code row ≡ n
 link_is code row a n w e h s =
     ap (λ z. target_at (get code z) z) e ∙ (ap (λ o. target_at o a) s ∙ jump_to_next)
   where

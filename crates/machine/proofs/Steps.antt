@@ -109,7 +109,7 @@ turn_by_tick c s h x y true z v bound ex ey o =
 turn_by_tick c s h x y false z v bound ex ey o =
     (tt, puts c s s h x y z v ex ey (λ j n. refl) refl (o.0).0 (o.1 ∙ v.prog))
 
-not_stopped : (x : Hart) (budget : ℕ) → IsTrue (may_turn (Some x) budget) → (x.stop ≡ None) × ((x.inside ≡ true) ⊎ (x.ticks < budget))
+pub not_stopped : (x : Hart) (budget : ℕ) → IsTrue (may_turn (Some x) budget) → (x.stop ≡ None) × ((x.inside ≡ true) ⊎ (x.ticks < budget))
 not_stopped x budget m =
     let p = and_parts (is_none x.stop) (x.inside || nat_lt x.ticks budget) m in
     (none_of x.stop p.0, ⊎_elim (λ e. inl e) (λ e. inr (ltb-true x.ticks budget (grind (arith, common_steps, e, p.1)))) (cases_Bool x.inside))

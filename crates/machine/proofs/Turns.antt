@@ -1,48 +1,39 @@
 -- A turn of a hart keeps what is kept of it.
-use Rattle.std.proofs.Common.{◌≡◌, ℕ, zero, suc, ◌+◌, ◌-◌, ◌*◌, ◌%◌, ◌^◌, ◌<◌, ◌≤◌, List, [], ◌∷◌, ◌++◌, length, Option, Some, None, Ok, refl, sym, ap, ◌∙◌, subst, arith, ⊎_elim, inl, inr}
-use Rattle.std.specs.Prelude.{Bool, true, false, not, is_none, IsTrue, slice_get, ◌⊎◌, ◌&&◌, nat_lt, unwrap_or}
+use Rattle.std.proofs.Common.{◌≡◌, ℕ, zero, suc, ◌+◌, ◌-◌, ◌*◌, ◌<◌, List, length, Option, Some, None, refl, sym, ap, ◌∙◌, subst, arith, ⊎_elim, inl, inr}
+use Rattle.std.specs.Prelude.{Bool, true, false, not, is_none, IsTrue, ◌⊎◌, ◌&&◌}
 use Rattle.std.specs.FinMap.{get}
-use Rattle.std.proofs.lemmas.Bool.{true≢false, cases_lt, cases_eq, cond-true, cond-false, and_from, lt-ltb, le-leb, eq-eqb}
+use Rattle.std.proofs.lemmas.Bool.{true≢false, cases_lt, cond-false, and_from, lt-ltb}
 use Rattle.std.proofs.lemmas.Grind.{common_steps}
-use Rattle.std.proofs.lemmas.Option.{slice_get_within}
-use Rattle.pn_types.specs.declared.limits.TheConstants.{TOOL_TEXT_LEN}
-use Rattle.rv_word.specs.Names.{has_scratch, jump_of}
+use Rattle.rv_word.specs.Names.{has_scratch}
 use Rattle.rv_word.specs.Registers.{reg, with_reg}
-use Rattle.rv_word.specs.Table.{decode_of}
-use Rattle.rv_word.specs.Words.{word_of}
 use Rattle.rv_word.specs.Exec.{Prog, Outcome, Stops, Goes, done, exec_of, next}
 use Rattle.rv_word.specs.Plain.{Words, PlainHart, Alone, program_word, may_go, after_done, hart_after}
 use Rattle.rv_word.specs.Plain as plain
 use Rattle.rv_word.specs.declared.outcome.Cause.{Cause}
 use Rattle.rv_word.specs.declared.outcome.Next.TheVariants.{Go}
 use Rattle.rv_word.specs.declared.outcome.Cause.TheVariants.{FetchOutside}
-use Rattle.rv_word.specs.declared.instr.Instr.TheVariants.{Load, Store}
-use Rattle.rv_word.specs.declared.instr.LoadOp.TheVariants.{Ld}
-use Rattle.rv_word.specs.declared.instr.StoreOp.TheVariants.{Sd}
-use Rattle.tramp_spec.specs.Codes.{Code, tool_at, is_text_word, is_tool_word}
+use Rattle.tramp_spec.specs.Codes.{Code, is_text_word}
 use Rattle.tramp_spec.specs.Banks.{bank_len, saved_x5, set_bank}
 use Rattle.tramp_spec.specs.Blocks.{tail_of, moved_at}
-use Rattle.tramp_spec.specs.Bodies.{Safe, Harmless, Leap}
-use Rattle.tramp_spec.specs.Harts.{own_hart, Hart, Solo, bench_of, stopped, ticked, own_step, other_hart, step_of, is_tick}
-use Rattle.tramp_spec.specs.Marks.{own, enter, tool, leave, is_jump}
+use Rattle.tramp_spec.specs.Bodies.{Safe, Leap}
+use Rattle.tramp_spec.specs.Harts.{own_hart, Hart, Solo, bench_of, stopped, ticked, own_step, step_of, is_tick}
+use Rattle.tramp_spec.specs.Marks.{own, enter, tool, is_jump}
 use Rattle.tramp_spec.specs.MovedWords.{own_place}
-use Rattle.tramp_spec.specs.Moves.{Agree, Alike, LeadsHome, SameStep, bench}
-use Rattle.tramp_spec.specs.Steps.{Bench, stand, step_on, with_value, with_doubleword}
-use Rattle.tramp_spec.specs.declared.mark.Mark.TheVariants.{Enter, Tool, Leave}
+use Rattle.tramp_spec.specs.Moves.{Agree, Alike, LeadsHome, SameStep}
+use Rattle.tramp_spec.specs.Steps.{Bench}
 use Rattle.tramp_spec.specs.declared.mark.MarkedWord.{MarkedWord}
-use Rattle.tramp_spec.proofs.Moving.{words_move}
 use Rattle.tramp_spec.proofs.Frame.{Same, execs}
-use Rattle.tramp_spec.proofs.Hops.{Hops, hop_steps, save_steps, restore_steps, saved_back, length_set_bank}
-use Rattle.tramp_spec.proofs.Registers.{length_with, read_back, read_but}
+use Rattle.tramp_spec.proofs.Hops.{Hops, length_set_bank}
+use Rattle.tramp_spec.proofs.Registers.{length_with}
 use Rattle.machine.specs.Cores.{In, Row, Written, Live, is_live, is_current}
 use Rattle.machine.specs.Places.{home_of, program_pc}
 use Rattle.machine.specs.Turns.{fetched}
-use Rattle.machine.proofs.Lists.{stands_at, get_append, get_before, same_some}
-use Rattle.machine.proofs.Invariant.{Ground, Piece, IsBase, Linked, base_with, BaseShape, MiniShape, Leads, HasFamily, Door, Static, Saved, Outside, AtSave, AtSaved, MovedWord, AtMoved, AtLeave, BasePlace, InMini, HartOk, Dynamic}
-use Rattle.machine.proofs.Texts.{in_text, text_low, text_cases}
+use Rattle.machine.proofs.Invariant.{Ground, Piece, IsBase, Linked, MiniShape, Leads, Door, Static, Saved, Outside, AtSave, AtSaved, MovedWord, AtMoved, AtLeave, BasePlace, InMini, HartOk, Dynamic}
+use Rattle.machine.proofs.Texts.{in_text, text_cases}
 use Rattle.machine.proofs.Lefts.{ahead, left_at, left, Below, Soon, ahead_of}
-use Rattle.machine.proofs.Homes as homes
-use Rattle.machine.proofs.Homes.{one_block, home_word, same_moved, base_len}
+use Rattle.machine.proofs.Homes.{base_shape, mini_shape, base_len}
+use Rattle.machine.proofs.Fetching.{fetch_text, fetch_none}
+use Rattle.machine.proofs.Nexts.{Brings, entering, to_tail, to_mini, in_first, family_is, saving, heading, restoring, moving, exit, ticking, leaving, ending, leaping, leapt}
 
 -- ---- what a turn owes
 
@@ -56,9 +47,6 @@ OwesBy false t budget ps clock bound h z y p = Soon t budget ps clock bound z.ha
 is_none_of : (o : Option Cause) → o ≡ None → is_none o ≡ true
 is_none_of None e = refl
 is_none_of (Some c) e = absurd cc
-
-pub wrap_next : (pc : ℕ) → pc + 4 < 2 ^ 64 → next pc ≡ pc + 4
-wrap_next pc l = omega arith
 
 module _ (t : Words) (g : Ground t) (budget : ℕ) (code : Code) (rows : List Row) (ps : List Piece) (clock : ℕ) (st : Static t code rows ps clock) (h : ℕ) (x : Hart) (y : PlainHart) (p : Prog) (d : Dynamic t budget ps x y) (on : x.stop ≡ None) where
   abbrev Owes : Option ℕ → Option MarkedWord → Type 0
@@ -132,19 +120,16 @@ module _ (t : Words) (g : Ground t) (budget : ℕ) (code : Code) (rows : List Ro
 
   -- ---- words that are no ticks
 
-  tool_to : (bound : Option ℕ) (w to : ℕ) (b : Bench) → step_on bank_len w x.ticks x.pc (bench_of x) ≡ Ok (stand to b) → Soon t budget ps clock bound (record x { pc = to; regs = b.regs; bank = b.bank }) y → Owes bound (Some (tool w))
-  tool_to bound w to b e k = (subst (λ r. Soon t budget ps clock bound (other_hart r Tool w (program_pc code rows x) x) y) (sym e) k, refl)
+  brought : (bound : Option ℕ) (z : Hart) → Brings t g budget code rows ps clock st h x y p d on z → Soon t budget ps clock bound z y → Owes bound (fetched t code x)
+  brought bound z b k =
+      owes bound b.0 b.1
+      (subst (λ c. OwesBy c t budget ps clock bound h (step_of b.0 h (program_pc code rows x) (record { hart = x; prog = p })) y p) (sym b.2)
+      (subst (λ (s : Solo). OwesBy false t budget ps clock bound h s y p) (sym b.3) (k, refl)))
 
-  leave_to : (bound : Option ℕ) (w to : ℕ) (b : Bench) → step_on 0 w x.ticks x.pc (bench_of x) ≡ Ok (stand to b) → Soon t budget ps clock bound (record x { pc = to; regs = b.regs; bank = b.bank; inside = false }) y → Owes bound (Some (leave w))
-  leave_to bound w to b e k = (subst (λ r. Soon t budget ps clock bound (other_hart r Leave w (program_pc code rows x) x) y) (sym e) k, refl)
-
-  enter_to : (bound : Option ℕ) (w to : ℕ) (b : Bench) → step_on 0 w x.ticks x.pc (bench_of x) ≡ Ok (stand to b) → Soon t budget ps clock bound (record x { pc = to; regs = b.regs; bank = b.bank; inside = true }) y → Owes bound (Some (enter w))
-  enter_to bound w to b e k = (subst (λ r. Soon t budget ps clock bound (other_hart r Enter w (program_pc code rows x) x) y) (sym e) k, refl)
-
-  enters : (b : Piece) → In b ps → IsBase b → b.row.point ≡ x.pc → b.row.status ≡ Live → (door : Door code b) → Outside x y → x.ticks < budget → Owes None (Some (enter door.jump))
-  enters b hb bs e live door o l =
-      let hop : Hops x.pc b.row.at door.jump = subst (λ a. Hops a b.row.at door.jump) e door.hops in
-      enter_to None door.jump b.row.at (bench_of x) (hop_steps 0 door.jump x.ticks x.pc b.row.at (bench_of x) hop (st.places b hb).aligned) (
+  enters : (b : Piece) → In b ps → IsBase b → b.row.point ≡ x.pc → b.row.status ≡ Live → (door : Door code b) → Outside x y → x.ticks < budget → fetched t code x ≡ Some (enter door.jump) → Owes None (fetched t code x)
+  enters b hb bs e live door o l f =
+      let k = entering t g budget code rows ps clock st h x y p d on b hb e door o l f in
+      brought None (record x { pc = b.row.at; inside = true }) k.0 (
         record {
           ticks = d.ticks;
           stop = d.stop;
@@ -152,148 +137,32 @@ module _ (t : Words) (g : Ground t) (budget : ℕ) (code : Code) (rows : List Ro
           second = d.second;
           bank = d.bank;
           down = λ k z. absurd cc;
-          hart = λ z. inr (inl (record {
-            b = b;
-            is_in = hb;
-            base = bs;
-            was = λ w. absurd cc;
-            inside = refl;
-            place = inl (record { pc = refl; home = sym o.pc ∙ sym e; before = l; agree = o.agree });
-          }));
+          hart = λ z. inr (inl (record { b = b; is_in = hb; base = bs; was = λ w. absurd cc; inside = refl; place = inl k.1 }));
         },
         λ z. tt,
       )
 
   -- ---- inside
 
-  -- what is inside is fetched where it stands
-  fetch_inside : (w : MarkedWord) → x.inside ≡ true → tool_at t ≤ x.pc → x.pc + 4 ≤ tool_at t + TOOL_TEXT_LEN → x.pc % 4 ≡ 0 → get code x.pc ≡ Some w → fetched t code x ≡ Some w
-  fetch_inside w i lo hi al e =
-      let a : (x.pc - tool_at t) % 4 ≡ 0 = omega arith in
-      let n : x.pc - tool_at t < TOOL_TEXT_LEN = omega arith in
-      let k : is_tool_word t x.pc ≡ true = and_from _ _ (and_from _ _ (le-leb _ _ lo) (lt-ltb _ _ n)) (eq-eqb _ _ a) in
-      cond-true x.inside _ _ i ∙ (cond-true (is_tool_word t x.pc) _ _ k ∙ ap (λ o. Some (unwrap_or o (tool 0))) e)
-
-  -- so is a word of a block
-  fetch_block : (b : Piece) (i : ℕ) (ws : List MarkedWord) (w : MarkedWord) → In b ps → x.inside ≡ true → x.pc ≡ b.row.at + 4 * i → i < b.row.len → get code (b.row.at + 4 * i) ≡ Some w → fetched t code x ≡ Some w
-  fetch_block b i ws w hb n e l k =
-      let pl = st.places b hb in
-      let lo = pl.low in
-      let hi = pl.high in
-      let al = pl.aligned in
-      fetch_inside w n (omega arith) (omega arith) (omega arith) (ap (get code) e ∙ k)
-
-  base_shape : (b : Piece) → In b ps → IsBase b → BaseShape t code b.row b.next
-  base_shape = homes.base_shape t code rows ps clock st
-
-  mini_shape : (m : Piece) → In m ps → Linked m → MiniShape code m.row m.body m.next
-  mini_shape = homes.mini_shape t code rows ps clock st
-
-  harmless_of : (m : Piece) → In m ps → Linked m → Harmless m.body
-  harmless_of m hm k = (mini_shape m hm k).harmless
-
-  tool_high : tool_at t + TOOL_TEXT_LEN < 2 ^ 32
-  tool_high = let e = g.high in omega arith
-
-  body_fits : (m : Piece) → In m ps → Linked m → m.row.at + 4 * length m.body < 2 ^ 64
-  body_fits m hm k = let s = mini_shape m hm k in let l = s.len in let hi = (st.places m hm).high in let top = tool_high in omega arith
-
   -- on to what a jump leads to
-  hop_on : (most : ℕ) (b : Piece) (fam n q : ℕ) (live : Bool) (w : ℕ) → In b ps → IsBase b → (b.row.status ≡ Written → ⊥) → b.row.at ≡ fam → x.inside ≡ true → y.pc ≡ b.row.point → x.ticks < budget → Saved x y → Hops x.pc q w → Leads ps fam n q live
-      → b.row.len - 2 + ahead ps fam n < most → Owes (Some most) (Some (tool w))
-  hop_on most b fam n q live w hb bs was at i e l sv hop le room = ⊎_elim to_tail to_mini le.to
+  hop_on : (most : ℕ) (b : Piece) (fam n q : ℕ) (live : Bool) (w : ℕ) → In b ps → IsBase b → (b.row.status ≡ Written → ⊥) → b.row.at ≡ fam → x.inside ≡ true → y.pc ≡ b.row.point → x.ticks < budget → Saved x y → Hops x.pc q w → fetched t code x ≡ Some (tool w) → Leads ps fam n q live
+      → b.row.len - 2 + ahead ps fam n < most → Owes (Some most) (fetched t code x)
+  hop_on most b fam n q live w hb bs was at i e l sv hop f le room = ⊎_elim tail mini le.to
     where
-      base : (k : HartOk t budget ps (record x { pc = q }) y) → Below ps clock (Some most) k → Soon t budget ps clock (Some most) (record x { pc = q; regs = x.regs; bank = x.bank }) y
-      base k u = (record { ticks = d.ticks; stop = d.stop; first = d.first; second = d.second; bank = d.bank; down = λ k z. absurd cc; hart = λ z. k }, λ z. u)
+      base : Brings t g budget code rows ps clock st h x y p d on (record x { pc = q }) → (k : HartOk t budget ps (record x { pc = q }) y) → Below ps clock (Some most) k → Owes (Some most) (fetched t code x)
+      base br k u = brought (Some most) (record x { pc = q }) br (record { ticks = d.ticks; stop = d.stop; first = d.first; second = d.second; bank = d.bank; down = λ k z. absurd cc; hart = λ z. k }, λ z. u)
 
-      to_tail : (le.lo ≡ 0) × (q ≡ tail_of fam) → Owes (Some most) (Some (tool w))
-      to_tail r =
-          let al = (st.places b hb).aligned in
-          let e1 = r.1 in
-          let a : q % 4 ≡ 0 = omega arith in
-          tool_to (Some most) w q (bench_of x) (hop_steps bank_len w x.ticks x.pc q (bench_of x) hop a)
-          (base (inr (inl (record {
-            b = b;
-            is_in = hb;
-            base = bs;
-            was = was;
-            inside = i;
-            place = inr (inr (inl (record { pc = r.1 ∙ ap tail_of (sym at); home = e; before = l; saved = record { agree = sv.agree; saved = sv.saved } })));
-          }))) (omega arith))
+      tail : (le.lo ≡ 0) × (q ≡ tail_of fam) → Owes (Some most) (fetched t code x)
+      tail r =
+          let k = to_tail t g budget code rows ps clock st h x y p d on b q w hb e l sv hop f (r.1 ∙ ap tail_of (sym at)) in
+          base k.0 (inr (inl (record { b = b; is_in = hb; base = bs; was = was; inside = i; place = inr (inr (inl k.1)) }))) (omega arith)
 
-      to_mini : (m : Piece) × In m ps × Linked m × (m.family ≡ fam) × (m.age ≡ le.lo) × (m.row.at ≡ q) × (live ≡ true → m.row.status ≡ Live) → Owes (Some most) (Some (tool w))
-      to_mini r =
-          let fm = st.families r.0 r.1 r.2 in
-          let same : fm.0 ≡ b = one_block t code rows ps clock st fm.0 b (fm.1).is_in hb ((fm.1).at ∙ (r.3 ∙ sym at)) in
-          let fm' : HasFamily ps r.0 b = subst (λ z. HasFamily ps r.0 z) same fm.1 in
-          let al = (st.places r.0 r.1).aligned in
-          let e5 = r.5 in
-          let a : q % 4 ≡ 0 = omega arith in
-          let z : q ≡ (r.0).row.at + 4 * 0 = omega arith in
-          tool_to (Some most) w q (bench_of x) (hop_steps bank_len w x.ticks x.pc q (bench_of x) hop a)
-          (base (inr (inr (record {
-            m = r.0;
-            b = b;
-            is_in = r.1;
-            linked = r.2;
-            family = fm';
-            was = was;
-            inside = i;
-            home = e ∙ fm'.point;
-            before = l;
-            saved = record { agree = sv.agree; saved = sv.saved };
-            i = 0;
-            f = length (r.0).body;
-            pc = z;
-            safe = harmless_of r.0 r.1 r.2 (r.0).row.at x.ticks (bench_of x) (record { aligned = al; fits = body_fits r.0 r.1 r.2; file = d.first; bank = d.bank });
-          }))) (let g = ahead_of ps fam n r.0 r.1 r.2 r.3 (let e4 = r.4 in let lo = le.below in omega arith) in let fe : (r.0).family ≡ fam = r.3 in let here = ap (λ f. ahead ps f (r.0).age) fe in omega arith))
+      mini : (m : Piece) × In m ps × Linked m × (m.family ≡ fam) × (m.age ≡ le.lo) × (m.row.at ≡ q) × (live ≡ true → m.row.status ≡ Live) → Owes (Some most) (fetched t code x)
+      mini r =
+          base (to_mini t g budget code rows ps clock st h x y p d on r.0 q w r.1 hop f r.5) (inr (inr (in_first t g budget code rows ps clock st h x y p d on b r.0 q was i e l sv r.1 r.2 (family_is t g budget code rows ps clock st h x y p d on b r.0 fam hb at r.1 r.2 r.3) r.5)))
+          (let g = ahead_of ps fam n r.0 r.1 r.2 r.3 (let e4 = r.4 in let lo = le.below in omega arith) in let fe : (r.0).family ≡ fam = r.3 in let here = ap (λ f. ahead ps f (r.0).age) fe in omega arith)
 
   -- ---- in a base block
-
-  -- the word of a base block is that of its point
-  moved_word : (b : Piece) → In b ps → IsBase b → MovedWord t b
-  moved_word b hb bs =
-      let s = base_shape b hb bs in
-      let q = in_text t b.row.point s.word s.here in
-      let at = q.at in
-      let low = q.low in
-      let under = text_low t b.row.point s.word s.here in
-      let pl = st.places b hb in
-      let lo = pl.low in
-      let hi = pl.high in
-      let al = pl.aligned in
-      let len = s.len in
-      let ga = g.aligned in
-      let gh = g.high in
-      let gs = g.short in
-      record {
-        word = s.word;
-        here = s.here;
-        moved = s.moved;
-        movable = s.movable;
-        moves = words_move s.word b.row.point (moved_at b.row.at) s.moved (g.plain q.i s.word q.is) (g.narrow q.i s.word q.is) (omega arith) (omega arith) (omega arith) (omega arith) (omega arith) s.movable;
-      }
-
-  -- the moved word of number j is fetched
-  fetch_moved : (b : Piece) (hb : In b ps) (bs : IsBase b) (m : MovedWord t b) (j : ℕ) (w : MarkedWord) → x.inside ≡ true → x.pc ≡ moved_at b.row.at + 4 * j → slice_get m.moved j ≡ Some w
-      → (fetched t code x ≡ Some w) × (get code x.pc ≡ Some w) × (x.pc < b.row.at + 4 * b.row.len)
-  fetch_moved b hb bs m j w i e k =
-      let s = base_shape b hb bs in
-      let k' : slice_get s.moved j ≡ Some w = subst (λ ws. slice_get ws j ≡ Some w) (same_moved t code b m s) k in
-      let l = slice_get_within s.moved j w k' in
-      let len = s.len in
-      let a : x.pc ≡ b.row.at + 4 * suc (suc (suc j)) = omega arith in
-      let st' = stands_at code b.row.at (base_with s.jump s.moved) (suc (suc (suc j))) w s.stands k' in
-      (fetch_block b (suc (suc (suc j))) (base_with s.jump s.moved) w hb i a (omega arith) st', ap (get code) a ∙ st', omega arith)
-
-  fetch_base : (b : Piece) (hb : In b ps) (bs : IsBase b) (n : ℕ) (w : MarkedWord) → x.inside ≡ true → x.pc ≡ b.row.at + 4 * n → n < 3 → slice_get (base_with (base_shape b hb bs).jump (base_shape b hb bs).moved) n ≡ Some w → fetched t code x ≡ Some w
-  fetch_base b hb bs n w i e l k =
-      let s = base_shape b hb bs in
-      let len = s.len in
-      fetch_block b n (base_with s.jump s.moved) w hb i e (omega arith) (stands_at code b.row.at (base_with s.jump s.moved) n w s.stands k)
-
-  pc_low : (b : Piece) (n : ℕ) → In b ps → x.pc ≡ b.row.at + 4 * n → n < b.row.len → x.pc + 4 < 2 ^ 64
-  pc_low b n hb e l = let hi = (st.places b hb).high in let top = tool_high in omega arith
 
   in_base : (b : Piece) → In b ps → IsBase b → (b.row.status ≡ Written → ⊥) → (z : Hart) → z.stop ≡ None → z.ticks ≡ x.ticks → length z.regs ≡ 32 → length z.bank ≡ bank_len → z.inside ≡ true → (k : BasePlace t budget b z y) → (most : ℕ) → left_at ps clock b k < most → Soon t budget ps clock (Some most) z y
   in_base b hb bs was z on' et lr lb i k most u = (
@@ -311,72 +180,32 @@ module _ (t : Words) (g : Ground t) (budget : ℕ) (code : Code) (rows : List Ro
 
   at_save : (b : Piece) → In b ps → IsBase b → (b.row.status ≡ Written → ⊥) → x.inside ≡ true → AtSave budget b x y → Owes (Some (b.row.len + ahead ps b.row.at clock)) (fetched t code x)
   at_save b hb bs was i k =
-      let s = base_shape b hb bs in
-      let len = s.len in
-      let pc : x.pc ≡ b.row.at + 4 * 0 = (let e = k.pc in omega arith) in
-      let low = pc_low b 0 hb pc (omega arith) in
-      let nx : next x.pc ≡ b.row.at + 4 = (let e = k.pc in omega arith) in
-      owes (Some (b.row.len + ahead ps b.row.at clock)) (Some (tool (word_of (Store Sd 0 5 8)))) (fetch_base b hb bs 0 (tool (word_of (Store Sd 0 5 8))) i pc (omega arith) refl)
-      (tool_to (Some (b.row.len + ahead ps b.row.at clock)) (word_of (Store Sd 0 5 8)) (next x.pc) (with_doubleword (bench_of x) 1 (reg x.regs 5)) (save_steps x.ticks x.pc (bench_of x))
+      let q = saving t g budget code rows ps clock st h x y p d on b hb bs i k in
+      let len = (base_shape t code rows ps clock st b hb bs).len in
+      brought (Some (b.row.len + ahead ps b.row.at clock)) (record x { pc = next x.pc; bank = set_bank x.bank 1 (reg x.regs 5) }) q.0
       (in_base b hb bs was (record x { pc = next x.pc; bank = set_bank x.bank 1 (reg x.regs 5) }) on refl d.first (length_set_bank x.bank 1 (reg x.regs 5) ∙ d.bank) i
-      (inr (inl (record { pc = nx; home = k.home; before = k.before; saved = record { agree = λ r l n. k.agree r l; saved = saved_back x.bank (reg x.regs 5) d.bank ∙ k.agree 5 (omega arith) } }))) (b.row.len + ahead ps b.row.at clock) (omega arith)))
+      (inr (inl q.1)) (b.row.len + ahead ps b.row.at clock) (omega arith))
 
   at_head : (b : Piece) → In b ps → IsBase b → (b.row.status ≡ Written → ⊥) → x.inside ≡ true → AtSaved budget b (b.row.at + 4) x y → Owes (Some (b.row.len - 1 + ahead ps b.row.at clock)) (fetched t code x)
   at_head b hb bs was i k =
-      let s = base_shape b hb bs in
-      let pc : x.pc ≡ b.row.at + 4 * 1 = (let e = k.pc in omega arith) in
-      let len = s.len in
-      owes (Some (b.row.len - 1 + ahead ps b.row.at clock)) (Some (tool s.jump)) (fetch_base b hb bs 1 (tool s.jump) i pc (omega arith) refl)
-      (hop_on (b.row.len - 1 + ahead ps b.row.at clock) b b.row.at clock b.next (is_current b.row.status) s.jump hb bs was refl i k.home k.before k.saved (subst (λ a. Hops a b.next s.jump) (sym k.pc) s.hops) (st.heads b hb bs) (omega arith))
+      let len = (base_shape t code rows ps clock st b hb bs).len in
+      let q = heading t g budget code rows ps clock st h x y p d on b hb bs i k.pc in
+      hop_on (b.row.len - 1 + ahead ps b.row.at clock) b b.row.at clock b.next (is_current b.row.status) q.0 hb bs was refl i k.home k.before k.saved q.2 q.1 (st.heads b hb bs) (omega arith)
 
   at_tail : (b : Piece) → In b ps → IsBase b → (b.row.status ≡ Written → ⊥) → x.inside ≡ true → AtSaved budget b (tail_of b.row.at) x y → Owes (Some (b.row.len - 2)) (fetched t code x)
   at_tail b hb bs was i k =
-      let s = base_shape b hb bs in
-      let len = s.len in
-      let pc : x.pc ≡ b.row.at + 4 * 2 = (let e = k.pc in omega arith) in
-      let low = pc_low b 2 hb pc (omega arith) in
-      let v = saved_x5 x.bank in
-      let m = moved_word b hb bs in
-      let nx : next x.pc ≡ moved_at b.row.at + 4 * 0 = (let e = k.pc in omega arith) in
-      let size : length (with_reg x.regs 5 v) ≡ 32 = length_with x.regs 5 v ∙ d.first in
-      let room : nat_lt 5 (length x.regs) ≡ true = ap (nat_lt 5) d.first in
-      let sv = k.saved in
-      let agree : Agree (with_reg x.regs 5 v) y.regs = λ r l. ⊎_elim
-      (λ (e : r ≡ 5). ap (reg (with_reg x.regs 5 v)) e ∙ (read_back x.regs 5 v refl room ∙ (sv.saved ∙ ap (reg y.regs) (sym e))))
-      (λ (e : r ≡ 5 → ⊥). read_but x.regs 5 r v e ∙ sv.agree r l e) (cases_eq r 5) in
-      owes (Some (b.row.len - 2)) (Some (tool (word_of (Load Ld 5 0 8)))) (fetch_base b hb bs 2 (tool (word_of (Load Ld 5 0 8))) i pc (omega arith) refl)
-      (tool_to (Some (b.row.len - 2)) (word_of (Load Ld 5 0 8)) (next x.pc) (with_value (bench_of x) 5 v) (restore_steps x.ticks x.pc (bench_of x))
-      (in_base b hb bs was (record x { pc = next x.pc; regs = with_reg x.regs 5 v }) on refl size d.bank i
-      (inr (inr (inr (inl (record {
-        m = m;
-        j = 0;
-        low = omega arith;
-        pc = nx;
-        home = k.home;
-        before = k.before;
-        regs = with_reg x.regs 5 v;
-        size = size;
-        agree = agree;
-        is = sym ((m.moves).start (with_reg x.regs 5 v));
-      }))))) (b.row.len - 2) (omega arith)))
+      let q = restoring t g budget code rows ps clock st h x y p d on b hb bs i k in
+      let len = (base_shape t code rows ps clock st b hb bs).len in
+      brought (Some (b.row.len - 2)) (record x { pc = next x.pc; regs = with_reg x.regs 5 (saved_x5 x.bank) }) q.0
+      (in_base b hb bs was (record x { pc = next x.pc; regs = with_reg x.regs 5 (saved_x5 x.bank) }) on refl (length_with x.regs 5 (saved_x5 x.bank) ∙ d.first) d.bank i
+      (inr (inr (inr (inl q.1)))) (b.row.len - 2) (omega arith))
 
-  -- a moved word before the tick
   at_silent : (b : Piece) → In b ps → IsBase b → (b.row.status ≡ Written → ⊥) → x.inside ≡ true → (k : AtMoved t budget b x y) → k.j < own_place (k.m).word → Owes (Some (b.row.len - 3 - k.j)) (fetched t code x)
   at_silent b hb bs was i k l =
-      let m = k.m in
-      let to = moved_at b.row.at in
-      let s = (m.moves).silent k.j l in
-      let step : step_on bank_len s.0 x.ticks x.pc (bench_of x) ≡ Ok (stand (to + 4 * (k.j + 1)) (bench ((m.moves).before (k.j + 1) k.regs) x.bank)) =
-      subst (λ pc. step_on bank_len s.0 x.ticks pc (bench_of x) ≡ Ok (stand (to + 4 * (k.j + 1)) (bench ((m.moves).before (k.j + 1) k.regs) x.bank))) (sym k.pc)
-      (subst (λ rs. step_on bank_len s.0 x.ticks (to + 4 * k.j) (bench rs x.bank) ≡ Ok (stand (to + 4 * (k.j + 1)) (bench ((m.moves).before (k.j + 1) k.regs) x.bank))) (sym k.is) (s.2 k.regs x.bank x.ticks k.size)) in
-      let up : k.j + 1 ≤ own_place m.word = omega arith in
-      let tk = (m.moves).tick in
-      let inside = slice_get_within m.moved (own_place m.word) (own tk.0) tk.1 in
-      let size : b.row.len ≡ 3 + length m.moved = base_len t code b m (base_shape b hb bs) in
-      owes (Some (b.row.len - 3 - k.j)) (Some (tool s.0)) (fetch_moved b hb bs m k.j (tool s.0) i k.pc s.1).0
-      (tool_to (Some (b.row.len - 3 - k.j)) s.0 (to + 4 * (k.j + 1)) (bench ((m.moves).before (k.j + 1) k.regs) x.bank) step
-      (in_base b hb bs was (record x { pc = to + 4 * (k.j + 1); regs = (m.moves).before (k.j + 1) k.regs }) on refl ((m.moves).size (k.j + 1) k.regs up ∙ k.size) d.bank i
-      (inr (inr (inr (inl (record { m = m; j = k.j + 1; low = up; pc = refl; home = k.home; before = k.before; regs = k.regs; size = k.size; agree = k.agree; is = refl }))))) (b.row.len - 3 - k.j) (omega arith)))
+      let q = moving t g budget code rows ps clock st h x y p d on b hb bs i k l in
+      let size : b.row.len ≡ 3 + length (k.m).moved = base_len t code b k.m (base_shape t code rows ps clock st b hb bs) in
+      brought (Some (b.row.len - 3 - k.j)) q.0 q.1
+      (in_base b hb bs was q.0 (q.2 ∙ on) q.3 q.4 (ap length q.5 ∙ d.bank) (q.6 ∙ i) (inr (inr (inr (inl q.7)))) (b.row.len - 3 - k.j) (let up = q.8 in let lo = q.9 in omega arith))
 
   -- the tick: to where it leads
   tick_leads : (b : Piece) → In b ps → IsBase b → (b.row.status ≡ Written → ⊥) → x.inside ≡ true → (m : MovedWord t b) (w : ℕ) (jumped : Bool) (pc qc : ℕ) (a e : List ℕ) → Alike a e → is_jump w ≡ jumped
@@ -399,7 +228,7 @@ module _ (t : Words) (g : Ground t) (budget : ℕ) (code : Code) (rows : List Ro
       let out : is_jump w ≡ false = tj ∙ k.0 in
       let above = k.3 in
       let low = k.4 in
-      let size : b.row.len ≡ 3 + length m.moved = base_len t code b m (base_shape b hb bs) in (
+      let size : b.row.len ≡ 3 + length m.moved = base_len t code b m (base_shape t code rows ps clock st b hb bs) in (
         record {
           ticks = ap (λ n. n + 1) d.ticks;
           stop = d.stop;
@@ -413,7 +242,7 @@ module _ (t : Words) (g : Ground t) (budget : ℕ) (code : Code) (rows : List Ro
             base = bs;
             was = was;
             inside = grind (arith, common_steps, i, out);
-            place = inr (inr (inr (inr (record { m = m; j = k.1; above = k.3; low = k.4; pc = k.5; left = k.2; stands = k.6; home = k.7; agree = s.agree }))));
+            place = inr (inr (inr (inr (exit t g budget code rows ps clock st h x y p d on b m w pc qc a e s k.1 k.2 k.3 k.4 k.5 k.6 k.7))));
           }));
         },
         λ z. omega arith,
@@ -429,43 +258,19 @@ module _ (t : Words) (g : Ground t) (budget : ℕ) (code : Code) (rows : List Ro
   at_tick : (b : Piece) → In b ps → IsBase b → (b.row.status ≡ Written → ⊥) → x.inside ≡ true → (k : AtMoved t budget b x y) → k.j ≡ own_place (k.m).word → Owes (Some (b.row.len - 3 - k.j)) (fetched t code x)
   at_tick b hb bs was i k e =
       let m = k.m in
-      let to = moved_at b.row.at in
-      let tk = (m.moves).tick in
-      let w = tk.0 in
-      let pc : x.pc ≡ to + 4 * own_place m.word = k.pc ∙ ap (λ j. to + 4 * j) e in
-      let is : x.regs ≡ (m.moves).before (own_place m.word) k.regs = k.is ∙ ap (λ j. (m.moves).before j k.regs) e in
-      let f = fetch_moved b hb bs m (own_place m.word) (own w) i pc tk.1 in
-      let at = (let z = k.pc in let lo : b.row.at ≤ x.pc = omega arith in lo) in
-      let home : program_pc code rows x ≡ y.pc = cond-true x.inside (home_of code rows x.pc) x.pc i ∙ (home_word t code rows ps clock st b x.pc (own w) hb at f.2 f.1 ∙ sym k.home) in
-      let same0 = tk.3 k.regs y.regs h p (record { agree = k.agree; first = k.size; second = d.second }) in
-      let same1 : SameStep (is_jump m.word) (own_place m.word) to m.moved (exec_of w x.pc h x.regs p) (exec_of m.word y.pc h y.regs p) =
-      subst (λ a. SameStep (is_jump m.word) (own_place m.word) to m.moved (exec_of w a h x.regs p) (exec_of m.word y.pc h y.regs p)) (sym pc)
-      (subst (λ rs. SameStep (is_jump m.word) (own_place m.word) to m.moved (exec_of w (to + 4 * own_place m.word) h rs p) (exec_of m.word y.pc h y.regs p)) (sym is)
-      (subst (λ a. SameStep (is_jump m.word) (own_place m.word) to m.moved (exec_of w (to + 4 * own_place m.word) h ((m.moves).before (own_place m.word) k.regs) p) (exec_of m.word a h y.regs p)) (sym k.home) same0)) in
-      let both0 = tick_outcome b hb bs was i m w (is_jump m.word) (exec_of w x.pc h x.regs p) (exec_of m.word y.pc h y.regs p) home tk.2 same1 in
+      let s = ticking t g budget code rows ps clock st h x y p d on b hb bs i k e in
+      let w = s.0 in
+      let both0 = tick_outcome b hb bs was i m w (is_jump m.word) (exec_of w x.pc h x.regs p) (exec_of m.word y.pc h y.regs p) s.2 s.3 s.5 in
       let both = subst (λ j. Soon t budget ps clock (Some (b.row.len - 3 - j)) (own_step (done (exec_of w x.pc h x.regs p) x.regs p) w (program_pc code rows x) x).hart (after_done (done (exec_of m.word y.pc h y.regs p) y.regs p) y).hart × ((own_step (done (exec_of w x.pc h x.regs p) x.regs p) w (program_pc code rows x) x).prog ≡ (after_done (done (exec_of m.word y.pc h y.regs p) y.regs p) y).prog)) (sym e) both0 in
-      let here : program_word t y.pc ≡ Some m.word = ap (program_word t) k.home ∙ m.here in
       let to' : (o : Option ℕ) → Type 0 = λ o.
       Soon t budget ps clock (Some (b.row.len - 3 - k.j)) (own_step (done (exec_of w x.pc h x.regs p) x.regs p) w (program_pc code rows x) x).hart (after_done (done (plain.fetched o h y p) y.regs p) y).hart
       × ((own_step (done (exec_of w x.pc h x.regs p) x.regs p) w (program_pc code rows x) x).prog ≡ (after_done (done (plain.fetched o h y p) y.regs p) y).prog) in
-      let r : to' (program_word t y.pc) = subst to' (sym here) both in
-      owes (Some (b.row.len - 3 - k.j)) (Some (own w)) f.0 (can_go k.before, r.0, r.1)
+      let r : to' (program_word t y.pc) = subst to' (sym s.4) both in
+      owes (Some (b.row.len - 3 - k.j)) (Some (own w)) s.1 (can_go k.before, r.0, r.1)
 
   at_leave : (b : Piece) → In b ps → IsBase b → x.inside ≡ true → (k : AtLeave t b x y) → Owes (Some (b.row.len - 3 - k.j)) (fetched t code x)
   at_leave b hb bs i k =
-      let m = k.m in
-      let to = moved_at b.row.at in
-      let l = (m.moves).leaves k.j k.above k.low in
-      let same : leave l.0 ≡ leave k.left = same_some (slice_get m.moved k.j) (leave l.0) (leave k.left) l.2 k.stands in
-      let word : l.0 ≡ k.left = ap (λ (w : MarkedWord). w.word) same in
-      let home : l.1 ≡ y.pc = same_some (jump_of (decode_of k.left) (to + 4 * k.j)) l.1 y.pc (subst (λ w. jump_of (decode_of w) (to + 4 * k.j) ≡ Some l.1) word l.3) k.home in
-      let step0 = l.4 (bench_of x) x.ticks in
-      let step : step_on 0 k.left x.ticks x.pc (bench_of x) ≡ Ok (stand y.pc (bench_of x)) =
-      subst (λ a. step_on 0 k.left x.ticks a (bench_of x) ≡ Ok (stand y.pc (bench_of x))) (sym k.pc)
-      (subst (λ w. step_on 0 w x.ticks (to + 4 * k.j) (bench_of x) ≡ Ok (stand y.pc (bench_of x))) word
-      (subst (λ a. step_on 0 l.0 x.ticks (to + 4 * k.j) (bench_of x) ≡ Ok (stand a (bench_of x))) home step0)) in
-      owes (Some (b.row.len - 3 - k.j)) (Some (leave k.left)) (fetch_moved b hb bs m k.j (leave k.left) i k.pc k.stands).0
-      (leave_to (Some (b.row.len - 3 - k.j)) k.left y.pc (bench_of x) step (
+      brought (Some (b.row.len - 3 - k.j)) (record x { pc = y.pc; inside = false }) (leaving t g budget code rows ps clock st h x y p d on b hb bs i k) (
         record {
           ticks = d.ticks;
           stop = d.stop;
@@ -476,7 +281,7 @@ module _ (t : Words) (g : Ground t) (budget : ℕ) (code : Code) (rows : List Ro
           hart = λ z. inl (record { outside = refl; pc = refl; agree = k.agree });
         },
         λ z. tt,
-      ))
+      )
 
   at_moved : (b : Piece) → In b ps → IsBase b → (b.row.status ≡ Written → ⊥) → x.inside ≡ true → (k : AtMoved t budget b x y) → Owes (Some (b.row.len - 3 - k.j)) (fetched t code x)
   at_moved b hb bs was i k = ⊎_elim (λ l. at_silent b hb bs was i k l) (λ l. at_tick b hb bs was i k (let q = k.low in omega arith)) (cases_lt k.j (own_place (k.m).word))
@@ -494,33 +299,22 @@ module _ (t : Words) (g : Ground t) (budget : ℕ) (code : Code) (rows : List Ro
   inside_mini k = by k.f k.safe
     where
       shape : MiniShape code (k.m).row (k.m).body (k.m).next
-      shape = mini_shape k.m k.is_in k.linked
+      shape = mini_shape t code rows ps clock st k.m k.is_in k.linked
 
       most : ℕ
       most = (k.m).row.len - k.i + ahead ps (k.m).family (k.m).age + ((k.b).row.len - 2)
 
-      here : (j : ℕ) (w : MarkedWord) → j ≡ k.i → j < (k.m).row.len → slice_get ((k.m).body ++ tool shape.jump ∷ []) j ≡ Some w → fetched t code x ≡ Some w
-      here j w e l q =
-          fetch_block k.m j ((k.m).body ++ tool shape.jump ∷ []) w k.is_in k.inside (k.pc ∙ ap (λ n. (k.m).row.at + 4 * n) (sym e)) l (stands_at code (k.m).row.at ((k.m).body ++ tool shape.jump ∷ []) j w shape.stands q)
-
       ends : k.i ≡ length (k.m).body → Owes (Some most) (fetched t code x)
       ends e =
           let len = shape.len in
-          let pc : x.pc ≡ (k.m).row.at + 4 * length (k.m).body = k.pc ∙ ap (λ n. (k.m).row.at + 4 * n) e in
-          owes (Some most) (Some (tool shape.jump)) (here (length (k.m).body) (tool shape.jump) (sym e) (omega arith) (get_append (k.m).body (tool shape.jump)))
-          (hop_on most k.b (k.m).family (k.m).age (k.m).next (is_live (k.m).row.status) shape.jump (k.family).is_in (k.family).base k.was (k.family).at k.inside (k.home ∙ sym (k.family).point) k.before k.saved
-          (subst (λ a. Hops a (k.m).next shape.jump) (sym pc) shape.hops) (st.chains k.m k.is_in k.linked) (omega arith))
+          let q = ending t g budget code rows ps clock st h x y p d on k e in
+          hop_on most k.b (k.m).family (k.m).age (k.m).next (is_live (k.m).row.status) q.0 (k.family).is_in (k.family).base k.was (k.family).at k.inside (k.home ∙ sym (k.family).point) k.before k.saved q.2 q.1 (st.chains k.m k.is_in k.linked) (omega arith)
 
       leaps : (f j : ℕ) (z : Bench) → Leap (k.m).body (k.m).row.at x.ticks k.i (bench_of x) j z → Safe f (k.m).body (k.m).row.at j z x.ticks → Owes (Some most) (fetched t code x)
       leaps f j z l s =
           let len = shape.len in
-          let in_body = slice_get_within (k.m).body k.i (tool l.word) l.here in
           let ke = l.keeps in
-          let sv = k.saved in
-          let step : step_on bank_len l.word x.ticks x.pc (bench_of x) ≡ Ok (stand ((k.m).row.at + 4 * j) z) =
-          subst (λ a. step_on bank_len l.word x.ticks a (bench_of x) ≡ Ok (stand ((k.m).row.at + 4 * j) z)) (sym k.pc) l.step in
-          owes (Some most) (Some (tool l.word)) (here k.i (tool l.word) refl (omega arith) (get_before (k.m).body (tool shape.jump ∷ []) k.i (tool l.word) l.here))
-          (tool_to (Some most) l.word ((k.m).row.at + 4 * j) z step (
+          brought (Some most) (record x { pc = (k.m).row.at + 4 * j; regs = z.regs; bank = z.bank }) (leaping t g budget code rows ps clock st h x y p d on k j z l) (
             record {
               ticks = d.ticks;
               stop = d.stop;
@@ -528,25 +322,10 @@ module _ (t : Words) (g : Ground t) (budget : ℕ) (code : Code) (rows : List Ro
               second = d.second;
               bank = ke.room ∙ d.bank;
               down = λ c q. absurd cc;
-              hart = λ q. inr (inr (record {
-                m = k.m;
-                b = k.b;
-                is_in = k.is_in;
-                linked = k.linked;
-                family = k.family;
-                was = k.was;
-                inside = k.inside;
-                home = k.home;
-                before = k.before;
-                saved = record { agree = λ r u n. ke.regs r n (λ e. omega arith) ∙ sv.agree r u n; saved = ke.saved ∙ sv.saved };
-                i = j;
-                f = f;
-                pc = refl;
-                safe = s;
-              }));
+              hart = λ q. inr (inr (leapt t g budget code rows ps clock st h x y p d on k f j z l s));
             },
             λ z. let on = l.on in let within = l.within in omega arith,
-          ))
+          )
 
       by : (f : ℕ) → Safe f (k.m).body (k.m).row.at k.i (bench_of x) x.ticks → Owes (Some most) (fetched t code x)
       by zero e = ends e
@@ -554,12 +333,6 @@ module _ (t : Words) (g : Ground t) (budget : ℕ) (code : Code) (rows : List Ro
       by (suc f) (inr r) = leaps f r.0 r.1 r.2 r.3
 
   -- ---- together
-
-  fetch_text : (o : Option MarkedWord) → x.inside ≡ false → is_text_word t x.pc ≡ true → get code x.pc ≡ o → fetched t code x ≡ o
-  fetch_text o i l e = cond-false x.inside _ _ i ∙ (cond-true (is_text_word t x.pc) (get code x.pc) None l ∙ e)
-
-  fetch_none : x.inside ≡ false → is_text_word t x.pc ≡ false → fetched t code x ≡ None
-  fetch_none i l = cond-false x.inside _ _ i ∙ cond-false (is_text_word t x.pc) (get code x.pc) None l
 
   outside : Outside x y → x.ticks < budget → Owes None (fetched t code x)
   outside o l = ⊎_elim near far (text_cases t x.pc)
@@ -569,15 +342,14 @@ module _ (t : Words) (g : Ground t) (budget : ℕ) (code : Code) (rows : List Ro
           let q = in_text t x.pc r.0 r.1 in
           ⊎_elim
           (λ (e : get code x.pc ≡ Some (own r.0)).
-          owes None (Some (own r.0)) (fetch_text (Some (own r.0)) o.outside r.2 e)
+          owes None (Some (own r.0)) (fetch_text t g budget code rows ps clock st h x y p d on (Some (own r.0)) o.outside r.2 e)
           (own_outside r.0 (g.plain q.i r.0 q.is) o.outside o.pc o.agree l (ap (program_word t) (sym o.pc) ∙ r.1)))
           (λ (e : (b : Piece) × In b ps × IsBase b × (b.row.point ≡ x.pc) × (b.row.status ≡ Live) × Door code b).
-          owes None (Some (enter (e.5).jump)) (fetch_text (Some (enter (e.5).jump)) o.outside r.2 (ap (get code) (sym e.3) ∙ (e.5).stands))
-          (enters e.0 e.1 e.2 e.3 e.4 e.5 o l))
+          enters e.0 e.1 e.2 e.3 e.4 e.5 o l (fetch_text t g budget code rows ps clock st h x y p d on (Some (enter (e.5).jump)) o.outside r.2 (ap (get code) (sym e.3) ∙ (e.5).stands)))
           (st.words x.pc r.0 r.1)
 
       far : (program_word t x.pc ≡ None) × (is_text_word t x.pc ≡ false) → Owes None (fetched t code x)
-      far r = owes None None (fetch_none o.outside r.1) (none_outside o.outside o.pc l (ap (program_word t) (sym o.pc) ∙ r.0))
+      far r = owes None None (fetch_none t g budget code rows ps clock st h x y p d on o.outside r.1) (none_outside o.outside o.pc l (ap (program_word t) (sym o.pc) ∙ r.0))
 
   -- where the hart is inside, fewer turns are left behind the turn
   abbrev most_of : HartOk t budget ps x y → Option ℕ

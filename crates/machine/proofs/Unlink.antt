@@ -181,6 +181,24 @@ module _ (c : Core) (s : Plain) (v : Inv c s) (m : ℕ) (r : Row) (hr : In r c.r
       let a = and_parts (is_linked z) (next_of c.code z == m) g.1 in
       (q.0, q.1, q.2, sym (ap is_linked q.2) ∙ a.0, sym (next_is c.program c.code q.0 (st.shapes q.0 q.1)) ∙ (sym (ap (next_of c.code) q.2) ∙ eqb-true _ m a.1))
 
+  -- what leads to the block is of its point
+  point_of : (x : Piece) → In x ps → is_linked x.row ≡ true → x.next ≡ m → x.row.point ≡ (pm.0).row.point
+  point_of x h e n =
+      let o = st.families pm.0 pm.1 pm_linked in
+      let fam : hfam x ≡ (pm.0).family = (reaches x h e n).fam in
+      let same : (d : Piece) → In d ps → d.row.at ≡ hfam x → d.row.point ≡ (pm.0).row.point = λ d hd at. ap (λ (u : Piece). u.row.point) (one_block c.program c.code c.rows v.ps v.clock v.static d o.0 hd (o.1).is_in (at ∙ (fam ∙ sym (o.1).at))) ∙ (o.1).point in
+      ⊎_elim
+      (λ (b : IsBase x). same x h (sym (cond-true x.row.base _ _ b.base)))
+      (λ (b : x.row.base ≡ false). let d = st.families x h (live_linked x b e) in sym (d.1).point ∙ same d.0 (d.1).is_in ((d.1).at ∙ sym (cond-false x.row.base _ _ b)))
+      (mini_or_base x)
+
+  pub before_of : (x : Row) → In x c.rows → (is_linked x && (next_of c.code x == m)) ≡ true → x.point ≡ r.point
+  before_of x h e =
+      let q = piece_of c.program c.code c.rows v.ps v.clock v.static x h in
+      let a = and_parts (is_linked x) (next_of c.code x == m) e in
+      let next = sym (next_is c.program c.code q.0 (st.shapes q.0 q.1)) ∙ (sym (ap (next_of c.code) q.2) ∙ eqb-true _ m a.1) in
+      ap (λ (u : Row). u.point) q.2 ∙ (point_of q.0 q.1 (sym (ap is_linked q.2) ∙ a.0) next ∙ sym (ap (λ (u : Row). u.point) pm.2))
+
   module _ (pq : Piece) (hq : In pq ps) (lq : is_linked pq.row ≡ true) (nq : pq.next ≡ m) where
     abbrev f : Row → Status
     f = at_set m Retired

@@ -9,7 +9,6 @@ use Rattle.rv_word.specs.Plain.{program_word}
 use Rattle.rv_word.specs.Table.{decode_of}
 use Rattle.tramp_spec.specs.Codes.{Code, tool_at}
 use Rattle.tramp_spec.specs.Marks.{own, enter}
-use Rattle.tramp_spec.specs.Jumps.{jump_word}
 use Rattle.tramp_spec.specs.Blocks.{IsBase, IsMini, tail_of, target_or}
 use Rattle.tramp_spec.specs.Harts.{Hart}
 use Rattle.tramp_spec.specs.declared.block.Block.{Block}
@@ -64,9 +63,13 @@ next_of code r = target_at (get code (link_at r)) (link_at r)
 abbrev pub is_linked : Row → Bool
 is_linked r = if r.base then is_current r.status else is_live r.status
 
+-- a linked block leads to an address
+abbrev pub is_before : Code → ℕ → Row → Bool
+is_before code m r = is_linked r && (next_of code r == m)
+
 -- the linked block that leads to an address
 abbrev pub before : Core → ℕ → Option Row
-before c m = find (λ r. is_linked r && (next_of c.code r == m)) c.rows
+before c m = find (is_before c.code m) c.rows
 
 -- ---- conditions
 
@@ -78,9 +81,13 @@ Apart at len other more = (at + 4 * len ≤ other) ⊎ (other + 4 * more ≤ at)
 abbrev pub StandsIn : Core → Row → Type 0
 StandsIn c r = (h : ℕ) × (x : Hart) × (slice_get c.harts h ≡ Some x) × (x.inside ≡ true) × IsTrue (holds r x.pc)
 
+-- no hart of these is inside
+abbrev pub AreOutside : List Hart → Type 0
+AreOutside harts = (h : ℕ) (x : Hart) → slice_get harts h ≡ Some x → x.inside ≡ false
+
 -- no hart is inside
 abbrev pub IsQuiet : Core → Type 0
-IsQuiet c = (h : ℕ) (x : Hart) → slice_get c.harts h ≡ Some x → x.inside ≡ false
+IsQuiet c = AreOutside c.harts
 
 -- a base block's point has no other that isn't retired, and its head is its own tail; a mini block may have any next
 abbrev pub HasShape : Core → Block → Bool → Type 0
@@ -118,15 +125,22 @@ pub record MayLinkPoint (c : Core) (p : ℕ) : Type 0 where
   pub program : program_word c.program p ≡ Some word
   pub stands : get c.code p ≡ Some (own word)
 
--- a jump to a base block stands at a point
+-- a jump that enters stands at a point
 pub record IsEntered (c : Core) (p : ℕ) : Type 0 where
-  pub base : ℕ
-  pub stands : get c.code p ≡ Some (enter (jump_word p base))
+  pub jump : ℕ
+  pub stands : get c.code p ≡ Some (enter jump)
 
--- no hart is inside, and at each site of an instrument its mini block is live, and the jump to a base block stands
+-- a site is linked: its mini block is live, and a jump that enters stands at its point
+abbrev pub IsLinked : Core → PlacedSite → Type 0
+IsLinked c s = HasMini c s.at s.mini Live × IsEntered c s.at
+
+abbrev pub AreLinked : Core → List PlacedSite → Type 0
+AreLinked c sites = (s : PlacedSite) → In s sites → IsLinked c s
+
+-- no hart is inside, and each site of the instrument is linked
 pub record MayArm (c : Core) (i : Placed) : Type 0 where
   pub quiet : IsQuiet c
-  pub linked : (s : PlacedSite) → In s i.sites → HasMini c s.at s.mini Live × IsEntered c s.at
+  pub linked : AreLinked c i.sites
 
 -- The event may happen now.
 abbrev pub May : Core → Event → Type 0

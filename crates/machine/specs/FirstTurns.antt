@@ -37,8 +37,11 @@ abbrev pub first_mini : Block
 first_mini = record { point = 0x10000; at = 0x11014; words = mini_words 0x11014 (body_of (2 ∷ []) (record { conds = []; act = Up 0 } ∷ [])) 0x11008; base = false }
 
 -- both blocks are written and linked
+abbrev pub first_linking : List Event
+first_linking = Write first_base ∷ Write first_mini ∷ LinkMini 0x10000 0x11014 ∷ LinkPoint 0x10000 ∷ []
+
 abbrev pub linked_core : Core
-linked_core = replay (Write first_base ∷ Write first_mini ∷ LinkMini 0x10000 0x11014 ∷ LinkPoint 0x10000 ∷ []) small_core
+linked_core = replay first_linking small_core
 
 abbrev pub turns : ℕ → List Event
 turns n = replicate n (Turn 0)

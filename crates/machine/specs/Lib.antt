@@ -9,9 +9,16 @@ pub mod Same
 pub mod Measures
 pub mod Instruments
 pub mod Laws
+pub mod Arming
+pub mod Readings
 pub mod FirstTurns
 pub mod Leaving
 pub mod States
 pub mod Reached
 pub mod Codes
 pub mod Views
+pub mod Performing
+pub mod LoopCounted
+pub mod Links
+pub mod ThreeCounters
+pub mod HartInside

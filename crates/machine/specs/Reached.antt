@@ -1,5 +1,5 @@
 -- For proofs alone: what is kept of every machine.
-use Rattle.std.specs.Prelude.{◌≡◌, ℕ, ◌*◌, ◌≤◌, Option, List, find, length}
+use Rattle.std.specs.Prelude.{◌≡◌, ℕ, ◌*◌, Option, List, find}
 use Rattle.std.specs.FinMap.{get}
 use Rattle.std.specs.Option.{option_map}
 use Rattle.pn_types.specs.declared.image.Image.{Image}

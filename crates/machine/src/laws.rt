@@ -1,9 +1,14 @@
 //! What holds of the definitions.
 
 ghost use Rattle.machine.specs.FirstTurns.{FirstTurns};
+ghost use Rattle.machine.specs.HartInside.{HartInside};
 ghost use Rattle.machine.specs.Leaving.{LeavesSoon};
 ghost use Rattle.machine.specs.Laws.{Erasure, ReplaysGoOn};
+ghost use Rattle.machine.specs.LoopCounted.{LoopCounted};
 ghost use Rattle.machine.specs.Measures.{LevelsGoOn, MeasuresAdd};
+ghost use Rattle.machine.specs.Arming.{ArmingSets};
+ghost use Rattle.machine.specs.Readings.{ReadingsMeasure};
+ghost use Rattle.machine.specs.ThreeCounters.{MinisUnlinked, PointUnlinked};
 
 /// Erasure. Take any image whose text is of words of 32 bits that never name x31, any number of harts and budget, and any list of
 /// events each of which may happen when it comes: turns, also inside trampolines, and blocks that are written, linked,
@@ -12,6 +17,19 @@ ghost use Rattle.machine.specs.Measures.{LevelsGoOn, MeasuresAdd};
 /// pc and registers x1 to x30, those that the tool has saved or is rebuilding being taken from where they are.
 pub fn erasure()
     ensures { Erasure }
+{}
+
+/// Readings. Take any list of events each of which may happen when it comes, and an instrument that is armed in its course, carries a
+/// plan there and is in force since. Its readings for any harts together, minus those of an earlier moment since the arming at which no hart
+/// was inside, are what the plan measures between the two on the unpatched program, whose run is the ticks of these events. All else
+/// may happen meanwhile: slots that were another's before, other instruments at the same points, links, unlinks and frees.
+pub fn readings_measure()
+    ensures { ReadingsMeasure }
+{}
+
+/// Arming sets slots so that they stand for the values, and each timer reads 0. No other doubleword changes.
+pub fn arming_sets()
+    ensures { ArmingSets }
 {}
 
 /// A hart that is inside and takes turns with no event of the tool between is stopped or outside within as many turns as the
@@ -38,4 +56,25 @@ pub fn measures_add()
 /// Thirteen turns of three words, the first of which is patched and counted.
 pub fn first_turns()
     ensures { FirstTurns }
+{}
+
+/// Three rounds of a loop of one word, which an instrument counts: it is armed, and reads 3.
+pub fn loop_counted()
+    ensures { LoopCounted }
+{}
+
+/// Three counters at the loop's point. While a hart is at the second's mini block, this and the first's are unlinked. The hart goes
+/// through both, and nothing is freed before it is outside. Then a fourth takes their room, and three rounds later reads 3.
+pub fn minis_unlinked()
+    ensures { MinisUnlinked }
+{}
+
+/// The point is unlinked while a hart is at the third's mini block. It goes through all three, and then on by the program's own word.
+pub fn point_unlinked()
+    ensures { PointUnlinked }
+{}
+
+/// While a hart is inside a trampoline no instrument is armed or sampled. Once it has settled, both may happen.
+pub fn hart_inside()
+    ensures { HartInside }
 {}

@@ -2,6 +2,19 @@
 //! written, linked, unlinked and freed.
 #![tactic(auto)]
 
+mod block_list;
+mod hart;
+mod instruments;
 mod laws;
+mod machine;
+mod patching;
+mod performing;
+mod settling;
+mod slots;
 
-pub use laws::{erasure, first_turns, leaves_soon, levels_go_on, measures_add, replays_go_on};
+pub use instruments::Sample;
+pub use laws::{
+    arming_sets, erasure, first_turns, hart_inside, leaves_soon, levels_go_on, loop_counted,
+    measures_add, minis_unlinked, point_unlinked, readings_measure, replays_go_on,
+};
+pub use machine::Machine;

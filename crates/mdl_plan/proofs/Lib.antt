@@ -9,4 +9,7 @@ mod Numbered
 mod PointStmts
 mod Outcomes
 pub mod Limits
+pub mod Costs
+pub mod Suiting
 pub mod FittingStmts
+pub mod Measurable

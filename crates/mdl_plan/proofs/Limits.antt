@@ -1,8 +1,11 @@
 -- A plan has no more sites and statements than it may have.
-use Rattle.std.proofs.Common.{◌≡◌, ℕ, zero, suc, ◌≤◌, ◌<◌, ◌==◌, ◌||◌, cond, ltb, Bool, true, false, Option, Some, None, Result, Ok, Err, IfOk, List, [], ◌∷◌, length, map, refl, sym, ap, subst, arith, eq-eqb}
-use Rattle.std.specs.List.{find, list_any, All, AllByRecursion}
+use Rattle.std.proofs.Common.{◌≡◌, ℕ, zero, suc, ◌+◌, ◌≤◌, ◌<◌, ◌==◌, ◌||◌, cond, ltb, Bool, true, false, Option, Some, None, Result, Ok, Err, IfOk, List, [], ◌∷◌, length, get_or, map, refl, sym, ap, subst, arith, eq-eqb}
+use Rattle.std.specs.List.{find, list_any, All, AllByRecursion, AllPairs}
+use Rattle.std.specs.List.Sorted.{IsStrictlyIncreasing}
 use Rattle.std.proofs.lemmas.Bool.{ltb-false, ltb-true}
 use Rattle.std.proofs.lemmas.List.{length-append, length-map}
+use Rattle.std.proofs.lemmas.List.Elements.{All-from_recursion, recursion_from_All}
+use Rattle.std.proofs.lemmas.List.Kept.{AllPairs-from_increasing}
 use Rattle.pn_types.specs.declared.code.Point.{Point}
 use Rattle.pn_types.specs.declared.code.Proc.{Proc}
 use Rattle.pn_types.specs.declared.focus.Focus.{Focus}
@@ -15,7 +18,7 @@ use Rattle.resource_tree.specs.Resources.{Resources}
 use Rattle.resource_tree.specs.Foci.{part}
 use Rattle.mdl_plan.specs.Active.{Active}
 use Rattle.mdl_plan.specs.Pieces.{counters, counting}
-use Rattle.mdl_plan.specs.Plans.{Answers, Ascend, IsLimited, IsPlanOver, IsSiteOf, Scene, has_stmts, is_crowded, or_crowded, plan_with, plan_at, site_at, sites_of, scene_of, stmts_at, counter_var, vars_of}
+use Rattle.mdl_plan.specs.Plans.{Answers, IsLimited, IsPlanOver, IsSiteOf, Scene, has_stmts, is_crowded, or_crowded, plan_with, plan_at, site_at, sites_of, scene_of, stmts_at, counter_var, vars_of}
 use Rattle.mdl_plan.specs.declared.fault.PlanFault.{PlanFault}
 use Rattle.mdl_plan.specs.declared.fault.PlanFault.TheVariants.{TooManySites}
 
@@ -72,6 +75,25 @@ sites_of_points s (p ∷ points) = go (has_stmts (site_at s p)) refl (more_point
     go true e rest = (record { at = ap (λ (b : Bool). b || list_any (λ q. q.at == p.at) points) (eq-eqb p.at p.at refl); some = ltb-true 0 (length (stmts_at s p)) e }, rest)
     go false e rest = rest
 
+-- each number is below all later ones
+abbrev pub Ascend : List ℕ → Type 0
+Ascend [] = Unit {0}
+Ascend (n ∷ ns) = AllByRecursion (λ m. n < m) ns × Ascend ns
+
+ascend_pairs : (ns : List ℕ) → AllPairs (λ a b. a < b) ns → Ascend ns
+ascend_pairs [] h = tt
+ascend_pairs (n ∷ ns) h =
+    (recursion_from_All (λ m. n < m) ns (λ k d l. h zero (suc k) d (omega arith) (omega arith)), ascend_pairs ns (λ i j d l w. h (suc i) (suc j) d (omega arith) (omega arith)))
+
+pub ascend_from : (ns : List ℕ) → IsStrictlyIncreasing ns → Ascend ns
+ascend_from ns h = ascend_pairs ns (AllPairs-from_increasing ns h)
+
+to_increasing : (ns : List ℕ) → Ascend ns → IsStrictlyIncreasing ns
+to_increasing [] h k l = absurd (omega arith)
+to_increasing (n ∷ ns) h zero l = All-from_recursion (λ m. n < m) ns h.0 zero 0 (omega arith)
+to_increasing (n ∷ ns) h (suc k) l =
+    let e : suc (k + 1) ≡ suc k + 1 = omega arith in subst (λ (j : ℕ). get_or (n ∷ ns) (suc k) 0 < get_or (n ∷ ns) j 0) e (to_increasing ns h.1 k (omega arith))
+
 above_sites : (s : Scene) (n : ℕ) (points : List Point) → AllByRecursion (λ m. n < m) (map (λ p. p.at) points) → AllByRecursion (λ m. n < m) (map (λ x. x.at) (sites_of s points))
 above_sites s n [] h = tt
 above_sites s n (p ∷ points) h = go (has_stmts (site_at s p)) (above_sites s n points h.1)
@@ -109,7 +131,7 @@ over points s m a plan e =
       vars = (omega arith, few_vars m a);
       limited = subst IsLimited (sym (plan_is (vars_of m a) (sites_of s points) plan e)) limited;
       sites = sites_of_points s points;
-      ascend = ascending_sites s points;
+      ascend = λ rise. to_increasing (map (λ x. x.at) (sites_of s points)) (ascending_sites s points (ascend_from (map (λ p. p.at) points) rise));
     })
 
 -- an answer that is a plan is within its limits

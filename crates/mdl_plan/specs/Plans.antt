@@ -1,6 +1,7 @@
 -- The plan of a metric at a focus.
 use Rattle.std.specs.Prelude.{ℕ, ◌≤◌, ◌<◌, ◌≡◌, ◌==◌, ◌%◌, ◌^◌, nat_lt, Bool, true, false, if◌then◌else◌, Option, Some, None, unwrap_or, Result, Ok, Err, List, [], ◌∷◌, length, map, flat_map, slice_get}
 use Rattle.std.specs.List.{filter, find, list_any, All, AllByRecursion}
+use Rattle.std.specs.List.Sorted.{IsStrictlyIncreasing}
 use Rattle.pn_types.specs.declared.code.Point.{Point}
 use Rattle.pn_types.specs.declared.code.Proc.{Proc}
 use Rattle.pn_types.specs.declared.focus.Focus.{Focus}
@@ -118,15 +119,10 @@ pub record IsSiteOf (points : List Point) (site : Site) : Type 0 where
   pub at : list_any (λ p. p.at == site.at) points ≡ true
   pub some : 0 < length site.stmts
 
--- numbers ascend
-abbrev pub Ascend : List ℕ → Type 0
-Ascend [] = Unit {0}
-Ascend (n ∷ ns) = AllByRecursion (λ m. n < m) ns × Ascend ns
-
 -- What every plan over these points is within: the metric's own variable and at most two counters, and sites that are
 -- limited, have statements, and ascend as the points do.
 pub record IsPlanOver (points : List Point) (plan : Plan) : Type 0 where
   pub vars : (1 ≤ length plan.vars) × (length plan.vars ≤ 3)
   pub limited : IsLimited plan
   pub sites : AllByRecursion (IsSiteOf points) plan.sites
-  pub ascend : Ascend (map (λ p. p.at) points) → Ascend (map (λ s. s.at) plan.sites)
+  pub ascend : IsStrictlyIncreasing (map (λ p. p.at) points) → IsStrictlyIncreasing (map (λ s. s.at) plan.sites)

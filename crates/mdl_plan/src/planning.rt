@@ -1,9 +1,13 @@
 //! The plan.
 
-ghost use Rattle.std.specs.Prelude.{◌≡◌, ◌<◌, ◌^◌, length, slice_get, IfOk, Ok, Some};
+ghost use Rattle.std.specs.Prelude.{◌≡◌, ◌<◌, ◌≤◌, ◌^◌, length, map, slice_get, IfOk, Ok, Some};
+ghost use Rattle.std.specs.List.{AllByRecursion};
+ghost use Rattle.std.specs.List.Sorted.{IsStrictlyIncreasing};
 ghost use Rattle.mdl_ast.specs.declared.metric.Metric.{Metric};
 ghost use Rattle.mdl_check.specs.Sound.{IsSound};
-ghost use Rattle.mdl_plan.specs.Fitting.{AreFitting};
+ghost use Rattle.prim_code.specs.Counts.{predicted};
+ghost use Rattle.prim_code.specs.Fitting.{IsMeasurable};
+ghost use Rattle.mdl_plan.specs.Fitting.{most_words, HasFewConds, HasLowObjects};
 ghost use Rattle.mdl_plan.specs.Plans.{plan_at, plan_of, Answers, IsPlanOver};
 
 use crate::active::{Active, active_at};
@@ -31,7 +35,8 @@ fn planned(
 ) -> Result<Plan, PlanFault>
     requires procs { length procs.now < 2 ^ 32 }
     requires points { length points.now < 2 ^ 32 }
-    ensures { Answers result (plan_at tree.now focus.now procs.now points.now metric.now (Ok active.now)) }
+    ensures answer { Answers result (plan_at tree.now focus.now procs.now points.now metric.now (Ok active.now)) }
+    ensures narrow { IfOk result (λ plan. AllByRecursion (λ v. v.initially < 2 ^ 32) plan.vars) }
 {
     let counters = active.counters(alloc)?;
     let planner = Planner::of(alloc, metric, active, &counters, focus, tree, procs)?;
@@ -63,8 +68,10 @@ fn planned(
 /// - `TooManyStmts`: a point has more than 32.
 ///
 /// A plan has one to three variables, and at most 4,096 sites at addresses of the points, each with 1 to 32 statements.
-/// Where what was checked was parsed or shipped, a statement has at most 18 conditions, on counters of the plan and on
-/// the arguments 0 to 7, and it counts a counter or starts and stops a timer.
+/// Where what was checked was parsed or shipped, a statement has at most 18 conditions, so that the plan's mini blocks have
+/// at most 13,373,440 words together. Where besides the tree's objects lie below 2^31, as those of every image do, and the
+/// points ascend, the tool's code measures the plan: the conditions are on counters of the plan and on the arguments 0 to
+/// 7, a statement counts a counter or starts and stops a timer, and no number in it is 2^31 or above.
 ///
 /// The tree's procedures are `procs`, and the points are theirs, by address. The work is linear in the points, the
 /// procedures and what the insertions select.
@@ -83,7 +90,11 @@ pub fn plan(
     ensures answer { (m : Metric) → slice_get checked.now.metrics metric ≡ Some m →
         Answers result (plan_of checked.now.constraints m focus.now tree.now procs.now points.now) }
     ensures within { IfOk result (IsPlanOver points.now) }
-    ensures fitting { IsSound checked.now → IfOk result AreFitting }
+    // What is checked is sound where it was parsed or shipped.
+    ensures few_conds { IsSound checked.now → IfOk result HasFewConds }
+    ensures cost { IsSound checked.now → IfOk result (λ plan. predicted plan ≤ most_words) }
+    // The tree of an image's objects has low ones, and the points of an image ascend.
+    ensures measurable { IsSound checked.now → HasLowObjects tree.now → IsStrictlyIncreasing (map (λ p. p.at) points.now) → IfOk result IsMeasurable }
 {
     let metric = &checked.metrics.as_slice()[metric as usize];
     let active = active_at(checked.constraints.as_slice(), metric, focus)?;

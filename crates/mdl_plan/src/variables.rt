@@ -1,6 +1,7 @@
 //! The variables of a plan.
 
-ghost use Rattle.std.specs.Prelude.{◌≡◌, IfOk, map};
+ghost use Rattle.std.specs.Prelude.{◌≡◌, ◌<◌, ◌^◌, IfOk, map};
+ghost use Rattle.std.specs.List.{AllByRecursion};
 ghost use Rattle.mdl_plan.specs.Pieces as spec;
 ghost use Rattle.mdl_plan.specs.Plans.{base_var, counter_var, vars_of};
 
@@ -19,7 +20,8 @@ fn copy(alloc: Global, text: &Text) -> Result<Text, NoMemory>
 
 /// The metric's own variable.
 fn base_var(alloc: Global, metric: &Metric, active: &Active<'_>) -> Result<Var, NoMemory>
-    ensures { IfOk result (λ var. var ≡ base_var metric.now active.now) }
+    ensures var { IfOk result (λ var. var ≡ base_var metric.now active.now) }
+    ensures narrow { IfOk result (λ var. var.initially < 2 ^ 32) }
 {
     let initially = base_initially(metric, active.replacement());
     Ok(Var {
@@ -31,7 +33,8 @@ fn base_var(alloc: Global, metric: &Metric, active: &Active<'_>) -> Result<Var, 
 
 /// The variable of a counter.
 fn counter_var(alloc: Global, counter: &Constraint) -> Result<Var, NoMemory>
-    ensures { IfOk result (λ var. var ≡ counter_var counter.now) }
+    ensures var { IfOk result (λ var. var ≡ counter_var counter.now) }
+    ensures narrow { IfOk result (λ var. var.initially < 2 ^ 32) }
 {
     Ok(Var {
         name: copy(alloc, &counter.name)?,
@@ -48,7 +51,8 @@ pub(crate) fn vars(
     counters: &[&Constraint],
 ) -> Result<Vec<Var>, NoMemory>
     requires { map (λ c. c.now) counters.now ≡ spec.counters active.now }
-    ensures { IfOk result (λ vars. vars.items ≡ vars_of metric.now active.now) }
+    ensures vars { IfOk result (λ vars. vars.items ≡ vars_of metric.now active.now) }
+    ensures narrow { IfOk result (λ vars. AllByRecursion (λ v. v.initially < 2 ^ 32) vars.items) }
 {
     let mut vars = vec![in alloc; base_var(alloc, metric, active)?]?;
     for counter in counters {

@@ -2,7 +2,6 @@ pub mod Answers
 pub mod Sights
 pub mod Inputs
 pub mod Found
-pub mod Costs
 pub mod Plans
 pub mod Due
 pub mod Delivery

@@ -9,6 +9,7 @@ use Rattle.mdl_plan.specs.declared.fault.PlanFault.TheVariants.{NoMemory, NoCons
 use Rattle.pn_types.specs.declared.focus.Focus.{Focus}
 use Rattle.pn_types.specs.declared.pick.PickCause.TheVariants as cause
 use Rattle.pn_types.specs.declared.plan.Plan.{Plan}
+use Rattle.prim_code.specs.Counts.{predicted}
 use Rattle.refusals.specs.Kinds.{fault_at}
 use Rattle.refusals.specs.Refusals.{Step, Then}
 use Rattle.refusals.specs.declared.configuration.ConfKind.TheVariants.{UnknownName, BadFocus}
@@ -18,7 +19,6 @@ use Rattle.report.specs.PlanTexts.{plan_text}
 use Rattle.resource_tree.specs.Foci.{canonical, Selects}
 use Rattle.resource_tree.specs.Resources.{Resources}
 use Rattle.paradyn_top.specs.Answers.{output}
-use Rattle.paradyn_top.specs.Costs.{predicted}
 use Rattle.paradyn_top.specs.declared.finding.Found.{Found}
 use Rattle.paradyn_top.specs.declared.texts.Texts.{Texts}
 

@@ -1,6 +1,8 @@
 //! Configurations from bytes.
 
 ghost use Rattle.std.specs.Prelude.{◌≡◌, ◌≤◌, IfOk, length};
+ghost use Rattle.std.specs.List.{AllByRecursion};
+ghost use Rattle.mdl_ast.specs.Small.{HasSmall};
 ghost use Rattle.paradyn_top.specs.Inputs.{MeansConf};
 ghost use Rattle.refusals.specs.Kinds.{fault_at};
 ghost use Rattle.refusals.specs.Refusals.{Comes};
@@ -25,6 +27,7 @@ pub(crate) fn configuration(alloc: Global, text: &[u8]) -> Result<Conf, Refusal>
     requires { length text.now ≤ CONFIGURATION_LIMIT }
     ensures means { Comes result (MeansConf text.now) }
     ensures few { IfOk result (λ conf. length conf.items ≤ CONFIGURATION_LIMIT) }
+    ensures small { IfOk result (λ conf. AllByRecursion HasSmall conf.items) }
 {
     match parse(alloc, text) {
         Ok(conf) => Ok(conf),

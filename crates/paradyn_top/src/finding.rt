@@ -1,11 +1,16 @@
 //! What is found of a program and a configuration.
 
-ghost use Rattle.std.specs.Prelude.{◌≡◌, ◌<◌, ◌≤◌, ◌^◌, IfOk, Ok, Err, length};
+ghost use Rattle.std.specs.Prelude.{◌≡◌, ◌<◌, ◌≤◌, ◌^◌, IfOk, Ok, Err, length, map};
+ghost use Rattle.std.specs.List.{AllByRecursion};
+ghost use Rattle.std.specs.List.Sorted.{IsStrictlyIncreasing};
 ghost use Rattle.code_points.specs.Points.{points_of};
 ghost use Rattle.code_points.specs.Procedures.{procedures_of, AreModulesGood, AreProcsOf};
+ghost use Rattle.mdl_ast.specs.Small.{HasSmall};
 ghost use Rattle.mdl_check.specs.Checking.{IsAnswer};
+ghost use Rattle.mdl_check.specs.Sound.{IsSound};
 ghost use Rattle.mdl_check.specs.Spots.{spots};
 ghost use Rattle.mdl_parse.specs.Shipped.{shipped_conf};
+ghost use Rattle.mdl_plan.specs.Fitting.{HasLowObjects};
 ghost use Rattle.paradyn_top.specs.Found.{resources_of, IsFound, IsCheck};
 ghost use Rattle.pn_types.specs.Images.{IsImage};
 ghost use Rattle.refusals.specs.Refusals.{Comes};
@@ -38,6 +43,7 @@ fn resources(
     requires shipped { shipped.now ≡ shipped_conf }
     ensures tree { IfOk result (λ tree. tree ≡ resources_of image.now harts conf.now) }
     ensures named { IfOk result IsNamed }
+    ensures low { IfOk result HasLowObjects }
 {
     let prefixes = prefixes(alloc, conf, shipped)?;
     let objects = objects(alloc, image)?;
@@ -48,8 +54,11 @@ fn resources(
 fn checked(alloc: Global, conf: &Conf, shipped: &Conf, tree: &Tree) -> Result<Checked, Refusal>
     requires shipped { shipped.now ≡ shipped_conf }
     requires few { length (spots shipped.now.items conf.now.items) < 2 ^ 32 }
+    requires small_shipped { AllByRecursion HasSmall shipped.now.items }
+    requires small { AllByRecursion HasSmall conf.now.items }
     ensures checked { Comes result (IsCheck tree.now conf.now) }
     ensures few { IfOk result (λ checked. length checked.metrics < 2 ^ 32) }
+    ensures sound { IfOk result IsSound }
 {
     match check(alloc, conf, shipped, tree) {
         Ok(checked) => Ok(checked),
@@ -77,12 +86,17 @@ pub(crate) fn find(alloc: Global, image: &Image, harts: u32, conf: &Conf) -> Res
     requires modules { AreModulesGood image.now }
     requires harts { harts ≤ MAX_HARTS }
     requires few { length conf.now.items ≤ 1048576 }
+    requires small { AllByRecursion HasSmall conf.now.items }
     ensures found { Comes result (IsFound image.now harts conf.now) }
     ensures procs { IfOk result (λ found. AreProcsOf image.now found.procs) }
     // So each focus of the tree is read again from its text.
     ensures named { IfOk result (λ found. IsNamed found.tree) }
     ensures metrics { IfOk result (λ found. length found.checked.metrics < 2 ^ 32) }
     ensures points { IfOk result (λ found. length found.points < 2 ^ 32) }
+    // So each plan is cheap, and the tool's code measures it.
+    ensures sound { IfOk result (λ found. IsSound found.checked) }
+    ensures low { IfOk result (λ found. HasLowObjects found.tree) }
+    ensures ascending { IfOk result (λ found. IsStrictlyIncreasing (map (λ p. p.at) found.points)) }
 {
     let (procs, _) = procedures(alloc, image)?;
     let points = points(alloc, image, &procs)?;

@@ -1,7 +1,9 @@
 //! What commands read: programs and configurations.
 
 ghost use Rattle.std.specs.Prelude.{◌≡◌, ◌≤◌, IfOk, length};
+ghost use Rattle.std.specs.List.{AllByRecursion};
 ghost use Rattle.code_points.specs.Procedures.{AreModulesGood};
+ghost use Rattle.mdl_ast.specs.Small.{HasSmall};
 ghost use Rattle.paradyn_top.specs.Inputs.{IsProgramContent, IsProgram, IsElfFile, IsConfiguration, AreInputs};
 ghost use Rattle.paradyn_top.specs.Sights.{seen, Looks};
 ghost use Rattle.pn_types.specs.Images.{IsImage};
@@ -63,6 +65,7 @@ pub(crate) fn read_configuration<F: Files>(
 ) -> Result<Conf, Refusal>
     ensures configuration { Comes result (IsConfiguration (seen (F.holds files.old) (F.faults files.old) (F.faults files.new)) name.now) }
     ensures few { IfOk result (λ conf. length conf.items ≤ 1048576) }
+    ensures small { IfOk result (λ conf. AllByRecursion HasSmall conf.items) }
     ensures looks { Looks F.holds F.faults files.old files.new result }
 {
     let too_long = Fault::BadConf(ConfFault {
@@ -92,6 +95,7 @@ pub(crate) fn read_inputs<F: Files>(
     ensures image { IfOk result (λ inputs. IsImage inputs.image) }
     ensures modules { IfOk result (λ inputs. AreModulesGood inputs.image) }
     ensures few { IfOk result (λ inputs. length inputs.conf.items ≤ 1048576) }
+    ensures small { IfOk result (λ inputs. AllByRecursion HasSmall inputs.conf.items) }
     ensures looks { Looks F.holds F.faults files.old files.new result }
 {
     let image = read_program(alloc, files, program)?;

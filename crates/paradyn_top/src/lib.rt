@@ -3,7 +3,6 @@
 
 mod answering;
 mod configuration;
-mod costs;
 mod delivery;
 mod files;
 mod finding;

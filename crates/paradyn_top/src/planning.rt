@@ -5,6 +5,7 @@ ghost use Rattle.code_points.specs.Procedures.{AreProcsOf};
 ghost use Rattle.command_words.specs.Asked.{asked_plan};
 ghost use Rattle.command_words.specs.Requests.{HasRanges, make_plan};
 ghost use Rattle.mdl_ast.specs.declared.metric.Metric.{Metric};
+ghost use Rattle.mdl_check.specs.Sound.{IsSound};
 ghost use Rattle.paradyn_top.specs.Due.{IsPlanDue};
 ghost use Rattle.paradyn_top.specs.Plans.{metric_named, IsSelected, IsPlanAt, IsPlan};
 ghost use Rattle.paradyn_top.specs.Sights.{seen, Looks};
@@ -12,7 +13,6 @@ ghost use Rattle.pn_types.specs.Images.{IsImage};
 ghost use Rattle.refusals.specs.Refusals.{Comes};
 
 use crate::configuration::bad_configuration;
-use crate::costs::predicted;
 use crate::files::text_of;
 use crate::finding::{Found, find};
 use crate::inputs::read_inputs;
@@ -22,6 +22,7 @@ use mdl_ast::Metric;
 use mdl_plan::{PlanFault, plan};
 use outside::Files;
 use pn_types::{Focus, Image, PickCause, Text};
+use prim_code::predicted;
 use refusals::{ConfKind, Fault, Refusal};
 use report::plan_text;
 use std::alloc::Global;
@@ -68,6 +69,7 @@ fn plan_at(
     requires procs { length found.now.procs < 2 ^ 32 }
     requires points { length found.now.points < 2 ^ 32 }
     requires number { number < length found.now.checked.metrics }
+    requires sound { IsSound found.now.checked }
     ensures { (m : Metric) → slice_get found.now.checked.metrics number ≡ Some m → Comes result (IsPlanAt name.now found.now m focus.now) }
 {
     let text = found.tree.focus_text(alloc, focus)?;
@@ -106,6 +108,7 @@ fn plan_found(alloc: Global, request: &PlanRequest<'_>, found: &Found) -> Result
     requires procs { length found.now.procs < 2 ^ 32 }
     requires points { length found.now.points < 2 ^ 32 }
     requires metrics { length found.now.checked.metrics < 2 ^ 32 }
+    requires sound { IsSound found.now.checked }
     ensures { Comes result (IsPlan (asked_plan request.now) found.now) }
 {
     let metrics = found.checked.metrics.as_slice();

@@ -8,11 +8,11 @@ fewer : (timer : Bool) (s spare less v : ℕ) (bank : List ℕ) → less ≤ spa
 fewer false s spare less v bank l h = h
 fewer true s spare less v bank l h = let b = h.1 in (h.0, omega arith)
 
-stays : (timer : Bool) (s spare v : ℕ) (bank next : List ℕ) → ((q : ℕ) → s ≤ q → q < s + (if timer then 2 else 1) → slice_index next q ≡ slice_index bank q) → HasValue timer s spare v bank → HasValue timer s spare v next
+pub stays : (timer : Bool) (s spare v : ℕ) (bank next : List ℕ) → ((q : ℕ) → s ≤ q → q < s + (if timer then 2 else 1) → slice_index next q ≡ slice_index bank q) → HasValue timer s spare v bank → HasValue timer s spare v next
 stays false s spare v bank next e h = (e s (omega arith) (omega arith) ∙ h.0, h.1)
 stays true s spare v bank next e h = (e (s + 1) (omega arith) (omega arith) ∙ h.0, h.1)
 
-reads : (timer : Bool) (s ticks : ℕ) (bank next : List ℕ) → timer ≡ true → ((q : ℕ) → s ≤ q → q < s + (if timer then 2 else 1) → slice_index next q ≡ slice_index bank q) → read_place true s ticks next ≡ read_place true s ticks bank
+pub reads : (timer : Bool) (s ticks : ℕ) (bank next : List ℕ) → timer ≡ true → ((q : ℕ) → s ≤ q → q < s + (if timer then 2 else 1) → slice_index next q ≡ slice_index bank q) → read_place true s ticks next ≡ read_place true s ticks bank
 reads false s ticks bank next t e = absurd cc
 reads true s ticks bank next t e =
     ap (λ n. (n + running (slice_index next (s + 1)) ticks) % 2 ^ 64) (e s (omega arith) (omega arith))

@@ -5,6 +5,8 @@ use Rattle.pn_types.specs.declared.plan.Act.TheVariants.{Up, Down, Put, Start, S
 use Rattle.pn_types.specs.declared.plan.Cond.{Cond}
 use Rattle.pn_types.specs.declared.plan.Left.{Left}
 use Rattle.pn_types.specs.declared.plan.Left.TheVariants.{Counter, Argument}
+use Rattle.pn_types.specs.declared.plan.Plan.{Plan}
+use Rattle.pn_types.specs.declared.plan.Site.{Site}
 use Rattle.pn_types.specs.declared.plan.Stmt.{Stmt}
 
 abbrev pub act_words : Act → ℕ
@@ -28,3 +30,11 @@ stmt_words s = sum_by cond_words s.conds + act_words s.act
 -- How many words statements have, on whatever slots.
 abbrev pub word_count : List Stmt → ℕ
 word_count stmts = sum_by stmt_words stmts
+
+-- the mini block of a site: its statements, and one jump
+abbrev pub site_words : Site → ℕ
+site_words site = word_count site.stmts + 1
+
+-- The predicted cost of a plan: the words of its mini blocks.
+abbrev pub predicted : Plan → ℕ
+predicted plan = sum_by site_words plan.sites

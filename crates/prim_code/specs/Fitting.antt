@@ -1,12 +1,13 @@
--- Which statements fit a plan's variables.
-use Rattle.std.specs.Prelude.{◌≡◌, ℕ, ◌^◌, ◌<◌, Bool, true, false, Some, List, slice_get}
-use Rattle.std.specs.List.{AllByRecursion}
+-- Which statements fit a plan's variables, and which plans the tool's code measures.
+use Rattle.std.specs.Prelude.{◌≡◌, ℕ, ◌^◌, ◌<◌, ◌≤◌, ◌==◌, Bool, true, false, Some, List, length, slice_get}
+use Rattle.std.specs.List.{AllByRecursion, IsDistinct}
 use Rattle.std.specs.Option.{option_map}
 use Rattle.pn_types.specs.declared.plan.Act.{Act}
 use Rattle.pn_types.specs.declared.plan.Act.TheVariants.{Up, Down, Put, Start, Stop}
 use Rattle.pn_types.specs.declared.plan.Cond.{Cond}
 use Rattle.pn_types.specs.declared.plan.Left.{Left}
 use Rattle.pn_types.specs.declared.plan.Left.TheVariants.{Counter, Argument}
+use Rattle.pn_types.specs.declared.plan.Plan.{Plan}
 use Rattle.pn_types.specs.declared.plan.Stmt.{Stmt}
 use Rattle.pn_types.specs.declared.plan.Var.{Var}
 use Rattle.prim_code.specs.Counts.{stmt_words}
@@ -41,3 +42,11 @@ pub record IsStmtOf (vars : List Var) (s : Stmt) : Type 0 where
 -- All statements fit the variables.
 abbrev pub AreStmtsOf : List Var → List Stmt → Type 0
 AreStmtsOf vars stmts = AllByRecursion (IsStmtOf vars) stmts
+
+-- What a plan is within, so that its code measures it: values of 32 bits to begin with, and sites of different addresses, with at
+-- most 32 statements each, which fit the variables.
+pub record IsMeasurable (plan : Plan) : Type 0 where
+  pub narrow : AllByRecursion (λ v. v.initially < 2 ^ 32) plan.vars
+  pub apart : IsDistinct (λ a b. a.at == b.at) plan.sites
+  pub few : AllByRecursion (λ s. length s.stmts ≤ 32) plan.sites
+  pub fitting : AllByRecursion (λ s. AreStmtsOf plan.vars s.stmts) plan.sites

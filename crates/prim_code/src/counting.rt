@@ -4,7 +4,7 @@ ghost use Rattle.std.specs.Prelude.{◌≡◌, ◌<◌, ◌^◌, ℕ, List, leng
 ghost use Rattle.tramp_spec.specs.Statements.{body_of};
 ghost use Rattle.prim_code.specs.Counts as counts;
 
-use pn_types::{Act, Cond, Left, Stmt};
+use pn_types::{Act, Cond, Left, Plan, Site, Stmt};
 
 /// How many words an act has.
 fn act_words(act: Act) -> u32
@@ -50,6 +50,27 @@ pub fn words_of(stmts: &[Stmt]) -> u32
     let mut words = 0;
     for stmt in stmts {
         words += stmt_words(stmt);
+    }
+    words
+}
+
+/// How many words the mini block of a site has: those of its statements, and one jump.
+fn site_words(site: &Site) -> u64
+    requires { counts.site_words site.now < 2 ^ 32 }
+    ensures { result ≡ counts.site_words site.now }
+{
+    u64::from(words_of(site.stmts.as_slice())) + 1
+}
+
+/// The predicted cost of a plan: how many words its mini blocks have. They are fewer than 2^32, as those of each plan of a
+/// checked configuration.
+pub fn predicted(plan: &Plan) -> u64
+    requires { counts.predicted plan.now < 2 ^ 32 }
+    ensures { result ≡ counts.predicted plan.now }
+{
+    let mut words = 0;
+    for site in plan.sites.as_slice() {
+        words += site_words(site);
     }
     words
 }

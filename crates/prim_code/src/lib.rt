@@ -10,5 +10,5 @@ mod laws;
 mod words;
 
 pub use compiling::compile;
-pub use counting::words_of;
+pub use counting::{predicted, words_of};
 pub use laws::{standing_kept, statement_rows, statements_compile, statements_work};

@@ -11,7 +11,7 @@ fn add_head(
     out: &mut Vec<u8>,
     metric: &[u8],
     focus: &[u8],
-    words: u128,
+    words: u64,
 ) -> Result<(), NoMemory>
     ensures { OnOk result (out.new.items ≡ out.old.items ++ plan_head metric.now focus.now words) }
 {
@@ -203,7 +203,7 @@ pub fn plan_text(
     alloc: Global,
     metric: &[u8],
     focus: &[u8],
-    words: u128,
+    words: u64,
     plan: &Plan,
 ) -> Result<Vec<u8>, NoMemory>
     ensures { IfOk result (λ text. text.items ≡ plan_text metric.now focus.now words plan.now) }

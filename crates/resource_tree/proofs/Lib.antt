@@ -14,3 +14,4 @@ pub mod Copies
 pub mod Canonical
 pub mod InTree
 pub mod Named
+pub mod LowObjects

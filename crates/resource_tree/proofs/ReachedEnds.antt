@@ -1,5 +1,5 @@
 -- Where a scan has come the text ends or goes on, so that what it went along is the beginning of a focus text.
-use Rattle.std.proofs.Common.{◌≡◌, ℕ, suc, ◌+◌, ◌-◌, nat_le, Bool, true, false, List, [], ◌∷◌, ◌++◌, take, drop, refl, sym, ap, ◌∙◌, subst, arith, append_assoc, append-nil, zero}
+use Rattle.std.proofs.Common.{◌≡◌, ℕ, suc, nat_le, Bool, true, false, List, [], ◌∷◌, ◌++◌, take, drop, refl, sym, ap, ◌∙◌, subst, arith, append_assoc, append-nil, zero}
 use Rattle.std.proofs.lemmas.List.{take-append-drop}
 use borrow.Author.Tests.{ltb-true}
 use Rattle.pn_types.specs.declared.focus.Axis.{Axis}

@@ -1,6 +1,7 @@
 //! The tree of a program's resources.
 
-ghost use Rattle.std.specs.Prelude.{◌≡◌, ◌<◌, ◌≤◌, ◌^◌, IfOk, IfSome, OnOk, length, slice_get};
+ghost use Rattle.std.specs.Prelude.{◌≡◌, ◌<◌, ◌≤◌, ◌^◌, ℕ, IfOk, IfSome, OnOk, length, slice_get};
+ghost use Rattle.std.specs.List.{AllByRecursion};
 ghost use Rattle.std.specs.Option.{option_and_then};
 ghost use Rattle.resource_tree.specs.Resources.{tree_of};
 ghost use Rattle.resource_tree.specs.Names.{AreNamed, IsNamed};
@@ -46,6 +47,8 @@ impl Tree {
         requires objects { length objects.now < 2 ^ 32 }
         ensures tree { IfOk result (λ tree. tree ≡ tree_of procs.now objects.now harts prefixes.now) }
         ensures named { AreNamed procs.now → IfOk result IsNamed }
+        // Objects lie where their symbols do, so below what these are below.
+        ensures low { (n : ℕ) → AllByRecursion (λ s. s.at < n) objects.now → IfOk result (λ tree. AllByRecursion (λ o. o.at < n) tree.objects) }
     {
         Ok(Tree {
             code: CodeTree::of(alloc, procs)?,

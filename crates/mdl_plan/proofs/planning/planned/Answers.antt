@@ -9,8 +9,8 @@ use Rattle.mdl_plan.specs.declared.fault.PlanFault.{PlanFault}
 use Rattle.mdl_plan.proofs.Outcomes.{scene_sites, many_sites, too_many, refused, done}
 use Rattle.mdl_plan.proofs.planning.planned.Goals as goal
 
-pub returns-then-sites-gt-MOST_SITES : goal.returns-then-sites-gt-MOST_SITES
-returns-then-sites-gt-MOST_SITES c =
+pub returns-then-sites-gt-MOST_SITES-clause-answer : goal.returns-then-sites-gt-MOST_SITES-clause-answer
+returns-then-sites-gt-MOST_SITES-clause-answer c =
     let s = c.in_ok-planner.planner in
     let e = c.in_ok-planner.ensures in
     let scene = scene_of (part c.args.tree.now c.args.focus.now) c.args.procs.now c.args.metric.now c.args.active.now in
@@ -19,8 +19,8 @@ returns-then-sites-gt-MOST_SITES c =
     (scene_sites scene s.terms s.pieces.items s.table points e.pieces e.table e.terms)
     (many_sites s.terms s.pieces.items s.table points ∙ sym c.count-sites.ensures) (omega arith)
 
-pub returns-in_err-sites : goal.returns-in_err-sites
-returns-in_err-sites c =
+pub returns-in_err-sites-clause-answer : goal.returns-in_err-sites-clause-answer
+returns-in_err-sites-clause-answer c =
     let s = c.in_ok-planner.planner in
     let e = c.in_ok-planner.ensures in
     let scene = scene_of (part c.args.tree.now c.args.focus.now) c.args.procs.now c.args.metric.now c.args.active.now in
@@ -31,8 +31,8 @@ returns-in_err-sites c =
     (scene_sites scene s.terms s.pieces.items s.table points e.pieces e.table e.terms)
     (many_sites s.terms s.pieces.items s.table points ∙ sym c.count-sites.ensures) (omega arith) c.in_err-sites.ensures.refused
 
-pub returns : goal.returns
-returns c =
+pub returns-clause-answer : goal.returns-clause-answer
+returns-clause-answer c =
     let s = c.in_ok-planner.planner in
     let e = c.in_ok-planner.ensures in
     let scene = scene_of (part c.args.tree.now c.args.focus.now) c.args.procs.now c.args.metric.now c.args.active.now in
@@ -40,5 +40,5 @@ returns c =
     let same : sites_with s.terms s.pieces.items s.table points ≡ sites_of scene points = scene_sites scene s.terms s.pieces.items s.table points e.pieces e.table e.terms in
     done (vars_of c.args.metric.now c.args.active.now) (sites_with s.terms s.pieces.items s.table points) (sites_of scene points) c.count-sites.result same
     (many_sites s.terms s.pieces.items s.table points ∙ sym c.count-sites.ensures) (omega arith) c.in_ok-sites.ensures.few
-    ∙ ap (λ (vars : List Var). let r : Result Plan PlanFault = Ok (record { vars = vars; sites = sites_of scene points }) in r) (sym (c.from_vec.ensures ∙ c.in_ok-vars.ensures))
+    ∙ ap (λ (vars : List Var). let r : Result Plan PlanFault = Ok (record { vars = vars; sites = sites_of scene points }) in r) (sym (c.from_vec.ensures ∙ c.in_ok-vars.ensures.vars))
     ∙ ap (λ (sites : List Site). let r : Result Plan PlanFault = Ok (record { vars = c.from_vec.result; sites = sites }) in r) (sym (c.from_vec-2.ensures ∙ c.in_ok-sites.ensures.all ∙ same))

@@ -23,7 +23,7 @@ next_multiple_of-requires-clause-fits c =
 pub invariant_of-text : goal.invariant_of-text
 invariant_of-text c =
     let end = words_end c.args.image.now c.in_ok-words.words.items c.requires.image (c.in_ok-words.ensures ∙ ap words_of c.text_bytes.ensures) in
-    let slots = ap length c.in_ok-own_slots.ensures ∙ length-map c.deref.result.now own ∙ ap length c.deref.ensures.value in
+    let slots = ap length c.in_ok-own_slots.ensures ∙ length-map c.deref-2.result.now own ∙ ap length c.deref-2.ensures.value in
     record { ends = omega arith }
 
 pub invariant_of-tool : goal.invariant_of-tool
@@ -43,19 +43,19 @@ invariant_of-result c =
     let behind : c.next_multiple_of.result ≡ (c.args.image.now.text_at + 4 * length c.in_ok-words.words.items + 4095) / 4096 * 4096 = omega arith in
     let uses = ap length c.in_ok-uses.ensures ∙ length-replicate {A = WordUse} c.args.room Unwritten in
     record {
-      slots = ap length c.in_ok-own_slots.ensures ∙ length-map c.deref.result.now own ∙ ap length c.deref.ensures.value;
+      slots = ap length c.in_ok-own_slots.ensures ∙ length-map c.deref-2.result.now own ∙ ap length c.deref-2.ensures.value;
       behind = behind;
       room = ap (λ n. 4 * n) blank ∙ c.requires.room;
       used = uses ∙ sym blank;
       blank = subst (λ (ws : List MarkedWord). AreBlank ws c.in_ok-uses.uses.items) (sym c.in_ok-blank_slots.ensures) (subst (λ (us : List WordUse). AreBlank (replicate c.args.room (tool 0)) us) (sym c.in_ok-uses.ensures) (blank-first c.args.room));
     }
 
-pub returns : goal.returns
-returns c =
+pub returns-clause-first : goal.returns-clause-first
+returns-clause-first c =
     let image = c.args.image.now in
     let ws = c.in_ok-words.words.items in
     let at = c.next_multiple_of.result in
-    let own_words = c.in_ok-own_slots.ensures ∙ ap (map own) c.deref.ensures.value in
+    let own_words = c.in_ok-own_slots.ensures ∙ ap (map own) c.deref-2.ensures.value in
     let read = c.in_ok-words.ensures ∙ ap words_of c.text_bytes.ensures in
     same_stored (record { at = image.text_at; words = ws }) _ _ _ _
     (ap (λ (t : List MarkedWord). code_of image.text_at t at c.in_ok-blank_slots.field-0.items c.in_ok-uses.uses.items) own_words

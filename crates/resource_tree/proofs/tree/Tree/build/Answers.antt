@@ -1,7 +1,9 @@
-use Rattle.std.proofs.Common.{◌≡◌, sym, subst, length, List, ℕ}
+use Rattle.std.proofs.Common.{◌≡◌, ◌<◌, sym, subst, length, List, ℕ}
+use Rattle.std.specs.List.{AllByRecursion}
 use Rattle.resource_tree.specs.Names.{IsNamed}
 use Rattle.resource_tree.specs.Resources.{CodeNodes, ObjectNode, HasMembersBelow, code_of, objects_of}
 use Rattle.resource_tree.proofs.InTree.{members_of}
+use Rattle.resource_tree.proofs.LowObjects.{objects_low}
 use Rattle.resource_tree.proofs.Named.{tree_named}
 use Rattle.resource_tree.proofs.tree.Tree.build.Goals as goal
 
@@ -20,3 +22,7 @@ pub returns-clause-named : goal.returns-clause-named
 returns-clause-named c named =
     same c.in_ok-of.field-0 (code_of c.args.procs.now) c.in_ok-of-2.field-0 (objects_of c.args.prefixes.now c.args.objects.now) c.args.harts c.in_ok-of.ensures c.in_ok-of-2.ensures
     (tree_named c.args.procs.now c.args.objects.now c.args.harts c.args.prefixes.now named)
+
+pub returns-clause-low : goal.returns-clause-low
+returns-clause-low c n low =
+    subst (λ (os : List ObjectNode). AllByRecursion (λ o. o.at < n) os) (sym c.in_ok-of-2.ensures) (objects_low n c.args.prefixes.now c.args.objects.now low)

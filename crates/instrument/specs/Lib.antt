@@ -1,0 +1,16 @@
+pub mod Books
+pub mod Agendas
+pub mod Ledgers
+pub mod Spaces
+pub mod Rosters
+pub mod ToolTexts
+pub mod Shown
+pub mod Placers
+pub mod Handing
+pub mod Fits
+pub mod Admission
+pub mod Placements
+pub mod Scenes
+pub mod Laws
+pub mod Numbers
+pub mod ComesAndGoes

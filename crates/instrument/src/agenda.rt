@@ -1,0 +1,86 @@
+ghost use Rattle.std.specs.Prelude.{◌≡◌, ◌<◌, [], OnErr, OnOk};
+ghost use Rattle.instrument.specs.Agendas as lists;
+ghost use Rattle.instrument.specs.Books.{first_free};
+
+use crate::entry::Entry;
+use crate::freeing::{FreeAt, find_free};
+use pn_types::NoMemory;
+use std::alloc::Global;
+use std::collections::VecDeque;
+use std::marker::Model;
+
+/// What is to be done in the machine, in order.
+#[derive(Drop)]
+pub struct Agenda {
+    entries: VecDeque<Entry>,
+    // How many more entries need no memory.
+    room: usize,
+}
+
+impl Model for Agenda {
+    ghost use Rattle.std.specs.Prelude.{◌+◌, ◌≤◌};
+    ghost use Rattle.std.specs.VecDeque.{deque_capacity, deque_len};
+    ghost use Rattle.instrument.specs.Agendas.{AgendaData};
+
+    ghost Value = { AgendaData };
+
+    ghost view = { λ a. record { entries = a.entries.items; room = a.room } };
+
+    ghost invariant = { λ a. deque_len a.entries + a.room ≤ deque_capacity a.entries };
+}
+
+impl Agenda {
+    /// An agenda with no entries.
+    pub fn new(alloc: Global) -> Agenda
+        ensures { result ≡ lists.no_entries }
+    {
+        Agenda {
+            entries: VecDeque::new(alloc),
+            room: 0,
+        }
+    }
+
+    /// Takes the memory of at least `count` more entries.
+    ///
+    /// # Errors
+    ///
+    /// `NoMemory` where memory is wanting. Then nothing has changed.
+    pub fn reserve(&mut self, count: usize) -> Result<(), NoMemory>
+        ensures ok { OnOk result (self.new ≡ lists.with_room count self.old) }
+        ensures err { OnErr result (self.new ≡ self.old) }
+    {
+        let room = self.room.max(count);
+        self.entries.reserve(room)?;
+        self.room = room;
+        Ok(())
+    }
+
+    /// Puts an entry at the back.
+    pub fn push(&mut self, entry: Entry)
+        requires { 0 < self.old.room }
+        ensures { self.new ≡ lists.with_entry entry self.old }
+    {
+        self.entries.push_back_reserved(entry);
+        self.room -= 1;
+    }
+
+    /// Takes the first entry.
+    pub fn take_first(&mut self) -> Option<Entry>
+        ensures entry { result ≡ lists.first_entry self.old.entries }
+        ensures taken { self.new ≡ lists.without_first self.old }
+    {
+        let entry = self.entries.pop_front()?;
+        self.room += 1;
+        Some(entry)
+    }
+    /// Takes the first Free before which no unlinking of its point stands, and answers its point.
+    pub fn take_free(&mut self) -> Option<u64>
+        ensures point { result ≡ lists.point_of (first_free [] self.old.entries) }
+        ensures taken { self.new ≡ lists.without_free self.old }
+    {
+        let FreeAt { place, point } = find_free(&self.entries)?;
+        let _free = self.entries.remove(place);
+        self.room += 1;
+        Some(point)
+    }
+}

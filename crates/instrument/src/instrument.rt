@@ -1,0 +1,13 @@
+use crate::number::State;
+use pn_types::Placed;
+
+/// An instrument that isn't gone.
+#[derive(Drop, Debug)]
+pub struct Instrument {
+    /// Its number among all that were admitted, from 0.
+    pub no: u64,
+    /// Where it acts.
+    pub placed: Placed,
+    /// Where it is on its way.
+    pub state: State,
+}

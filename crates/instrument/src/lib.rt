@@ -1,0 +1,32 @@
+//! Instruments: the rooms of their blocks, their slots, and the agenda of what is to be done for them in the patched machine.
+#![tactic(auto)]
+
+mod agenda;
+mod blocks;
+mod costs;
+mod entry;
+mod event;
+mod freeing;
+mod instrument;
+mod laws;
+mod ledger;
+mod number;
+mod placer;
+mod placing;
+mod program;
+mod room;
+mod rooms;
+mod roster;
+mod slots;
+mod tool_text;
+
+pub use entry::Entry;
+pub use event::Event;
+pub use instrument::Instrument;
+pub use laws::{
+    acts_are_legal, admissions_tell, armed_stays_in_force, comes_and_goes, linked_is_placed,
+    rooms_and_slots_apart, states_stay,
+};
+pub use number::{InstrumentNo, Refused, State};
+pub use placer::Placer;
+pub use room::{Hold, Room};

@@ -1,0 +1,139 @@
+ghost use Rattle.std.specs.Prelude.{◌≡◌, ◌+◌, ◌<◌, ◌≤◌, ◌⊎◌, IfOk, IfSome, Some};
+ghost use Rattle.std.specs.Option.{option_map};
+ghost use Rattle.pn_types.specs.Images.{IsImage};
+ghost use Rattle.instrument.specs.Laws.{IsPlaced};
+ghost use Rattle.instrument.specs.Placements as placements;
+ghost use Rattle.instrument.specs.Placers.{new_placer};
+ghost use Rattle.instrument.specs.Shown.{shown};
+ghost use Rattle.instrument.specs.declared.instrument.Instrument.{Instrument};
+ghost use Rattle.instrument.specs.declared.number.State.TheVariants.{Placing, Armed, Gone};
+
+use crate::event::Event;
+use crate::number::{InstrumentNo, State};
+use crate::roster::Roster;
+use crate::tool_text::ToolText;
+use pn_types::{Image, MAX_INSTRUMENTS, NoMemory, Placed};
+use std::alloc::Global;
+use std::marker::Model;
+
+/// The instruments of a patched machine: where they act, and what is to be done for them there. Contracts see the definitions'
+/// placements, and how many more entries of the agenda need no memory beside those of drops.
+#[derive(Drop)]
+pub struct Placer {
+    text: ToolText,
+    roster: Roster,
+    // How many instruments are allowed at once, and how many were admitted ever.
+    limit: u32,
+    count: u64,
+}
+
+impl Model for Placer {
+    ghost use Rattle.instrument.specs.Placers.{PlacerData, placer_data};
+
+    ghost Value = { PlacerData };
+
+    ghost view = { λ p. placer_data p.text p.roster p.limit p.count };
+}
+
+impl Placer {
+    /// No instruments, for the program of an image. So many may be there at once.
+    ///
+    /// # Errors
+    ///
+    /// `NoMemory` where memory is wanting.
+    pub fn new(alloc: Global, image: &Image, instruments: u32) -> Result<Placer, NoMemory>
+        requires image { IsImage image.now }
+        requires some { 0 < instruments }
+        requires few { instruments ≤ MAX_INSTRUMENTS }
+        ensures { IfOk result (λ placer. placer ≡ new_placer image.now instruments) }
+    {
+        Ok(Placer {
+            text: ToolText::new(alloc, image)?,
+            roster: Roster::new(alloc)?,
+            limit: instruments,
+            count: 0,
+        })
+    }
+
+    /// Where an instrument is on its way.
+    pub fn state(&self, number: InstrumentNo) -> State
+        ensures { result ≡ placements.state_of self.now.placements number.n }
+    {
+        self.roster.state(number)
+    }
+
+    /// Where an instrument acts that isn't gone.
+    pub fn placed(&self, number: InstrumentNo) -> &Placed
+        requires { placements.state_of self.now.placements number.n ≡ Gone → ⊥ }
+        ensures { option_map (λ i. i.placed) (placements.instrument_at self.now.placements number.n) ≡ Some result.now }
+    {
+        match self.roster.placed(number) {
+            Some(placed) => placed,
+            None => unreachable!(),
+        }
+    }
+
+    /// The instrument is armed from now on. It was being placed, and all entries of its placing were handed out.
+    pub fn armed(&mut self, number: InstrumentNo)
+        requires placing { placements.state_of self.old.placements number.n ≡ Placing }
+        requires placed { (i : Instrument) → placements.instrument_at self.old.placements number.n ≡ Some i → IsPlaced self.old.placements i }
+        ensures placements { self.new.placements ≡ placements.armed number.n self.old.placements }
+        ensures entries { self.new.entries ≡ self.old.entries }
+    {
+        self.roster.set_state(number, State::Armed);
+    }
+
+    /// Drops an instrument that wasn't dropped: the unlinking of its sites is put into the agenda, in the order of their placing.
+    pub fn drop(&mut self, number: InstrumentNo)
+        requires { (placements.state_of self.old.placements number.n ≡ Placing) ⊎ (placements.state_of self.old.placements number.n ≡ Armed) }
+        ensures placements { self.new.placements ≡ placements.dropped number.n self.old.placements }
+        ensures entries { self.old.entries ≤ self.new.entries }
+    {
+        self.text.drop_sites(number.n);
+        self.roster.set_state(number, State::Leaving);
+        self.roster.settle(self.text.rooms());
+    }
+
+    /// Hands out the first entry of the agenda: None exactly where the agenda is empty.
+    pub fn next(&mut self) -> Option<Event>
+        ensures event { result ≡ option_map shown (placements.front self.old.placements) }
+        ensures placements { self.new.placements ≡ placements.behind self.old.placements }
+        ensures entries { self.old.entries ≤ self.new.entries }
+        ensures room { IfSome result (λ event. self.old.entries < self.new.entries) }
+    {
+        match self.text.hand_out() {
+            Some(entry) => Some(Event::of(entry)),
+            None => None,
+        }
+    }
+
+    /// Takes out the first Free before which no unlinking of its point stands, and answers its point: None exactly where there is
+    /// no such Free.
+    pub fn next_free(&mut self) -> Option<u64>
+        ensures point { result ≡ placements.free_front self.old.placements }
+        ensures placements { self.new.placements ≡ placements.free_behind self.old.placements }
+        ensures entries { self.old.entries ≤ self.new.entries }
+        ensures room { IfSome result (λ point. self.old.entries < self.new.entries) }
+    {
+        self.text.take_free()
+    }
+
+    /// Puts a Free that was refused at the back of the agenda. An entry was taken before, whose place it gets.
+    pub fn put_back(&mut self, point: u64)
+        requires { 0 < self.old.entries }
+        ensures placements { self.new.placements ≡ placements.put_back point self.old.placements }
+        ensures entries { self.new.entries + 1 ≡ self.old.entries }
+    {
+        self.text.put_back(point);
+    }
+
+    /// Gives back the rooms of the point's blocks whose unlinking was handed out. An instrument that was dropped is gone with its
+    /// last mini block.
+    pub fn freed(&mut self, point: u64)
+        ensures placements { self.new.placements ≡ placements.freed point self.old.placements }
+        ensures entries { self.old.entries ≤ self.new.entries }
+    {
+        self.text.free(point);
+        self.roster.settle(self.text.rooms());
+    }
+}

@@ -1,0 +1,139 @@
+//! The instruments that aren't gone, by number.
+
+ghost use Rattle.std.specs.Prelude.{◌≡◌, ◌+◌, ◌==◌, ◌<◌, ◌≤◌, ◌++◌, ◌∷◌, [], IfOk, IfSome, OnErr, OnOk, None, Some, filter, find, length, map, vec_capacity, vec_len};
+ghost use Rattle.std.specs.Option.{option_copied, option_map};
+ghost use Rattle.instrument.specs.Fits.{slots_for};
+ghost use Rattle.instrument.specs.Placements as placements;
+ghost use Rattle.instrument.specs.Rosters as rosters;
+
+use crate::instrument::Instrument;
+use crate::number::{InstrumentNo, State};
+use crate::room::Room;
+use crate::slots::{give_gone, is_here};
+use pn_types::{BANK_LEN, FIRST_SLOT, NoMemory, Placed};
+use std::alloc::Global;
+use std::marker::Model;
+use tool_space::Space;
+
+/// The instrument of a number.
+fn find_instrument(instruments: &[Instrument], number: InstrumentNo) -> Option<&Instrument>
+    ensures { option_copied result ≡ find (λ i. i.no == number.n) instruments.now }
+{
+    for instrument in instruments {
+        if instrument.no == number.n {
+            return Some(instrument);
+        }
+    }
+    None
+}
+
+/// The state of an instrument once the one of a number is in a state.
+fn state_after(instrument: &Instrument, number: InstrumentNo, state: State) -> State
+    ensures { result ≡ (placements.with_state number.n state instrument.now).state }
+{
+    if instrument.no == number.n {
+        state
+    } else {
+        instrument.state
+    }
+}
+
+/// The instrument of a number is in a state from now on.
+fn set_state(instruments: &mut [Instrument], number: InstrumentNo, state: State)
+    ensures { instruments.new ≡ map (placements.with_state number.n state) instruments.old }
+{
+    for place in 0..instruments.len() {
+        instruments[place].state = state_after(&instruments[place], number, state);
+    }
+}
+
+/// Leaves out the instruments that are gone.
+fn keep_here(instruments: &mut Vec<Instrument>, rooms: &[Room])
+    ensures instruments { instruments.new.items ≡ filter (placements.is_here rooms.now) instruments.old.items }
+    ensures no_more { vec_len instruments.new ≤ vec_len instruments.old }
+    ensures capacity { vec_capacity instruments.new ≡ vec_capacity instruments.old }
+{
+    instruments.retain(|instrument| is_here(instrument, rooms));
+}
+
+/// The instruments that aren't gone, and the slots beside theirs.
+#[derive(Drop)]
+pub struct Roster {
+    instruments: Vec<Instrument>,
+    // Which slots are free.
+    slots: Space,
+    // How many more instruments need no memory.
+    room: usize,
+}
+
+impl Model for Roster {
+    ghost use Rattle.std.specs.Prelude.{vec_capacity, vec_len};
+    ghost use Rattle.instrument.specs.Rosters.{RosterData};
+
+    ghost Value = { RosterData };
+
+    ghost use Rattle.instrument.specs.Spaces.{IsRoster};
+
+    ghost view = { λ r. record { instruments = r.instruments.items; room = r.room; takes = r.slots.takes } };
+
+    ghost invariant = { λ r. IsRoster r.slots r.instruments.items (vec_len r.instruments) (vec_capacity r.instruments) r.room };
+}
+
+impl Roster {
+    /// A roster with no instruments, on which all slots are free.
+    ///
+    /// # Errors
+    ///
+    /// `NoMemory` where memory is wanting.
+    pub fn new(alloc: Global) -> Result<Roster, NoMemory>
+        ensures { IfOk result (λ roster. roster ≡ rosters.no_roster) }
+    {
+        Ok(Roster {
+            instruments: Vec::new(alloc),
+            slots: Space::new(alloc, u64::from(FIRST_SLOT), BANK_LEN - FIRST_SLOT)?,
+            room: 0,
+        })
+    }
+
+    /// The instruments, in the order of their admission.
+    pub fn instruments(&self) -> &[Instrument]
+        ensures { result.now ≡ self.now.instruments }
+    {
+        &self.instruments
+    }
+
+    /// The state of an instrument. One that isn't listed is gone.
+    pub fn state(&self, number: InstrumentNo) -> State
+        ensures { result ≡ placements.state_in (find (λ i. i.no == number.n) self.now.instruments) }
+    {
+        match find_instrument(&self.instruments, number) {
+            None => State::Gone,
+            Some(instrument) => instrument.state,
+        }
+    }
+
+    /// Where an instrument that isn't gone acts.
+    pub fn placed(&self, number: InstrumentNo) -> Option<&Placed>
+        ensures { option_copied result ≡ option_map (λ i. i.placed) (find (λ i. i.no == number.n) self.now.instruments) }
+    {
+        match find_instrument(&self.instruments, number) {
+            None => None,
+            Some(instrument) => Some(&instrument.placed),
+        }
+    }
+
+    /// The instrument of a number is in a state from now on.
+    pub fn set_state(&mut self, number: InstrumentNo, state: State)
+        ensures { self.new ≡ record self.old { instruments = map (placements.with_state number.n state) self.old.instruments } }
+    {
+        set_state(&mut self.instruments, number, state);
+    }
+
+    /// Leaves out the instruments that are gone, and gives back their slots. `rooms` are the rooms of all blocks.
+    pub fn settle(&mut self, rooms: &[Room])
+        ensures { self.new ≡ record self.old { instruments = filter (placements.is_here rooms.now) self.old.instruments } }
+    {
+        give_gone(&mut self.slots, &self.instruments, rooms);
+        keep_here(&mut self.instruments, rooms);
+    }
+}

@@ -1,0 +1,70 @@
+//! The slots of instruments.
+
+ghost use Rattle.std.specs.Prelude.{◌≡◌, ◌==◌, ◌^◌, ◌<◌, filter, nat_lt, if◌then◌else◌};
+ghost use Rattle.std.specs.List.{list_any};
+ghost use Rattle.tool_space.specs.Rooms.{IsTaken, after_give};
+ghost use Rattle.tramp_spec.specs.Banks.{first_slot};
+ghost use Rattle.instrument.specs.Admission.{slot_count};
+ghost use Rattle.instrument.specs.Placements as placements;
+ghost use Rattle.instrument.specs.Spaces.{AreSlotsOf, first_or, slots_of_placed};
+
+use crate::costs::slot_count;
+use crate::instrument::Instrument;
+use crate::room::Room;
+use pn_types::{FIRST_SLOT, Placed};
+use tool_space::Space;
+
+/// A mini block of the instrument has a room.
+fn has_room(rooms: &[Room], no: u64) -> bool
+    ensures { result ≡ list_any (placements.is_mini_room_of no) rooms.now }
+{
+    for room in rooms {
+        if !room.base && room.owner == no {
+            return true;
+        }
+    }
+    false
+}
+
+/// The instrument isn't gone: it wasn't dropped, or a mini block of it has a room.
+pub fn is_here(instrument: &Instrument, rooms: &[Room]) -> bool
+    ensures { result ≡ placements.is_here rooms.now instrument.now }
+{
+    !instrument.state.is_leaving() || has_room(rooms, instrument.no)
+}
+
+/// The first slot of an instrument.
+fn first_slot_of(placed: &Placed) -> u32
+    ensures { result ≡ first_or first_slot placed.now.slots }
+{
+    match placed.slots.as_slice().first() {
+        Some(slot) => *slot,
+        None => FIRST_SLOT,
+    }
+}
+
+/// Gives back the slots of an instrument, if it has any.
+fn give_slots(slots: &mut Space, placed: &Placed)
+    requires few { slot_count placed.now.vars < 2 ^ 32 }
+    requires reserved { 0 < slot_count placed.now.vars → 0 < slots.old.gives }
+    requires taken { 0 < slot_count placed.now.vars → IsTaken slots.old (slots_of_placed placed.now).at (slots_of_placed placed.now).len }
+    ensures { slots.new ≡ (if nat_lt 0 (slot_count placed.now.vars) then after_give slots.old (slots_of_placed placed.now).at (slots_of_placed placed.now).len else slots.old) }
+{
+    let count = slot_count(placed.vars.as_slice());
+    if count > 0 {
+        slots.give(u64::from(first_slot_of(placed)), count);
+    }
+}
+
+/// Gives back the slots of the instruments that are gone.
+pub fn give_gone(slots: &mut Space, instruments: &[Instrument], rooms: &[Room])
+    requires { AreSlotsOf slots.old instruments.now }
+    ensures slots { AreSlotsOf slots.new (filter (placements.is_here rooms.now) instruments.now) }
+    ensures takes { slots.new.takes ≡ slots.old.takes }
+{
+    for instrument in instruments {
+        if !is_here(instrument, rooms) {
+            give_slots(slots, &instrument.placed);
+        }
+    }
+}

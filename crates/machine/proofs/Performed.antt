@@ -1,0 +1,92 @@
+-- What the operations of slots leave.
+use Rattle.std.proofs.Common.{◌≡◌, ℕ, ◌<◌, List, Option, Some, None, refl, sym, ap, ◌∙◌, subst, ⊎_elim, inl, inr}
+use Rattle.std.specs.Prelude.{◌⊎◌, IfSome}
+use Rattle.rv_word.specs.Exec.{Prog, Outcome, Stops, Goes, Done, done, exec_decoded, exec_of}
+use Rattle.rv_word.specs.Table.{decode_of}
+use Rattle.rv_word.specs.Words.{HasWord}
+use Rattle.rv_word.specs.declared.instr.Instr.{Instr}
+use Rattle.rv_word.specs.declared.outcome.Cause.{Cause}
+use Rattle.rv_exec.specs.Flat.{instr_of}
+use Rattle.rv_exec.specs.Gives.{next_after}
+use Rattle.rv_exec.specs.declared.flat.Flat.{Flat}
+use Rattle.tramp_spec.specs.Banks.{bank_len}
+use Rattle.tramp_spec.specs.declared.mark.Mark.{Mark}
+use Rattle.tramp_spec.specs.declared.mark.Mark.TheVariants.{Own, Enter, Tool, Leave}
+use Rattle.tramp_spec.specs.declared.mark.MarkedWord.{MarkedWord}
+use Rattle.code_store.specs.Operations.{Does, IsOperationBy, IsOperationOf, done_as, stands_as}
+use Rattle.code_store.specs.declared.operation.Operation.TheVariants.{Run, LoadBank, StoreBank, NoAccess}
+use Rattle.machine.specs.Performing.{Performs, PerformsBy, PerformsOther, stood_after, bench_from}
+
+-- ---- the numbers of an operation fit
+
+run_fits_by : (m : Mark) (i : Option Instr) (flat : Flat) → IsOperationBy m i (Run flat) → (instr_of flat ≡ i) × IfSome i HasWord
+run_fits_by Own i flat o = o
+run_fits_by Enter i flat o = (o.0, o.1)
+run_fits_by Tool i flat o = (o.0, o.1)
+run_fits_by Leave i flat o = (o.0, o.1)
+
+pub run_fits : (w : MarkedWord) (flat : Flat) → IsOperationOf w (Run flat) → IfSome (instr_of flat) HasWord
+run_fits w flat o = let f = run_fits_by w.mark (decode_of w.word) flat o in subst (λ i. IfSome i HasWord) (sym f.0) f.1
+
+load_fits_by : (m : Mark) (i : Option Instr) (rd rs1 offset : ℕ) → IsOperationBy m i (LoadBank rd rs1 offset) → (rd < 32) × (rs1 < 32)
+load_fits_by Own i rd rs1 offset o = absurd o
+load_fits_by Enter i rd rs1 offset o = (o.0, o.1)
+load_fits_by Tool i rd rs1 offset o = (o.0, o.1)
+load_fits_by Leave i rd rs1 offset o = (o.0, o.1)
+
+pub load_fits : (w : MarkedWord) (rd rs1 offset : ℕ) → IsOperationOf w (LoadBank rd rs1 offset) → (rd < 32) × (rs1 < 32)
+load_fits w rd rs1 offset o = load_fits_by w.mark (decode_of w.word) rd rs1 offset o
+
+store_fits_by : (m : Mark) (i : Option Instr) (rs1 rs2 offset : ℕ) → IsOperationBy m i (StoreBank rs1 rs2 offset) → (rs1 < 32) × (rs2 < 32)
+store_fits_by Own i rs1 rs2 offset o = absurd o
+store_fits_by Enter i rs1 rs2 offset o = (o.0, o.1)
+store_fits_by Tool i rs1 rs2 offset o = (o.0, o.1)
+store_fits_by Leave i rs1 rs2 offset o = (o.0, o.1)
+
+pub store_fits : (w : MarkedWord) (rs1 rs2 offset : ℕ) → IsOperationOf w (StoreBank rs1 rs2 offset) → (rs1 < 32) × (rs2 < 32)
+store_fits w rs1 rs2 offset o = store_fits_by w.mark (decode_of w.word) rs1 rs2 offset o
+
+access_fits_by : (m : Mark) (i : Option Instr) (rs1 offset : ℕ) → IsOperationBy m i (NoAccess rs1 offset) → rs1 < 32
+access_fits_by Own i rs1 offset o = absurd o
+access_fits_by Enter i rs1 offset o = o.0
+access_fits_by Tool i rs1 offset o = o.0
+access_fits_by Leave i rs1 offset o = o.0
+
+pub access_fits : (w : MarkedWord) (rs1 offset : ℕ) → IsOperationOf w (NoAccess rs1 offset) → rs1 < 32
+access_fits w rs1 offset o = access_fits_by w.mark (decode_of w.word) rs1 offset o
+
+-- ---- a word that does what it does in the program
+
+left_at_stop : (o : Outcome) (regs : List ℕ) (p : Prog) (stop : Option Cause) (pc : ℕ) (new_regs : List ℕ) (new_p : Prog) → done o regs p ≡ record { next = next_after stop pc; regs = new_regs; prog = new_p } → (stop ≡ None) ⊎ (new_regs ≡ regs)
+left_at_stop (Stops cause) regs p stop pc new_regs new_p e = inr (sym (ap (λ (d : Done). d.regs) e))
+left_at_stop (Goes at others q) regs p None pc new_regs new_p e = inl refl
+left_at_stop (Goes at others q) regs p (Some cause) pc new_regs new_p e = let no = ap (λ (d : Done). d.next) e in absurd cc
+
+stood_is : (stop : Option Cause) (pc : ℕ) (regs bank : List ℕ) → stands_as (next_after stop pc) regs bank ≡ stood_after stop pc (bench_from regs bank)
+stood_is None pc regs bank = refl
+stood_is (Some cause) pc regs bank = refl
+
+runs_other : (n word : ℕ) (flat : Flat) (h ticks pc : ℕ) (regs bank : List ℕ) (p : Prog) (stop : Option Cause) (new_pc : ℕ) (new_regs : List ℕ) (new_p : Prog) → Does n (decode_of word) (Run flat)
+    → done (exec_of word pc h regs p) regs p ≡ record { next = next_after stop new_pc; regs = new_regs; prog = new_p }
+    → PerformsOther n word ticks pc regs bank p stop new_pc new_regs bank new_p
+runs_other n word flat h ticks pc regs bank p stop new_pc new_regs new_p o e =
+    record {
+      step = o.2.step h ticks pc (bench_from regs bank) p ∙ (ap (λ (d : Done). done_as d bank) e ∙ stood_is stop new_pc new_regs bank);
+      shares = sym (ap (λ (d : Done). d.prog) e) ∙ o.2.prog h pc regs p;
+      stays = ⊎_elim inl (λ same. inr (same, refl)) (left_at_stop (exec_of word pc h regs p) regs p stop new_pc new_regs new_p e);
+    }
+
+runs_by : (m : Mark) (word : ℕ) (flat : Flat) (h ticks pc : ℕ) (regs bank : List ℕ) (p : Prog) (stop : Option Cause) (new_pc : ℕ) (new_regs : List ℕ) (new_p : Prog) → IsOperationBy m (decode_of word) (Run flat)
+    → done (exec_of word pc h regs p) regs p ≡ record { next = next_after stop new_pc; regs = new_regs; prog = new_p }
+    → PerformsBy m word h ticks pc regs bank p stop new_pc new_regs bank new_p
+runs_by Own word flat h ticks pc regs bank p stop new_pc new_regs new_p o e = record { does = e; keeps = refl }
+runs_by Enter word flat h ticks pc regs bank p stop new_pc new_regs new_p o e = runs_other 0 word flat h ticks pc regs bank p stop new_pc new_regs new_p o e
+runs_by Tool word flat h ticks pc regs bank p stop new_pc new_regs new_p o e = runs_other bank_len word flat h ticks pc regs bank p stop new_pc new_regs new_p o e
+runs_by Leave word flat h ticks pc regs bank p stop new_pc new_regs new_p o e = runs_other 0 word flat h ticks pc regs bank p stop new_pc new_regs new_p o e
+
+pub runs : (w : MarkedWord) (flat : Flat) (h ticks pc : ℕ) (regs bank : List ℕ) (p : Prog) (stop : Option Cause) (new_pc : ℕ) (new_regs : List ℕ) (new_p : Prog) → IsOperationOf w (Run flat)
+    → done (exec_decoded (instr_of flat) pc h regs p) regs p ≡ record { next = next_after stop new_pc; regs = new_regs; prog = new_p }
+    → Performs w h ticks pc regs bank p stop new_pc new_regs bank new_p
+runs w flat h ticks pc regs bank p stop new_pc new_regs new_p o e =
+    let i = (run_fits_by w.mark (decode_of w.word) flat o).0 in
+    runs_by w.mark w.word flat h ticks pc regs bank p stop new_pc new_regs new_p o (ap (λ j. done (exec_decoded j pc h regs p) regs p) (sym i) ∙ e)

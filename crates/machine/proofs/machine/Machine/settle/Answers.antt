@@ -1,0 +1,70 @@
+use Rattle.std.proofs.Common.{◌≡◌, ◌+◌, ◌*◌, ◌<◌, ◌≤◌, ◌∙◌, sym, ap, subst, length, arith}
+use Rattle.pn_types.specs.declared.limits.TheConstants.{TOOL_TEXT_LEN}
+use Rattle.rv_word.specs.Exec.{prog_of}
+use Rattle.machine.specs.Events.{IsQuiet}
+use Rattle.machine.specs.Replays.{owns, replay}
+use Rattle.machine.specs.States.{Machine, leaving, settling, with_core, words_in}
+use Rattle.machine.specs.Views.{core_of}
+use Rattle.machine.proofs.Packing.{few_words}
+use Rattle.machine.proofs.Settled.{settling_first, settling_step, settling_end, settled_quiet}
+use Rattle.machine.proofs.machine.Machine.settle.Goals as goal
+
+pub words-most-requires : goal.words-most-requires
+words-most-requires c =
+    let s = c.self.inside in
+    few_words (core_of s.harts.items (prog_of s.mem s.resv s.out) s.store s.blocks.rows s.budget) c.self.invariant.reached
+
+pub loop-hart-init : goal.loop-hart-init
+loop-hart-init c =
+    let s = c.self.inside in
+    let few = few_words (core_of s.harts.items (prog_of s.mem s.resv s.out) s.store s.blocks.rows s.budget) c.self.invariant.reached in
+    settling_first c.args.self.now c.words-most.result (c.words-most.ensures ∙ ap (λ (m : Machine). words_in m.core.rows) c.self.view_is) (subst (λ (m : Machine). 4 * words_in m.core.rows ≤ TOOL_TEXT_LEN) c.self.view_is few)
+
+pub leave-count-requires : goal.leave-count-requires
+leave-count-requires c =
+    let n = c.numbered.ensures in
+    let l = c.loop-hart-test.true in
+    let many = c.loop-hart.invariant.many in
+    let all = c.len-hart-end.ensures in
+    let view = ap (λ (m : Machine). length m.core.harts) c.self.view_is in
+    omega arith
+
+pub overflow_add-count : goal.overflow_add-count
+overflow_add-count c =
+    let bound = c.loop-hart.invariant.bound in
+    let few = c.loop-hart.invariant.few in
+    let low = c.leave-count.ensures.bound in
+    let l = c.loop-hart-test.true in
+    let all = c.len-hart-end.ensures in
+    let most = c.self.invariant.few in
+    omega arith
+
+pub loop-hart-preserved : goal.loop-hart-preserved
+loop-hart-preserved c =
+    let most = c.words-most.result in
+    let d = c.loop-hart.self.core in
+    let low : c.loop-hart.hart < length c.args.self.now.core.harts = (let l = c.loop-hart-test.true in let all = c.len-hart-end.ensures in let view = ap (λ (m : Machine). length m.core.harts) c.self.view_is in omega arith) in
+    settling_step most c.loop-hart.count c.loop-hart.hart c.leave-count.result c.args.self.now c.loop-hart.self c.leave-count.new.self c.loop-hart.invariant low
+    (subst (λ h. c.leave-count.new.self ≡ with_core c.loop-hart.self (replay (leaving most h d) d)) c.numbered.ensures c.leave-count.ensures.left)
+    (subst (λ h. c.leave-count.result + length (owns (leaving most h d) d) ≡ length (leaving most h d)) c.numbered.ensures c.leave-count.ensures.counted)
+    c.leave-count.ensures.bound
+
+pub returns-clause-settled : goal.returns-clause-settled
+returns-clause-settled c =
+    let all : length c.args.self.now.core.harts ≤ c.loop-hart.hart = (let l = c.loop-hart-test.false in let all = c.len-hart-end.ensures in let view = ap (λ (m : Machine). length m.core.harts) c.self.view_is in omega arith) in
+    (settling_end c.words-most.result c.loop-hart.count c.loop-hart.hart c.args.self.now c.loop-hart.self c.loop-hart.invariant all).0
+
+pub returns-clause-counted : goal.returns-clause-counted
+returns-clause-counted c =
+    let all : length c.args.self.now.core.harts ≤ c.loop-hart.hart = (let l = c.loop-hart-test.false in let all = c.len-hart-end.ensures in let view = ap (λ (m : Machine). length m.core.harts) c.self.view_is in omega arith) in
+    (settling_end c.words-most.result c.loop-hart.count c.loop-hart.hart c.args.self.now c.loop-hart.self c.loop-hart.invariant all).1
+
+pub returns-clause-quiet : goal.returns-clause-quiet
+returns-clause-quiet c =
+    let s = c.self.inside in
+    let all : length c.args.self.now.core.harts ≤ c.loop-hart.hart = (let l = c.loop-hart-test.false in let all = c.len-hart-end.ensures in let view = ap (λ (m : Machine). length m.core.harts) c.self.view_is in omega arith) in
+    let is = (settling_end c.words-most.result c.loop-hart.count c.loop-hart.hart c.args.self.now c.loop-hart.self c.loop-hart.invariant all).0 in
+    subst (λ (m : Machine). IsQuiet m.core) (sym is) (subst (λ (m : Machine). IsQuiet (replay (settling m.core) m.core)) c.self.view_is (settled_quiet (core_of s.harts.items (prog_of s.mem s.resv s.out) s.store s.blocks.rows s.budget) c.self.invariant.reached))
+
+pub returns-clause-harts : goal.returns-clause-harts
+returns-clause-harts c = c.loop-hart.invariant.many

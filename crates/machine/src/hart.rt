@@ -1,0 +1,205 @@
+ghost use Rattle.std.specs.Prelude.{◌≡◌, ◌<◌, ◌+◌, ◌^◌, true, None, Some, IfOk, length};
+ghost use Rattle.rv_word.specs.Exec.{prog_of};
+ghost use Rattle.tramp_spec.specs.Banks.{bank_len};
+ghost use Rattle.tramp_spec.specs.Codes.{fetched_at, is_tool_word};
+ghost use Rattle.tramp_spec.specs.Harts.{is_tick, step_of};
+ghost use Rattle.machine.specs.Cores.{first_hart};
+ghost use Rattle.machine.specs.Instruments.{reading};
+ghost use Rattle.machine.specs.Leaving.{is_out_now};
+ghost use Rattle.machine.specs.Links.{armed_now};
+ghost use Rattle.machine.specs.Performing.{home_in_store, solo_of};
+ghost use Rattle.machine.specs.Turns.{may_turn};
+
+use crate::performing::perform;
+use crate::slots::{read_first, set_variables};
+use code_store::Store;
+use pn_types::{BANK_LEN, HartNo, NoMemory, Placed};
+use rv_exec::{Output, Regs, Reservations};
+use rv_mem::Mem;
+use rv_word::{Cause, jump_target};
+use std::alloc::Global;
+use std::marker::Model;
+use tramp_spec::Mark;
+
+/// What one hart has. Contracts see the definitions' record of it.
+#[derive(Drop)]
+pub struct HartState {
+    pc: u64,
+    regs: Regs,
+    ticks: u64,
+    stop: Option<Cause>,
+    inside: bool,
+    bank: Vec<u64>,
+}
+
+impl Model for HartState {
+    ghost use Rattle.std.specs.Prelude.{◌≡◌, length};
+    ghost use Rattle.tramp_spec.specs.Banks.{bank_len};
+    ghost use Rattle.tramp_spec.specs.Harts.{Hart};
+    ghost use Rattle.machine.specs.Codes.{hart_code};
+
+    ghost Value = { Hart };
+
+    ghost coded = { hart_code };
+
+    ghost view = { λ h. record { pc = h.pc; regs = h.regs; ticks = h.ticks; stop = h.stop; inside = h.inside; bank = h.bank.items } };
+
+    ghost invariant = { λ h. length h.bank.items ≡ bank_len };
+}
+
+/// The home of a pc: the point of the block in which a hart stands that is inside, but behind the program's word the address
+/// to which it leaves.
+#[inline(never)]
+fn home(store: &Store, pc: u64, inside: bool) -> u64
+    requires { inside ≡ true → is_tool_word store.now.program pc ≡ true }
+    ensures { result ≡ home_in_store store.now pc inside }
+{
+    if !inside {
+        return pc;
+    }
+    let Some(point) = store.owner(pc) else {
+        return pc;
+    };
+    match store.fetch(pc, true) {
+        Some(word) if word.mark == Mark::Leave => jump_target(word.word, pc).unwrap_or(point),
+        _ => point,
+    }
+}
+
+impl HartState {
+    /// A hart that starts outside, with nothing in its bank.
+    pub fn first(alloc: Global, pc: u64, regs: Regs) -> Result<HartState, NoMemory>
+        ensures { IfOk result (λ hart. hart ≡ first_hart (record { pc = pc; regs = regs; ticks = 0; stop = None })) }
+    {
+        HartState::with_bank(alloc, pc, regs, BANK_LEN as usize)
+    }
+
+    /// The same, with so many doublewords in its bank.
+    fn with_bank(alloc: Global, pc: u64, regs: Regs, len: usize) -> Result<HartState, NoMemory>
+        requires { len ≡ bank_len }
+        ensures { IfOk result (λ hart. hart ≡ first_hart (record { pc = pc; regs = regs; ticks = 0; stop = None })) }
+    {
+        Ok(HartState {
+            pc,
+            regs,
+            ticks: 0,
+            stop: None,
+            inside: false,
+            bank: vec![in alloc; 0; len]?,
+        })
+    }
+
+    /// How many of the program's words the hart executed.
+    pub fn ticks(&self) -> u64
+        ensures { result ≡ self.now.ticks }
+    {
+        self.ticks
+    }
+
+    /// Why the hart stopped.
+    pub fn stop(&self) -> Option<Cause>
+        ensures { result ≡ self.now.stop }
+    {
+        self.stop
+    }
+
+    /// Whether the hart is inside a trampoline.
+    pub fn is_inside(&self) -> bool
+        ensures { result ≡ self.now.inside }
+    {
+        self.inside
+    }
+
+    /// Its pc.
+    pub fn pc(&self) -> u64
+        ensures { result ≡ self.now.pc }
+    {
+        self.pc
+    }
+
+    /// Whether the hart is stopped or outside.
+    pub fn is_out(&self) -> bool
+        ensures { result ≡ is_out_now (Some self.now) }
+    {
+        self.stop.is_some() || !self.inside
+    }
+
+    /// Whether the hart isn't stopped, and is inside or has fewer ticks than the budget.
+    pub fn may_turn(&self, budget: u64) -> bool
+        ensures { result ≡ may_turn (Some self.now) budget }
+    {
+        self.stop.is_none() && (self.inside || self.ticks < budget)
+    }
+
+    /// The home of the hart's pc.
+    pub fn home(&self, store: &Store) -> u64
+        requires { self.now.inside ≡ true → is_tool_word store.now.program self.now.pc ≡ true }
+        ensures { result ≡ home_in_store store.now self.now.pc self.now.inside }
+    {
+        home(store, self.pc, self.inside)
+    }
+
+    /// Sets the slots of an instrument in the hart's bank.
+    pub fn arm(&mut self, instrument: &Placed)
+        ensures { self.new ≡ armed_now instrument.now self.old }
+    {
+        set_variables(self.bank.as_mut_slice(), instrument, self.ticks);
+    }
+
+    /// The reading of an instrument.
+    pub fn read(&self, instrument: &Placed) -> u64
+        ensures { result ≡ reading instrument.now self.now }
+    {
+        read_first(&self.bank, instrument, self.ticks)
+    }
+
+    /// One turn of a hart that isn't stopped. It answers whether the turn is a tick, and takes no memory.
+    #[inline(always)]
+    pub fn take_turn(
+        &mut self,
+        number: HartNo,
+        store: &Store,
+        mem: &mut Mem,
+        resv: &mut Reservations,
+        out: &mut Output,
+    ) -> bool
+        requires number { number < length resv.old }
+        requires running { self.old.stop ≡ None }
+        requires placed { self.old.inside ≡ true → is_tool_word store.now.program self.old.pc ≡ true }
+        requires countable { is_tick (fetched_at store.now.program store.now.code self.old.pc self.old.inside) ≡ true → self.old.ticks + 1 < 2 ^ 64 }
+        ensures tick { result ≡ is_tick (fetched_at store.now.program store.now.code self.old.pc self.old.inside) }
+        ensures turned { solo_of self.new (prog_of mem.new resv.new out.new) ≡ step_of (fetched_at store.now.program store.now.code self.old.pc self.old.inside) number (home_in_store store.now self.old.pc self.old.inside) (solo_of self.old (prog_of mem.old resv.old out.old)) }
+        ensures harts { length resv.new ≡ length resv.old }
+    {
+        let at = self.pc;
+        let Some(slot) = store.slot(at, self.inside) else {
+            self.pc = home(store, at, self.inside);
+            self.stop = Some(Cause::FetchOutside);
+            self.inside = false;
+            self.ticks += 1;
+            return true;
+        };
+        let ticks = self.ticks;
+        let goes = perform(
+            slot,
+            number,
+            ticks,
+            &mut self.pc,
+            &mut self.stop,
+            &mut self.regs,
+            self.bank.as_mut_slice(),
+            mem,
+            resv,
+            out,
+        );
+        let is_tick = slot.is_tick();
+        self.ticks = ticks + is_tick as u64;
+        if goes {
+            self.inside = slot.inside_after(self.inside);
+        } else {
+            self.pc = home(store, at, self.inside);
+            self.inside = false;
+        }
+        is_tick
+    }
+}

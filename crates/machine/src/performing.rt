@@ -1,0 +1,140 @@
+//! What a hart's word does: a word of the program on memory, reservations and output, another on the hart's bank.
+
+ghost use Rattle.std.specs.Prelude.{◌≡◌, ◌≤◌, ◌<◌, ◌/◌, ◌^◌, ℕ, List, true, false, None, Some, length, is_none};
+ghost use Rattle.rv_word.specs.Exec.{prog_of};
+ghost use Rattle.tramp_spec.specs.Banks.{bank_at, bank_len, is_in_bank, set_bank};
+ghost use Rattle.code_store.specs.Operations.{bank_loaded, bank_stored};
+ghost use Rattle.machine.specs.Performing.{Performs, bench_from, stood_after};
+
+use code_store::{Operation, Slot};
+use pn_types::HartNo;
+use rv_exec::{Output, Regs, Reservations};
+use rv_mem::Mem;
+use rv_word::Cause;
+
+/// The number of the doubleword at an address, or a number that is too great where the address is no multiple of 8: it is turned
+/// by three bits, so one test finds both.
+#[inline(always)]
+fn doubleword_at(at: u64) -> u64
+    ensures inside { (n : ℕ) → n ≤ 2 ^ 32 → result < n → (is_in_bank n at ≡ true) × (at / 8 ≡ result) }
+    ensures outside { (n : ℕ) → n ≤ 2 ^ 32 → n ≤ result → is_in_bank n at ≡ false }
+{
+    at / 8 + at % 8 * 0x2000_0000_0000_0000
+}
+
+/// A doubleword of the bank, of which the first reads as the ticks.
+#[inline(always)]
+fn read_bank(bank: &[u64], place: u64, ticks: u64) -> u64
+    requires { place < length bank.now }
+    ensures { result ≡ bank_at ticks bank.now place }
+{
+    if place == 0 {
+        ticks
+    } else {
+        bank[place as usize]
+    }
+}
+
+/// Puts a doubleword into the bank, of which the first stays.
+#[inline(always)]
+fn write_bank(bank: &mut [u64], place: u64, value: u64)
+    requires { place < length bank.old }
+    ensures { bank.new ≡ set_bank bank.old place value }
+{
+    if place != 0 {
+        bank[place as usize] = value;
+    }
+}
+
+/// A load of a doubleword of the bank.
+#[inline(always)]
+fn load(
+    rd: u32,
+    at: u64,
+    ticks: u64,
+    pc: &mut u64,
+    stop: &mut Option<Cause>,
+    regs: &mut Regs,
+    bank: &[u64],
+) -> bool
+    requires rd { rd < 32 }
+    requires bank { length bank.now ≡ bank_len }
+    requires stop { stop.old ≡ None }
+    ensures goes { result ≡ is_none stop.new }
+    ensures loaded { bank_loaded rd at ticks pc.old (bench_from regs.old bank.now) ≡ stood_after stop.new pc.new (bench_from regs.new bank.now) }
+    ensures stays { result ≡ false → regs.new ≡ regs.old }
+{
+    let place = doubleword_at(at);
+    if place >= bank.len() as u64 {
+        *stop = Some(Cause::Access(at));
+        return false;
+    }
+    regs.set(rd, read_bank(bank, place, ticks));
+    *pc = pc.wrapping_add(4);
+    true
+}
+
+/// A store to a doubleword of the bank.
+#[inline(always)]
+fn store(value: u64, at: u64, pc: &mut u64, stop: &mut Option<Cause>, bank: &mut [u64]) -> bool
+    requires bank { length bank.old ≡ bank_len }
+    requires stop { stop.old ≡ None }
+    ensures goes { result ≡ is_none stop.new }
+    ensures len { length bank.new ≡ length bank.old }
+    ensures stored { (regs : List ℕ) → bank_stored value at pc.old (bench_from regs bank.old) ≡ stood_after stop.new pc.new (bench_from regs bank.new) }
+    ensures stays { result ≡ false → bank.new ≡ bank.old }
+{
+    let place = doubleword_at(at);
+    if place >= bank.len() as u64 {
+        *stop = Some(Cause::Access(at));
+        return false;
+    }
+    write_bank(bank, place, value);
+    *pc = pc.wrapping_add(4);
+    true
+}
+
+/// Performs a slot's word at pc, by a hart that isn't stopped. It leaves the next pc, or the cause for which the hart stops, and
+/// says whether the hart goes on. A stop changes nothing else. It takes no memory.
+#[inline(always)]
+#[tactic(auto, using(crate::proofs::Performed::run_fits, crate::proofs::Performed::load_fits, crate::proofs::Performed::store_fits, crate::proofs::Performed::access_fits))]
+pub fn perform(
+    slot: &Slot,
+    hart: HartNo,
+    ticks: u64,
+    pc: &mut u64,
+    stop: &mut Option<Cause>,
+    regs: &mut Regs,
+    bank: &mut [u64],
+    mem: &mut Mem,
+    resv: &mut Reservations,
+    out: &mut Output,
+) -> bool
+    requires hart { hart < length resv.old }
+    requires bank { length bank.old ≡ bank_len }
+    requires stop { stop.old ≡ None }
+    ensures goes { result ≡ is_none stop.new }
+    ensures room { length bank.new ≡ length bank.old }
+    ensures harts { length resv.new ≡ length resv.old }
+    ensures performed { Performs slot.now hart ticks pc.old regs.old bank.old (prog_of mem.old resv.old out.old) stop.new pc.new regs.new bank.new (prog_of mem.new resv.new out.new) }
+{
+    match slot.operation() {
+        Operation::Run(flat) => flat.run(hart, pc, stop, regs, mem, resv, out),
+        Operation::LoadBank { rd, rs1, offset } => {
+            let at = regs.get(*rs1).wrapping_add(*offset);
+            load(*rd, at, ticks, pc, stop, regs, bank)
+        }
+        Operation::StoreBank { rs1, rs2, offset } => {
+            let at = regs.get(*rs1).wrapping_add(*offset);
+            store(regs.get(*rs2), at, pc, stop, bank)
+        }
+        Operation::NoAccess { rs1, offset } => {
+            *stop = Some(Cause::Access(regs.get(*rs1).wrapping_add(*offset)));
+            false
+        }
+        Operation::Stop(cause) => {
+            *stop = Some(*cause);
+            false
+        }
+    }
+}

@@ -1,0 +1,53 @@
+ghost use Rattle.std.specs.Prelude.{◌≡◌, ◌+◌, ◌<◌, ◌≤◌, length};
+ghost use Rattle.machine.specs.Events.{IsQuiet};
+ghost use Rattle.machine.specs.Leaving.{is_out};
+ghost use Rattle.machine.specs.Replays.{owns, replay};
+ghost use Rattle.machine.specs.States.{leaving, settling, with_core};
+
+use crate::machine::Machine;
+use pn_types::HartNo;
+
+impl Machine {
+    /// Each hart that is inside a trampoline, by number, takes turns until it is outside or stopped. It answers how many of these
+    /// turns weren't ticks, and takes no memory. Then no hart is inside.
+    pub fn settle(&mut self) -> u64
+        ensures settled { self.new ≡ with_core self.old (replay (settling self.old.core) self.old.core) }
+        ensures counted { result + length (owns (settling self.old.core) self.old.core) ≡ length (settling self.old.core) }
+        ensures quiet { IsQuiet self.new.core }
+        ensures harts { length self.new.core.harts ≡ length self.old.core.harts }
+    {
+        let most = self.blocks.words();
+        let mut count = 0;
+        for hart in 0..self.harts.len() {
+            count += self.leave(HartNo::numbered(hart as u32), most);
+        }
+        count
+    }
+
+    /// The hart takes turns until it is outside or stopped, at most so many. It answers how many of them weren't ticks.
+    fn leave(&mut self, hart: HartNo, most: u32) -> u64
+        requires { hart < length self.old.core.harts }
+        ensures left { self.new ≡ with_core self.old (replay (leaving most hart self.old.core) self.old.core) }
+        ensures counted { result + length (owns (leaving most hart self.old.core) self.old.core) ≡ length (leaving most hart self.old.core) }
+        ensures bound { result ≤ most }
+    {
+        let mut count = 0;
+        for _ in 0..most {
+            if self.is_out(hart) {
+                return count;
+            }
+            if !self.turn(hart) {
+                count += 1;
+            }
+        }
+        count
+    }
+
+    /// Whether the hart is stopped or outside.
+    fn is_out(&self, hart: HartNo) -> bool
+        requires { hart < length self.now.core.harts }
+        ensures { result ≡ is_out self.now.core hart }
+    {
+        self.harts[hart.get() as usize].is_out()
+    }
+}
