@@ -49,6 +49,10 @@ space_none {A} s from units space xs k x none low high = record {
 
 -- ---- an instrument is put behind the others
 
+-- the first of the lowest so many slots beside those of instruments
+abbrev pub found_in : List Instrument → ℕ → Option ℕ
+found_in instruments count = slots_for (flat_map (λ i. places_of i.placed) instruments) count
+
 rows_more : (is : List Instrument) (i : Instrument) → ((j : Instrument) → In j is → IsRow j) → IsRow i → (j : Instrument) → In j (is ++ i ∷ []) → IsRow j
 rows_more is i f r j h = ⊎_elim (λ a. f j a) (λ b. ⊎_elim (λ e. subst IsRow (sym e) r) (λ n. absurd n) b) (in_append is (i ∷ []) j h)
 

@@ -90,19 +90,6 @@ grown_site t owner slots s first book new g e =
       agenda = ap (λ (b : Book). b.agenda) z.is ∙ (ap (λ xs. xs ++ placing z.k.base z.k.mini) g.agenda ∙ append_assoc first.agenda g.more_entries (placing z.k.base z.k.mini));
     }
 
-pub cut_back : (first book : Book) → IsGrown first book → record { rooms = take (length first.rooms) book.rooms; agenda = take (length first.agenda) book.agenda } ≡ first
-cut_back first book g =
-    let r = ap (take (length first.rooms)) g.rooms ∙ take-append_seam first.rooms g.more_rooms in
-    let a = ap (take (length first.agenda)) g.agenda ∙ take-append_seam first.agenda g.more_entries in
-    ap (λ (xs : List Room). record { rooms = xs; agenda = take (length first.agenda) book.agenda }) r ∙ ap (λ xs. record { rooms = first.rooms; agenda = xs }) a
-
-len_more : {A : Type 0} (xs ys : List A) → length xs ≤ length (xs ++ ys)
-len_more [] ys = omega arith
-len_more (x ∷ xs) ys = let r = len_more xs ys in omega (arith, r)
-
-pub no_fewer : (first book : Book) → IsGrown first book → length first.rooms ≤ length book.rooms
-no_fewer first book g = let n = ap length g.rooms in let m = len_more first.rooms g.more_rooms in omega (arith, n, m)
-
 -- ---- rooms from a place on are given back
 
 abbrev pub Left : ℕ → ℕ → List Room → List Room
@@ -132,26 +119,6 @@ text_cut t l m words given n k r b e =
       rooms = subst (λ (z : List Room). AreRoomsOf t given z) (sym b) r;
       entries = omega (arith, f, h, e, k.entries);
     }
-
--- ---- the sites of an instrument, by its rooms
-
-abbrev site_at : Room → PlacedSite
-site_at y = record { at = y.point; mini = y.at }
-
-abbrev sites_if : Bool → PlacedSite → List PlacedSite
-sites_if true p = p ∷ []
-sites_if false p = []
-
-pub sites_next : (n : ℕ) (rooms : List Room) (i : ℕ) (x : Room) (b : Bool) → i < length rooms → x ≡ get_or rooms i x → is_mini_room_of n x ≡ b → sites_of n (take (i + 1) rooms) ≡ sites_of n (take i rooms) ++ sites_if b (site_at x)
-sites_next n rooms i x b l e q =
-    ap (sites_of n) (take_more rooms i x l ∙ ap (λ u. take i rooms ++ u ∷ []) (sym e))
-    ∙ (ap (map site_at) (filter_append (is_mini_room_of n) (take i rooms) (x ∷ []))
-    ∙ (map_append site_at (filter (is_mini_room_of n) (take i rooms)) (filter (is_mini_room_of n) (x ∷ []))
-    ∙ ap (λ zs. sites_of n (take i rooms) ++ zs) (one b q)))
-  where
-    one : (b : Bool) → is_mini_room_of n x ≡ b → map site_at (filter (is_mini_room_of n) (x ∷ [])) ≡ sites_if b (site_at x)
-    one true w = ap (λ v. map site_at (cond v (x ∷ []) [])) w
-    one false w = ap (λ v. map site_at (cond v (x ∷ []) [])) w
 
 -- ---- a site is placed in the text
 

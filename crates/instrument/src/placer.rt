@@ -221,6 +221,7 @@ impl Placer {
             return Err(Refused::NoMemory);
         };
         let number = InstrumentNo { n: self.count };
+        // The slots are taken behind the sites: where a site is refused, none are to be given back.
         let instrument = place(alloc, &mut self.text, number, first, plan)?;
         self.roster.add(instrument);
         self.count = count;

@@ -9,12 +9,9 @@ use Rattle.instrument.specs.Admission.{slot_count}
 use Rattle.instrument.specs.Spaces.{AreSlotsOf, slots_of}
 use Rattle.instrument.specs.declared.instrument.Instrument.{Instrument}
 use Rattle.instrument.specs.declared.roster.Roster.TheInside.{Inside}
-use Rattle.instrument.proofs.Added.{slots_added, none_added}
+use Rattle.instrument.proofs.Added.{found_in, slots_added, none_added}
 use Rattle.instrument.proofs.roster.Roster.add.Goals as goal
 use Rattle.instrument.proofs.roster.Roster.add.Goals.{then-count-gt0, else-count-gt0}
-
-abbrev found_in : List Instrument → ℕ → Option ℕ
-found_in instruments count = slots_for (flat_map (λ i. places_of i.placed) instruments) count
 
 pub invariant_of-self : goal.invariant_of-self
 invariant_of-self c =

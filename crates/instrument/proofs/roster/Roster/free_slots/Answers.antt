@@ -7,12 +7,9 @@ use Rattle.instrument.specs.Fits.{slots_for}
 use Rattle.instrument.specs.Rosters.{RosterData}
 use Rattle.instrument.specs.Spaces.{AreSlotsOf}
 use Rattle.instrument.specs.declared.instrument.Instrument.{Instrument}
-use Rattle.instrument.proofs.Added.{found_taken, found_given, found_low}
+use Rattle.instrument.proofs.Added.{found_in, found_taken, found_given, found_low}
 use Rattle.instrument.proofs.Fitted.{slots_given, no_slots, slots_for_none}
 use Rattle.instrument.proofs.roster.Roster.free_slots.Goals as goal
-
-abbrev found_in : List Instrument → ℕ → Option ℕ
-found_in instruments count = slots_for (flat_map (λ i. places_of i.placed) instruments) count
 
 pub returns-then-count-eq0-clause-slot : goal.returns-then-count-eq0-clause-slot
 returns-then-count-eq0-clause-slot c = sym (ap (found_in c.args.self.now.instruments) c.if-count-eq0.true ∙ slots_for_none _)
