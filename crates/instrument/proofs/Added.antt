@@ -1,5 +1,5 @@
 -- An instrument with the lowest slots is put behind the others; and slots are looked for.
-use Rattle.std.proofs.Common.{◌≡◌, ℕ, zero, suc, ◌+◌, ◌*◌, ◌<◌, ◌≤◌, ◌^◌, ◌-◌, List, [], ◌∷◌, ◌++◌, Option, Some, None, refl, sym, ap, ◌∙◌, subst, arith, ⊎_elim, inl, inr, cond, length}
+use Rattle.std.proofs.Common.{◌≡◌, ℕ, zero, suc, ◌+◌, ◌<◌, ◌≤◌, ◌^◌, ◌-◌, List, [], ◌∷◌, ◌++◌, Option, Some, None, refl, sym, ap, ◌∙◌, subst, arith, ⊎_elim, inl, inr, cond, length}
 use Rattle.std.specs.Prelude.{Bool, true, false, not, nat_lt, nat_le, ◌&&◌, ◌||◌, IfNone, IfSome}
 use Rattle.std.specs.List.{list_any, flat_map, sum_by}
 use Rattle.std.proofs.lemmas.Bool.{ltb-true, leb-true, and_parts, false_from_ne_true}
@@ -15,7 +15,7 @@ use Rattle.tramp_spec.specs.Slots.{Place, places_of}
 use Rattle.machine.specs.Cores.{In}
 use Rattle.instrument.specs.Admission.{slots_of_var, slot_count, slots_from}
 use Rattle.instrument.specs.Fits.{slots_for}
-use Rattle.instrument.specs.Spaces.{Span, covers, AreDistant, owed, IsSpaceOf, slots_of, first_or, IsRow, AreSlotsOf, IsRoster}
+use Rattle.instrument.specs.Spaces.{Span, covers, AreDistant, owed, IsSpaceOf, slots_of, first_or, IsRow, AreSlotsOf}
 use Rattle.instrument.specs.declared.instrument.Instrument.{Instrument}
 use Rattle.instrument.specs.declared.number.State.TheVariants.{Placing}
 use Rattle.instrument.proofs.Fitted.{slots_given, no_slots, slots_for_none}

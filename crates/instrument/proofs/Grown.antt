@@ -1,11 +1,9 @@
 -- The sites of an instrument are placed one after another: the book grows, and is cut to what it was where one is refused.
-use Rattle.std.proofs.Common.{◌≡◌, ℕ, zero, suc, ◌+◌, ◌*◌, ◌/◌, ◌<◌, ◌≤◌, List, [], ◌∷◌, ◌++◌, Option, Some, None, refl, sym, ap, ◌∙◌, subst, arith, inl, inr, ⊎_elim, length, take, drop, get_or, cond, map, filter}
-use Rattle.std.specs.Prelude.{Ok, Err, Result, Bool, true, false, not, ◌-◌, ◌⊎◌, ◌==◌, find, IfErr, OnOk, OnErr, max}
+use Rattle.std.proofs.Common.{◌≡◌, ℕ, zero, suc, ◌+◌, ◌/◌, ◌<◌, ◌≤◌, List, [], ◌∷◌, ◌++◌, Option, Some, None, refl, sym, ap, ◌∙◌, subst, arith, inl, inr, length, take, drop, get_or}
+use Rattle.std.specs.Prelude.{Ok, Err, Result, ◌-◌, find, IfErr, OnOk, OnErr, max}
 use Rattle.std.proofs.Math.Nat.{le-max_left}
-use Rattle.std.proofs.Math.Seq.{take-append_seam}
-use Rattle.std.proofs.lemmas.List.{take_more, drop_more}
+use Rattle.std.proofs.lemmas.List.{drop_more}
 use Rattle.pn_types.specs.declared.limits.TheConstants.{TOOL_TEXT_LEN}
-use Rattle.pn_types.specs.declared.placed.PlacedSite.{PlacedSite}
 use Rattle.pn_types.specs.declared.plan.Site.{Site}
 use Rattle.rv_word.specs.Plain.{Words, program_word}
 use Rattle.tool_space.specs.Rooms.{Rooms, after_give, after_reserve}
@@ -16,17 +14,15 @@ use Rattle.tramp_spec.specs.Statements.{body_of}
 use Rattle.tramp_spec.specs.declared.block.Block.{Block}
 use Rattle.tramp_spec.specs.declared.mark.MarkedWord.{MarkedWord}
 use Rattle.machine.specs.Cores.{In}
-use Rattle.instrument.specs.Admission.{base_len, a_base, a_mini, rooms_with, with_mini, with_mini_at, with_moved, with_base_at, with_base, with_site_by, with_site, with_sites, and_then}
-use Rattle.instrument.specs.Books.{Book, Blocks, is_base_of, base_room, mini_room, rooms_of, placing, with_blocks}
+use Rattle.instrument.specs.Admission.{base_len, a_base, a_mini, rooms_with, with_mini_at, with_moved, with_base_at, with_base, with_site_by, with_site, with_sites, and_then}
+use Rattle.instrument.specs.Books.{Book, Blocks, is_base_of, rooms_of, placing, with_blocks}
 use Rattle.instrument.specs.Fits.{room_for}
 use Rattle.instrument.specs.Ledgers.{LedgerData, with_spare}
-use Rattle.instrument.specs.Placements.{is_mini_room_of, sites_of}
-use Rattle.instrument.specs.Spaces.{IsSpaceOf, words_of_room, IsWhole, AreRoomsOf}
-use Rattle.instrument.specs.ToolTexts.{is_held_mini, held_minis, for_drops, IsToolText, IsGrown}
+use Rattle.instrument.specs.Spaces.{words_of_room, AreRoomsOf}
+use Rattle.instrument.specs.ToolTexts.{held_minis, for_drops, IsToolText, IsGrown}
 use Rattle.instrument.specs.declared.number.Refused.{Refused}
-use Rattle.instrument.specs.declared.number.Refused.TheVariants.{NoMemory}
 use Rattle.instrument.specs.declared.room.Room.{Room}
-use Rattle.instrument.proofs.Folds.{append_assoc, append_nil, filter_append, map_append, append_right}
+use Rattle.instrument.proofs.Folds.{append_assoc, append_nil}
 use Rattle.instrument.proofs.Holdings.{space_give, space_reserved, middle, without}
 
 -- ---- what a site makes of a book

@@ -37,7 +37,13 @@ fn is_over(limit: Option<u64>, cost: u64) -> bool
 }
 
 /// Places the sites of a plan whose slots were found, from `first` on, and answers the instrument.
-fn place(alloc: Global, text: &mut ToolText, number: InstrumentNo, first: u32, plan: &Plan) -> Result<Instrument, Refused>
+fn place(
+    alloc: Global,
+    text: &mut ToolText,
+    number: InstrumentNo,
+    first: u32,
+    plan: &Plan,
+) -> Result<Instrument, Refused>
     requires named { (s : Site) → In s plan.now.sites → AreBelow (length plan.now.vars) s.stmts }
     requires words { table.predicted plan.now < 2 ^ 32 }
     requires slots { first + admission.slot_count plan.now.vars < 2 ^ 32 }
@@ -194,7 +200,12 @@ impl Placer {
     ///
     /// Why it is refused: it costs too much, there are as many instruments as are allowed, or slots or words of the tool text
     /// are wanting, or a word can't be moved; or `NoMemory`, where memory or numbers are wanting. Then no placement has changed.
-    pub fn admit(&mut self, alloc: Global, plan: &Plan, cost: Option<u64>) -> Result<InstrumentNo, Refused>
+    pub fn admit(
+        &mut self,
+        alloc: Global,
+        plan: &Plan,
+        cost: Option<u64>,
+    ) -> Result<InstrumentNo, Refused>
         requires named { (s : Site) → In s plan.now.sites → AreBelow (length plan.now.vars) s.stmts }
         requires words { table.predicted plan.now < 2 ^ 32 }
         requires slots { admission.slot_count plan.now.vars < 2 ^ 32 }

@@ -183,7 +183,13 @@ impl ToolText {
     }
 
     /// Places a site of an instrument, for which memory was reserved.
-    fn place_site(&mut self, alloc: Global, owner: u64, slots: &[u32], site: &Site) -> Result<(), Refused>
+    fn place_site(
+        &mut self,
+        alloc: Global,
+        owner: u64,
+        slots: &[u32],
+        site: &Site,
+    ) -> Result<(), Refused>
         requires rooms { 2 ≤ self.old.spare_rooms }
         requires takes { 2 ≤ self.old.takes }
         requires entries { 7 ≤ self.old.entries }
@@ -210,7 +216,13 @@ impl ToolText {
     }
 
     /// Places the sites of an instrument in turn, up to the first that is refused.
-    fn place_each(&mut self, alloc: Global, owner: u64, slots: &[u32], sites: &[Site]) -> Result<(), Refused>
+    fn place_each(
+        &mut self,
+        alloc: Global,
+        owner: u64,
+        slots: &[u32],
+        sites: &[Site],
+    ) -> Result<(), Refused>
         requires rooms { 2 * length sites.now ≤ self.old.spare_rooms }
         requires takes { 2 * length sites.now ≤ self.old.takes }
         requires entries { 7 * length sites.now ≤ self.old.entries }
@@ -242,7 +254,13 @@ impl ToolText {
     /// # Errors
     ///
     /// Why the first that is refused has no room, or `NoMemory`. Then nothing was placed.
-    pub fn place_sites(&mut self, alloc: Global, owner: u64, slots: &[u32], sites: &[Site]) -> Result<Vec<PlacedSite>, Refused>
+    pub fn place_sites(
+        &mut self,
+        alloc: Global,
+        owner: u64,
+        slots: &[u32],
+        sites: &[Site],
+    ) -> Result<Vec<PlacedSite>, Refused>
         requires named { (s : Site) → In s sites.now → AreBelow (length slots.now) s.stmts }
         requires count { (s : Site) → In s sites.now → word_count s.stmts + 1 < 2 ^ 32 }
         ensures ok { IfOk result (λ placed. table.with_sites self.old.program owner slots.now sites.now self.old.book ≡ Ok self.new.book) }

@@ -1,4 +1,4 @@
-use Rattle.std.proofs.Common.{◌∙◌, ◌<◌, ◌≡◌, ◌+◌, ap, sym, subst, List, length, ℕ}
+use Rattle.std.proofs.Common.{◌∙◌, ap, sym, subst, List, length}
 use Rattle.pn_types.specs.declared.plan.Site.{Site}
 use Rattle.machine.specs.Cores.{In}
 use Rattle.prim_code.specs.Named.{AreBelow}

@@ -1,6 +1,5 @@
-use Rattle.std.proofs.Common.{sym, subst, take, drop, ◌++◌, ◌+◌, ◌∷◌, ◌≡◌, List, get_or}
+use Rattle.std.proofs.Common.{sym, subst, take, drop, ◌++◌, ◌+◌, ◌∷◌, List, get_or}
 use Rattle.std.proofs.lemmas.List.{get_or_default}
-use Rattle.rv_word.specs.Plain.{Words}
 use Rattle.tool_space.specs.Rooms.{Rooms}
 use Rattle.instrument.specs.Spaces.{AreRoomsOf, words_of_room}
 use Rattle.instrument.specs.declared.room.Room.{Room}

@@ -1,4 +1,4 @@
-use Rattle.std.proofs.Common.{◌≡◌, ◌++◌, take, drop}
+use Rattle.std.proofs.Common.{◌++◌, take, drop}
 use Rattle.rv_word.specs.Plain.{Words}
 use Rattle.instrument.specs.Spaces.{AreRoomsOf}
 use Rattle.instrument.proofs.tool_text.give_behind.Given as goal

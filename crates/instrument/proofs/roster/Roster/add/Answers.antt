@@ -1,9 +1,5 @@
-use Rattle.std.proofs.Common.{◌∙◌, ◌∷◌, [], ◌++◌, ◌<◌, ◌≡◌, List, ap, sym, subst, arith, Some, ℕ, Option}
-use Rattle.std.specs.List.{flat_map}
+use Rattle.std.proofs.Common.{◌∙◌, ◌∷◌, [], ◌++◌, ◌≡◌, List, ap, sym, subst, arith, Some}
 use Rattle.std.proofs.lemmas.Grind.{common_steps}
-use Rattle.tool_space.specs.Rooms.{Rooms}
-use Rattle.tramp_spec.specs.Slots.{places_of}
-use Rattle.instrument.specs.Fits.{slots_for}
 use Rattle.instrument.specs.Rosters.{RosterData}
 use Rattle.instrument.specs.Admission.{slot_count}
 use Rattle.instrument.specs.Spaces.{AreSlotsOf, slots_of}

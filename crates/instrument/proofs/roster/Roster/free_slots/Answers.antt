@@ -1,12 +1,8 @@
-use Rattle.std.proofs.Common.{◌∙◌, ◌<◌, ◌≡◌, ◌+◌, ap, sym, subst, arith, ℕ, List, Option}
-use Rattle.std.specs.List.{flat_map}
+use Rattle.std.proofs.Common.{◌∙◌, ap, sym, subst, arith}
 use Rattle.std.proofs.lemmas.Grind.{common_steps}
 use Rattle.tool_space.specs.Rooms.{Rooms, IsTaken, after_give}
-use Rattle.tramp_spec.specs.Slots.{places_of}
-use Rattle.instrument.specs.Fits.{slots_for}
 use Rattle.instrument.specs.Rosters.{RosterData}
 use Rattle.instrument.specs.Spaces.{AreSlotsOf}
-use Rattle.instrument.specs.declared.instrument.Instrument.{Instrument}
 use Rattle.instrument.proofs.Added.{found_in, found_taken, found_given, found_low}
 use Rattle.instrument.proofs.Fitted.{slots_given, no_slots, slots_for_none}
 use Rattle.instrument.proofs.roster.Roster.free_slots.Goals as goal

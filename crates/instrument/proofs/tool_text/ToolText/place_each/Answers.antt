@@ -1,4 +1,4 @@
-use Rattle.std.proofs.Common.{refl, sym, ap, ◌∙◌, ◌≡◌, ◌+◌, subst, arith, length, drop}
+use Rattle.std.proofs.Common.{refl, ◌∙◌, ◌≡◌, subst, arith}
 use Rattle.std.specs.Prelude.{Ok}
 use Rattle.rv_word.specs.Plain.{Words}
 use Rattle.instrument.specs.Admission.{with_site}

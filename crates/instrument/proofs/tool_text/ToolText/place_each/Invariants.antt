@@ -1,4 +1,4 @@
-use Rattle.std.proofs.Common.{◌≡◌, ◌+◌, ◌*◌, ◌≤◌, drop, length}
+use Rattle.std.proofs.Common.{◌≡◌, ◌*◌, ◌≤◌, drop, length}
 use Rattle.instrument.specs.Admission.{with_sites}
 use Rattle.instrument.specs.ToolTexts.{IsGrown}
 use Rattle.instrument.proofs.tool_text.ToolText.place_each.Given as goal
