@@ -36,5 +36,7 @@ pub mod Slotted
 pub mod Texts
 pub mod Sites
 pub mod RoomsTaken
+pub mod Grown
+pub mod Added
 pub mod Mapping
 pub mod Examples

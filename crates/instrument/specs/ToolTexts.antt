@@ -1,6 +1,6 @@
 -- The program, the book, and the memory that the book has: for so many more rooms, so many takes of words, and so many more entries of
 -- the agenda beside those that the dropping of each site needs.
-use Rattle.std.specs.Prelude.{ℕ, ◌+◌, ◌-◌, ◌*◌, ◌≤◌, ◌&&◌, not, if◌then◌else◌, Bool, List, [], ◌∷◌}
+use Rattle.std.specs.Prelude.{◌≡◌, ◌++◌, ℕ, ◌+◌, ◌-◌, ◌*◌, ◌≤◌, ◌&&◌, not, if◌then◌else◌, Bool, List, [], ◌∷◌}
 use Rattle.pn_types.specs.declared.image.Image.{Image}
 use Rattle.rv_mem.specs.Start.{program_of}
 use Rattle.rv_word.specs.Plain.{Words}
@@ -8,6 +8,7 @@ use Rattle.tool_space.specs.Rooms.{Rooms}
 use Rattle.instrument.specs.Books.{Book, is_held}
 use Rattle.instrument.specs.Ledgers.{LedgerData}
 use Rattle.instrument.specs.Spaces.{AreRoomsOf}
+use Rattle.instrument.specs.declared.entry.Entry.{Entry}
 use Rattle.instrument.specs.declared.room.Room.{Room}
 
 pub record ToolTextData : Type 0 where
@@ -38,3 +39,10 @@ text_data program l words = record { program = program; book = l.book; spare_roo
 pub record IsToolText (program : Words) (l : LedgerData) (words : Rooms) : Type 0 where
   pub rooms : AreRoomsOf program words l.book.rooms
   pub entries : for_drops l.book.rooms ≤ l.spare_entries
+
+-- the book has more behind what it had
+pub record IsGrown (before after : Book) : Type 0 where
+  pub more_rooms : List Room
+  pub more_entries : List Entry
+  pub rooms : after.rooms ≡ before.rooms ++ more_rooms
+  pub agenda : after.agenda ≡ before.agenda ++ more_entries

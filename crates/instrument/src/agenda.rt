@@ -1,4 +1,4 @@
-ghost use Rattle.std.specs.Prelude.{◌≡◌, ◌<◌, [], OnErr, OnOk};
+ghost use Rattle.std.specs.Prelude.{◌≡◌, ◌<◌, [], OnErr, OnOk, length, take};
 ghost use Rattle.instrument.specs.Agendas as lists;
 ghost use Rattle.instrument.specs.Books.{first_free};
 
@@ -62,6 +62,20 @@ impl Agenda {
     {
         self.entries.push_back_reserved(entry);
         self.room -= 1;
+    }
+
+    /// How many entries there are.
+    pub fn len(&self) -> usize
+        ensures { result ≡ length self.now.entries }
+    {
+        self.entries.len()
+    }
+
+    /// Keeps so many entries from the front, and no others.
+    pub fn truncate(&mut self, len: usize)
+        ensures { self.new ≡ record self.old { entries = take len self.old.entries } }
+    {
+        self.entries.truncate(len);
     }
 
     /// Takes the first entry.

@@ -1,4 +1,4 @@
-ghost use Rattle.std.specs.Prelude.{◌≡◌, ◌+◌, ◌<◌, ◌≤◌, [], ◌∷◌, ◌++◌, ◌^◌, None, IfSome, OnErr, OnOk, filter, length};
+ghost use Rattle.std.specs.Prelude.{◌≡◌, ◌+◌, ◌<◌, ◌≤◌, [], ◌∷◌, ◌++◌, ◌^◌, None, IfSome, OnErr, OnOk, filter, length, take};
 ghost use Rattle.instrument.specs.Agendas as lists;
 ghost use Rattle.instrument.specs.Books as books;
 ghost use Rattle.instrument.specs.Ledgers as ledgers;
@@ -73,6 +73,24 @@ impl Ledger {
         ensures { result.now ≡ self.now.book.rooms }
     {
         &self.rooms
+    }
+
+    /// How many entries the agenda has.
+    pub fn entries(&self) -> usize
+        ensures { result ≡ length self.now.book.agenda }
+    {
+        self.agenda.len()
+    }
+
+    /// Keeps so many rooms and entries from the front, and no others.
+    pub fn truncate(&mut self, rooms: usize, entries: usize)
+        ensures rooms { self.new.book.rooms ≡ take rooms self.old.book.rooms }
+        ensures agenda { self.new.book.agenda ≡ take entries self.old.book.agenda }
+        ensures spare { self.new.spare_rooms ≡ self.old.spare_rooms }
+        ensures entries { self.new.spare_entries ≡ self.old.spare_entries }
+    {
+        self.rooms.truncate(rooms);
+        self.agenda.truncate(entries);
     }
 
     /// Hands out the first entry of the agenda. Where it unlinks a block, the block's room is noted.

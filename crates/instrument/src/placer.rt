@@ -1,20 +1,75 @@
-ghost use Rattle.std.specs.Prelude.{◌≡◌, ◌+◌, ◌<◌, ◌≤◌, ◌⊎◌, IfOk, IfSome, Some};
+ghost use Rattle.std.specs.Prelude.{◌≡◌, ◌+◌, ◌<◌, ◌≤◌, ◌⊎◌, ◌^◌, Ok, Err, IfErr, IfOk, IfSome, OnOk, Some, length};
 ghost use Rattle.std.specs.Option.{option_map};
+ghost use Rattle.machine.specs.Cores.{In};
 ghost use Rattle.pn_types.specs.Images.{IsImage};
+ghost use Rattle.pn_types.specs.declared.plan.Site.{Site};
+ghost use Rattle.prim_code.specs.Counts as table;
+ghost use Rattle.prim_code.specs.Named.{AreBelow};
+ghost use Rattle.instrument.specs.Admission as admission;
 ghost use Rattle.instrument.specs.Laws.{IsPlaced};
 ghost use Rattle.instrument.specs.Placements as placements;
 ghost use Rattle.instrument.specs.Placers.{new_placer};
 ghost use Rattle.instrument.specs.Shown.{shown};
 ghost use Rattle.instrument.specs.declared.instrument.Instrument.{Instrument};
+ghost use Rattle.instrument.specs.declared.number.Refused.TheVariants.{NoMemory};
 ghost use Rattle.instrument.specs.declared.number.State.TheVariants.{Placing, Armed, Gone};
 
+use crate::costs::slot_count;
 use crate::event::Event;
-use crate::number::{InstrumentNo, State};
+use crate::instrument::Instrument;
+use crate::number::{InstrumentNo, Refused, State};
 use crate::roster::Roster;
+use crate::slots::{copy_vars, slots_from};
 use crate::tool_text::ToolText;
-use pn_types::{Image, MAX_INSTRUMENTS, NoMemory, Placed};
+use pn_types::{Image, MAX_INSTRUMENTS, NoMemory, Placed, Plan, Seq};
+use prim_code::predicted;
 use std::alloc::Global;
 use std::marker::Model;
+
+/// The cost in words is over the search's limit, if there is one.
+fn is_over(limit: Option<u64>, cost: u64) -> bool
+    ensures { result ≡ placements.is_over limit cost }
+{
+    match limit {
+        None => false,
+        Some(limit) => limit < cost,
+    }
+}
+
+/// Places the sites of a plan whose slots were found, from `first` on, and answers the instrument.
+fn place(
+    alloc: Global,
+    text: &mut ToolText,
+    number: InstrumentNo,
+    first: u32,
+    plan: &Plan,
+) -> Result<Instrument, Refused>
+    requires named { (s : Site) → In s plan.now.sites → AreBelow (length plan.now.vars) s.stmts }
+    requires words { table.predicted plan.now < 2 ^ 32 }
+    requires slots { first + admission.slot_count plan.now.vars < 2 ^ 32 }
+    ensures ok { OnOk result (admission.with_sites text.old.program number.n (admission.slots_from first plan.now.vars) plan.now.sites text.old.book ≡ Ok text.new.book) }
+    ensures instrument { IfOk result (λ i. i ≡ record { no = number.n; placed = record { vars = plan.now.vars; slots = admission.slots_from first plan.now.vars; sites = placements.sites_of number.n text.new.book.rooms }; state = Placing }) }
+    ensures refused { IfErr result (λ refused. (refused ≡ NoMemory) ⊎ (admission.with_sites text.old.program number.n (admission.slots_from first plan.now.vars) plan.now.sites text.old.book ≡ Err refused)) }
+    ensures unchanged { IfErr result (λ refused. text.new.book ≡ text.old.book) }
+    ensures program { text.new.program ≡ text.old.program }
+{
+    let Ok(vars) = copy_vars(alloc, plan.vars.as_slice()) else {
+        return Err(Refused::NoMemory);
+    };
+    let Ok(slots) = slots_from(alloc, first, plan.vars.as_slice()) else {
+        return Err(Refused::NoMemory);
+    };
+    let sites = text.place_sites(alloc, number.n, slots.as_slice(), plan.sites.as_slice())?;
+    Ok(Instrument {
+        no: number.n,
+        placed: Placed {
+            vars: Seq::from_vec(vars),
+            slots: Seq::from_vec(slots),
+            sites: Seq::from_vec(sites),
+        },
+        state: State::Placing,
+    })
+}
 
 /// The instruments of a patched machine: where they act, and what is to be done for them there. Contracts see the definitions'
 /// placements, and how many more entries of the agenda need no memory beside those of drops.
@@ -135,5 +190,52 @@ impl Placer {
     {
         self.text.free(point);
         self.roster.settle(self.text.rooms());
+    }
+
+    /// Admits a plan, under the search's limit of the cost in words if there is one: the instrument gets its slots and rooms, and
+    /// the placing of its sites is put into the agenda, in the order of their addresses. Its number is answered. Entries that no
+    /// drop needs may be used up.
+    ///
+    /// # Errors
+    ///
+    /// Why it is refused: it costs too much, there are as many instruments as are allowed, or slots or words of the tool text
+    /// are wanting, or a word can't be moved; or `NoMemory`, where memory or numbers are wanting. Then no placement has changed.
+    pub fn admit(
+        &mut self,
+        alloc: Global,
+        plan: &Plan,
+        cost: Option<u64>,
+    ) -> Result<InstrumentNo, Refused>
+        requires named { (s : Site) → In s plan.now.sites → AreBelow (length plan.now.vars) s.stmts }
+        requires words { table.predicted plan.now < 2 ^ 32 }
+        requires slots { admission.slot_count plan.now.vars < 2 ^ 32 }
+        ensures number { IfOk result (λ number. number.n ≡ self.old.placements.count) }
+        ensures ok { OnOk result (placements.admission self.old.placements plan.now cost ≡ Ok self.new.placements) }
+        ensures refused { IfErr result (λ refused. (refused ≡ NoMemory) ⊎ (placements.admission self.old.placements plan.now cost ≡ Err refused)) }
+        ensures unchanged { IfErr result (λ refused. self.new.placements ≡ self.old.placements) }
+    {
+        let words = predicted(plan);
+        if is_over(cost, words) {
+            return Err(Refused::OverCost(words));
+        }
+        if self.roster.instruments().len() >= self.limit as usize {
+            return Err(Refused::TooMany);
+        }
+        if self.roster.reserve().is_err() {
+            return Err(Refused::NoMemory);
+        }
+        let slots = slot_count(plan.vars.as_slice());
+        let Some(first) = self.roster.free_slots(slots) else {
+            return Err(Refused::NoSlot(slots));
+        };
+        let Some(count) = self.count.checked_add(1) else {
+            return Err(Refused::NoMemory);
+        };
+        let number = InstrumentNo { n: self.count };
+        // The slots are taken behind the sites: where a site is refused, none are to be given back.
+        let instrument = place(alloc, &mut self.text, number, first, plan)?;
+        self.roster.add(instrument);
+        self.count = count;
+        Ok(number)
     }
 }

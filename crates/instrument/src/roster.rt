@@ -1,11 +1,15 @@
 //! The instruments that aren't gone, by number.
 
-ghost use Rattle.std.specs.Prelude.{◌≡◌, ◌+◌, ◌==◌, ◌<◌, ◌≤◌, ◌++◌, ◌∷◌, [], IfOk, IfSome, OnErr, OnOk, None, Some, filter, find, length, map, vec_capacity, vec_len};
+ghost use Rattle.std.specs.Prelude.{◌≡◌, ◌+◌, ◌==◌, ◌<◌, ◌≤◌, ◌^◌, ◌++◌, ◌∷◌, [], IfOk, IfSome, OnErr, OnOk, None, Some, filter, find, flat_map, length, map, vec_capacity, vec_len};
 ghost use Rattle.std.specs.Option.{option_copied, option_map};
+ghost use Rattle.tramp_spec.specs.Slots.{places_of};
+ghost use Rattle.instrument.specs.Admission.{slot_count};
 ghost use Rattle.instrument.specs.Fits.{slots_for};
 ghost use Rattle.instrument.specs.Placements as placements;
 ghost use Rattle.instrument.specs.Rosters as rosters;
+ghost use Rattle.instrument.specs.Spaces.{IsRow, slots_of};
 
+use crate::costs;
 use crate::instrument::Instrument;
 use crate::number::{InstrumentNo, State};
 use crate::room::Room;
@@ -135,5 +139,55 @@ impl Roster {
     {
         give_gone(&mut self.slots, &self.instruments, rooms);
         keep_here(&mut self.instruments, rooms);
+    }
+
+    /// Takes the memory that one more instrument needs, and the taking of its slots.
+    ///
+    /// # Errors
+    ///
+    /// `NoMemory` where memory is wanting.
+    pub fn reserve(&mut self) -> Result<(), NoMemory>
+        ensures instruments { self.new.instruments ≡ self.old.instruments }
+        ensures room { OnOk result (0 < self.new.room) }
+        ensures takes { OnOk result (2 ≤ self.new.takes) }
+    {
+        let room = self.room.max(1);
+        self.instruments.reserve(room)?;
+        self.room = room;
+        self.slots.reserve(2)
+    }
+
+    /// The first of the lowest so many consecutive slots that are free: None exactly where there are none. They stay free.
+    pub fn free_slots(&mut self, count: u32) -> Option<u32>
+        requires { 2 ≤ self.old.takes }
+        ensures slot { result ≡ slots_for (flat_map (λ i. places_of i.placed) self.old.instruments) count }
+        ensures within { IfSome result (λ slot. slot + count < 2 ^ 32) }
+        ensures instruments { self.new.instruments ≡ self.old.instruments }
+        ensures room { self.new.room ≡ self.old.room }
+        ensures takes { 1 ≤ self.new.takes }
+    {
+        if count == 0 {
+            return Some(FIRST_SLOT);
+        }
+        let slot = self.slots.take(count)?;
+        self.slots.give(slot, count);
+        Some(slot as u32)
+    }
+
+    /// Puts an instrument behind the others, which has the lowest slots that are free.
+    pub fn add(&mut self, instrument: Instrument)
+        requires room { 0 < self.old.room }
+        requires takes { 0 < self.old.takes }
+        requires few { slot_count instrument.placed.vars < 2 ^ 32 }
+        requires row { IsRow instrument }
+        requires free { slots_for (flat_map (λ i. places_of i.placed) self.old.instruments) (slot_count instrument.placed.vars) ≡ Some (slots_of instrument).at }
+        ensures instruments { self.new.instruments ≡ self.old.instruments ++ instrument ∷ [] }
+    {
+        let count = costs::slot_count(instrument.placed.vars.as_slice());
+        if count > 0 {
+            let _slot = self.slots.take(count);
+        }
+        self.instruments.push_reserved(instrument);
+        self.room -= 1;
     }
 }

@@ -1,9 +1,10 @@
 //! The slots of instruments.
 
-ghost use Rattle.std.specs.Prelude.{◌≡◌, ◌==◌, ◌^◌, ◌<◌, filter, nat_lt, if◌then◌else◌};
+ghost use Rattle.std.specs.Prelude.{◌≡◌, ◌+◌, ◌==◌, ◌^◌, ◌<◌, IfOk, filter, nat_lt, if◌then◌else◌};
 ghost use Rattle.std.specs.List.{list_any};
 ghost use Rattle.tool_space.specs.Rooms.{IsTaken, after_give};
 ghost use Rattle.tramp_spec.specs.Banks.{first_slot};
+ghost use Rattle.instrument.specs.Admission as table;
 ghost use Rattle.instrument.specs.Admission.{slot_count};
 ghost use Rattle.instrument.specs.Placements as placements;
 ghost use Rattle.instrument.specs.Spaces.{AreSlotsOf, first_or, slots_of_placed};
@@ -11,7 +12,8 @@ ghost use Rattle.instrument.specs.Spaces.{AreSlotsOf, first_or, slots_of_placed}
 use crate::costs::slot_count;
 use crate::instrument::Instrument;
 use crate::room::Room;
-use pn_types::{FIRST_SLOT, Placed};
+use pn_types::{FIRST_SLOT, NoMemory, Placed, Var};
+use std::alloc::Global;
 use tool_space::Space;
 
 /// A mini block of the instrument has a room.
@@ -67,4 +69,33 @@ pub fn give_gone(slots: &mut Space, instruments: &[Instrument], rooms: &[Room])
             give_slots(slots, &instrument.placed);
         }
     }
+}
+
+/// The slots of variables, which follow each other from one on.
+pub fn slots_from(alloc: Global, first: u32, vars: &[Var]) -> Result<Vec<u32>, NoMemory>
+    requires { first + slot_count vars.now < 2 ^ 32 }
+    ensures { IfOk result (λ slots. slots.items ≡ table.slots_from first vars.now) }
+{
+    let mut slots = Vec::new(alloc);
+    let mut slot = first;
+    for var in vars {
+        slots.push(slot)?;
+        slot += if var.timer { 2 } else { 1 };
+    }
+    Ok(slots)
+}
+
+/// A copy of variables.
+pub fn copy_vars(alloc: Global, vars: &[Var]) -> Result<Vec<Var>, NoMemory>
+    ensures { IfOk result (λ copies. copies.items ≡ vars.now) }
+{
+    let mut copies = Vec::new(alloc);
+    for var in vars {
+        copies.push(Var {
+            name: var.name.copy(alloc)?,
+            timer: var.timer,
+            initially: var.initially,
+        })?;
+    }
+    Ok(copies)
 }

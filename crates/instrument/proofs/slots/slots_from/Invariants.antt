@@ -1,0 +1,9 @@
+use Rattle.std.proofs.Common.{◌≡◌, ◌+◌, ◌++◌, drop}
+use Rattle.instrument.specs.Admission as table
+use Rattle.instrument.proofs.slots.slots_from.Given as goal
+
+abbrev pub invariant-loop-var : goal.invariant-loop-var
+invariant-loop-var l = record {
+  slots : l.slots.items ++ table.slots_from l.slot (drop l.var-index l.vars) ≡ table.slots_from l.first l.vars;
+  count : l.slot + table.slot_count (drop l.var-index l.vars) ≡ l.first + table.slot_count l.vars;
+}
