@@ -1,0 +1,97 @@
+//! Admits plans up to the first that is refused, and prints how many were admitted and why the next wasn't.
+#![tactic(auto)]
+
+mod plans;
+
+ghost use Rattle.std.specs.Prelude.{◌≡◌, ◌*◌, ◌<◌, ◌≤◌, ◌^◌, IfOk, length};
+ghost use Rattle.machine.specs.Cores.{In};
+ghost use Rattle.pn_types.specs.Images.{IsImage};
+ghost use Rattle.pn_types.specs.declared.limits.TheConstants.{MAX_INSTRUMENTS};
+ghost use Rattle.pn_types.specs.declared.plan.Site.{Site};
+ghost use Rattle.prim_code.specs.Counts.{predicted};
+ghost use Rattle.prim_code.specs.Named.{AreBelow};
+ghost use Rattle.instrument.specs.Admission.{slot_count};
+
+use instrument::{Placer, Refused};
+use plans::{counted_words, counters};
+use pn_types::{Image, NoMemory, Plan, Segment, Seq};
+use std::alloc::Global;
+use std::io;
+use std::process::ExitCode;
+
+/// Where the program's text stands.
+const TEXT_AT: u64 = 0x10000;
+
+/// A program of 4,096 words `nop`.
+fn image(alloc: Global) -> Result<Image, NoMemory>
+    ensures { IfOk result IsImage }
+{
+    let mut bytes = Vec::with_capacity(alloc, 0x4000)?;
+    for _ in 0..0x1000u32 {
+        bytes.extend_from_slice(b"\x13\0\0\0")?;
+    }
+    let mut segments = Vec::new(alloc);
+    segments.push(Segment {
+        at: TEXT_AT,
+        bytes: Seq::from_vec(bytes),
+        size: 0x4000,
+    })?;
+    Ok(Image {
+        segments: Seq::from_vec(segments),
+        text_at: TEXT_AT,
+        text_len: 0x4000,
+        entry: TEXT_AT,
+        symbols: Seq::from_vec(Vec::new(alloc)),
+    })
+}
+
+/// How often a plan was admitted, and why it was refused in the end.
+#[derive(Debug, Drop)]
+struct Filled {
+    admitted: u32,
+    refused: Option<Refused>,
+}
+
+/// Admits a plan over and over, where so many instruments are allowed, up to the first time that it is refused.
+fn fill(alloc: Global, instruments: u32, plan: &Plan, cost: Option<u64>) -> Result<Filled, NoMemory>
+    requires some { 0 < instruments }
+    requires few { instruments ≤ MAX_INSTRUMENTS }
+    requires named { (s : Site) → In s plan.now.sites → AreBelow (length plan.now.vars) s.stmts }
+    requires words { predicted plan.now < 2 ^ 32 }
+    requires slots { slot_count plan.now.vars < 2 ^ 32 }
+{
+    let image = image(alloc)?;
+    let mut placer = Placer::new(alloc, &image, instruments)?;
+    for admitted in 0..=instruments {
+        if let Err(refused) = placer.admit(alloc, plan, cost) {
+            return Ok(Filled {
+                admitted,
+                refused: Some(refused),
+            });
+        }
+    }
+    Ok(Filled {
+        admitted: instruments,
+        refused: None,
+    })
+}
+
+fn main(rt: HostRuntime) -> Result<ExitCode, io::Error> {
+    let alloc = rt.alloc();
+    let many = counters(alloc, 4095)?;
+    let none = counters(alloc, 0)?;
+    let everywhere = counted_words(alloc, TEXT_AT, 4096)?;
+    let filled = fill(alloc, 64, &many, None)?;
+    println!(rt; "4095 counters: {filled:?}")?;
+    let filled = fill(alloc, 64, &none, None)?;
+    println!(rt; "no site, 64 allowed: {filled:?}")?;
+    let filled = fill(alloc, 1024, &none, None)?;
+    println!(rt; "no site, 1024 allowed: {filled:?}")?;
+    let filled = fill(alloc, 64, &everywhere, None)?;
+    println!(rt; "4096 sites: {filled:?}")?;
+    let filled = fill(alloc, 64, &everywhere, Some(20_480))?;
+    println!(rt; "4096 sites, 20480 words allowed: {filled:?}")?;
+    let filled = fill(alloc, 64, &everywhere, Some(20_479))?;
+    println!(rt; "4096 sites, 20479 words allowed: {filled:?}")?;
+    Ok(ExitCode::SUCCESS)
+}
