@@ -7,10 +7,10 @@ use Rattle.rv_word.specs.Plain.{Words}
 use Rattle.tool_space.specs.Rooms.{Rooms, new_space, after_give}
 use Rattle.tramp_spec.specs.Codes.{tool_at}
 use Rattle.machine.proofs.Lists.{in_map}
-use Rattle.instrument.specs.Agendas.{first_entry, without_first}
+use Rattle.instrument.specs.Agendas.{without_first}
 use Rattle.instrument.specs.Books.{Book, is_held, stays, is_mini_of, mini_leaves, base_leaves, rooms_left, without_site, with_hold, unlinked_at, rooms_behind}
 use Rattle.instrument.specs.Ledgers.{LedgerData}
-use Rattle.instrument.specs.Placements.{behind_first, is_site_of, without_sites}
+use Rattle.instrument.specs.Placements.{behind_first, first_of, is_site_of, without_sites}
 use Rattle.instrument.specs.Spaces.{IsSpaceOf, words_of_room, IsWhole, AreRoomsOf}
 use Rattle.instrument.specs.ToolTexts.{held_minis, for_drops, IsToolText}
 use Rattle.instrument.specs.declared.entry.Entry.{Entry}
@@ -126,11 +126,11 @@ entries_behind t l m words k b e =
     omega (arith, f, o, h, e, k.entries)
 
 pub entry_freed : (t : Words) (l m : LedgerData) (words : Rooms) → IsToolText t l words → m.book ≡ behind_first l.book.agenda l.book
-    → m.spare_entries ≡ (without_first (record { entries = l.book.agenda; room = l.spare_entries })).room → (o : Option Entry) → o ≡ first_entry l.book.agenda
+    → m.spare_entries ≡ (without_first (record { entries = l.book.agenda; room = l.spare_entries })).room → (o : Option Entry) → o ≡ first_of l.book.agenda
     → IfSome o (λ x. l.spare_entries - for_drops l.book.rooms < m.spare_entries - for_drops m.book.rooms)
 entry_freed t l m words k b e o q = subst (λ (z : Option Entry). IfSome z (λ x. l.spare_entries - for_drops l.book.rooms < m.spare_entries - for_drops m.book.rooms)) (sym q) (by l.book.agenda refl)
   where
-    by : (agenda : List Entry) → l.book.agenda ≡ agenda → IfSome (first_entry agenda) (λ x. l.spare_entries - for_drops l.book.rooms < m.spare_entries - for_drops m.book.rooms)
+    by : (agenda : List Entry) → l.book.agenda ≡ agenda → IfSome (first_of agenda) (λ x. l.spare_entries - for_drops l.book.rooms < m.spare_entries - for_drops m.book.rooms)
     by [] a = tt
     by (x ∷ es) a =
         let f = fewer_behind l.book.agenda l.book in

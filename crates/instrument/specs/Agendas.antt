@@ -18,10 +18,6 @@ with_room count a = record a { room = max a.room count }
 abbrev pub with_entry : Entry → AgendaData → AgendaData
 with_entry e a = record { entries = a.entries ++ e ∷ []; room = a.room - 1 }
 
-abbrev pub first_entry : List Entry → Option Entry
-first_entry [] = None
-first_entry (e ∷ es) = Some e
-
 -- the place of an entry that is taken is room again
 abbrev pub without_first_of : List Entry → AgendaData → AgendaData
 without_first_of [] a = a
@@ -29,10 +25,6 @@ without_first_of (e ∷ es) a = record { entries = es; room = a.room + 1 }
 
 abbrev pub without_first : AgendaData → AgendaData
 without_first a = without_first_of a.entries a
-
-abbrev pub point_of : Option FoundFree → Option ℕ
-point_of None = None
-point_of (Some f) = Some f.point
 
 abbrev pub without_found : Option FoundFree → AgendaData → AgendaData
 without_found None a = a

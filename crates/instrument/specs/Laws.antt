@@ -4,8 +4,8 @@ use Rattle.pn_types.specs.declared.image.Image.{Image}
 use Rattle.pn_types.specs.declared.placed.PlacedSite.{PlacedSite}
 use Rattle.pn_types.specs.declared.plan.Plan.{Plan}
 use Rattle.tramp_spec.specs.Slots.{places_of, ArePlaces, ShareNone}
-use Rattle.machine.specs.Cores.{In, Core, Live, start_core}
-use Rattle.machine.specs.Events.{Apart, HasMini, IsEntered}
+use Rattle.machine.specs.Cores.{In, start_core}
+use Rattle.machine.specs.Events.{Apart, AreLinked}
 use Rattle.machine.specs.Instruments.{Carries, InForce}
 use Rattle.machine.specs.Laws.{IsProgram}
 use Rattle.machine.specs.Replays.{replay, Legal}
@@ -43,10 +43,6 @@ IsNoPlacing s (Free p) = Unit {0}
 abbrev pub IsPlaced : Placements → Instrument → Type 0
 IsPlaced p i = (s : PlacedSite) → In s i.placed.sites → (e : Entry) → In e p.book.agenda → IsNoPlacing s e
 
--- each site's mini block is live, and the jump to a base block stands at its point
-abbrev pub IsLinked : Core → Instrument → Type 0
-IsLinked c i = (s : PlacedSite) → In s i.placed.sites → HasMini c s.at s.mini Live × IsEntered c s.at
-
 -- ---- laws: behind all acts each of which could be done when its turn came
 
 abbrev pub Always : (Image → ℕ → ℕ → ℕ → List Act → Type 0) → Type 0
@@ -65,11 +61,11 @@ pub record IsApart (image : Image) (harts budget limit : ℕ) (acts : List Act) 
 -- an instrument that can be armed has all entries of its placing handed out
 pub record IsPlacedWhenLinked (image : Image) (harts budget limit : ℕ) (acts : List Act) : Type 0 where
   pub placed : (i : Instrument) → In i (scene_after acts (first_scene image harts budget limit)).placer.instruments → i.state ≡ Placing
-      → IsLinked (scene_after acts (first_scene image harts budget limit)).core i → IsPlaced (scene_after acts (first_scene image harts budget limit)).placer i
+      → AreLinked (scene_after acts (first_scene image harts budget limit)).core i.placed.sites → IsPlaced (scene_after acts (first_scene image harts budget limit)).placer i
 
 -- an instrument that is armed is linked, carries its plan, and is in force since its arming
 pub record StaysInForce (image : Image) (harts budget limit : ℕ) (acts : List Act) : Type 0 where
-  pub linked : (i : Instrument) → In i (scene_after acts (first_scene image harts budget limit)).placer.instruments → i.state ≡ Armed → IsLinked (scene_after acts (first_scene image harts budget limit)).core i
+  pub linked : (i : Instrument) → In i (scene_after acts (first_scene image harts budget limit)).placer.instruments → i.state ≡ Armed → AreLinked (scene_after acts (first_scene image harts budget limit)).core i.placed.sites
   pub force : (i : Instrument) → In i (scene_after acts (first_scene image harts budget limit)).placer.instruments → i.state ≡ Armed
       → InForce i.placed (events_of acts (first_scene image harts budget limit)) (start_core image harts budget)
   pub carries : (i : Instrument) → In i (scene_after acts (first_scene image harts budget limit)).placer.instruments → i.state ≡ Armed

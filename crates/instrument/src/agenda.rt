@@ -1,6 +1,7 @@
 ghost use Rattle.std.specs.Prelude.{◌≡◌, ◌<◌, [], OnErr, OnOk, length, take};
 ghost use Rattle.instrument.specs.Agendas as lists;
 ghost use Rattle.instrument.specs.Books.{first_free};
+ghost use Rattle.instrument.specs.Placements.{first_of, point_in};
 
 use crate::entry::Entry;
 use crate::freeing::{FreeAt, find_free};
@@ -80,7 +81,7 @@ impl Agenda {
 
     /// Takes the first entry.
     pub fn take_first(&mut self) -> Option<Entry>
-        ensures entry { result ≡ lists.first_entry self.old.entries }
+        ensures entry { result ≡ first_of self.old.entries }
         ensures taken { self.new ≡ lists.without_first self.old }
     {
         let entry = self.entries.pop_front()?;
@@ -89,7 +90,7 @@ impl Agenda {
     }
     /// Takes the first Free before which no unlinking of its point stands, and answers its point.
     pub fn take_free(&mut self) -> Option<u64>
-        ensures point { result ≡ lists.point_of (first_free [] self.old.entries) }
+        ensures point { result ≡ point_in (first_free [] self.old.entries) }
         ensures taken { self.new ≡ lists.without_free self.old }
     {
         let FreeAt { place, point } = find_free(&self.entries)?;

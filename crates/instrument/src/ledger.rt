@@ -2,7 +2,7 @@ ghost use Rattle.std.specs.Prelude.{◌≡◌, ◌+◌, ◌<◌, ◌≤◌, [], 
 ghost use Rattle.instrument.specs.Agendas as lists;
 ghost use Rattle.instrument.specs.Books as books;
 ghost use Rattle.instrument.specs.Ledgers as ledgers;
-ghost use Rattle.instrument.specs.Placements.{agenda_in, behind_first, is_site_of, without_sites};
+ghost use Rattle.instrument.specs.Placements.{agenda_in, behind_first, first_of, is_site_of, point_in, without_sites};
 ghost use Rattle.instrument.specs.Spaces.{AreDistinct};
 ghost use Rattle.instrument.specs.ToolTexts.{for_drops};
 ghost use Rattle.instrument.specs.declared.entry.Entry.TheVariants.{Free};
@@ -95,7 +95,7 @@ impl Ledger {
 
     /// Hands out the first entry of the agenda. Where it unlinks a block, the block's room is noted.
     pub fn hand_out(&mut self) -> Option<Entry>
-        ensures entry { result ≡ lists.first_entry self.old.book.agenda }
+        ensures entry { result ≡ first_of self.old.book.agenda }
         ensures book { self.new.book ≡ behind_first self.old.book.agenda self.old.book }
         ensures spare { self.new.spare_rooms ≡ self.old.spare_rooms }
         ensures entries { self.new.spare_entries ≡ (lists.without_first (record { entries = self.old.book.agenda; room = self.old.spare_entries })).room }
@@ -119,7 +119,7 @@ impl Ledger {
 
     /// Takes out the first Free before which no unlinking of its point stands, and answers its point.
     pub fn take_free(&mut self) -> Option<u64>
-        ensures point { result ≡ lists.point_of (books.first_free [] self.old.book.agenda) }
+        ensures point { result ≡ point_in (books.first_free [] self.old.book.agenda) }
         ensures rooms { self.new.book.rooms ≡ self.old.book.rooms }
         ensures agenda { self.new.book.agenda ≡ agenda_in (books.first_free [] self.old.book.agenda) self.old.book.agenda }
         ensures spare { self.new.spare_rooms ≡ self.old.spare_rooms }
