@@ -1,5 +1,5 @@
 -- The report of a run without instruments.
-use Rattle.std.specs.Prelude.{ℕ, ◌≡◌, Bool, true, false, List, Option, None, Some, map}
+use Rattle.std.specs.Prelude.{ℕ, ◌≡◌, Bool, true, false, List, [], Option, None, Some, map}
 use Rattle.pn_types.specs.declared.image.Image.{Image}
 use Rattle.pn_types.specs.declared.limits.TheConstants.{MAX_QUANTA}
 use Rattle.pn_types.specs.declared.settings.Settings.{Settings}
@@ -35,7 +35,7 @@ hart_part budget x = record { ticks = x.ticks; stop = ended_by x.stop (may_go (S
 
 -- what is reported of a run that ended in a state
 abbrev pub parts_of : ℕ → ℕ → Plain → ReportParts
-parts_of budget samples s = record { harts = map (hart_part budget) s.harts; samples = samples; output = s.prog.out }
+parts_of budget samples s = record { harts = map (hart_part budget) s.harts; samples = samples; output = s.prog.out; refused = []; shown = [] }
 
 -- The report of an image's run: its harts take a whole list of quanta, each of at most so many turns, in the order of the
 -- seed, and there are at most MAX_QUANTA of them.

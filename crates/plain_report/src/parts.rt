@@ -66,5 +66,7 @@ pub fn report_parts(
         harts: Seq::from_vec(hart_parts(alloc, machine, harts)?),
         samples,
         output: Text::from_vec(output),
+        refused: Seq::from_vec(Vec::new(alloc)),
+        shown: Seq::from_vec(Vec::new(alloc)),
     })
 }

@@ -5,8 +5,9 @@ mod lines;
 mod parts;
 mod plan_lines;
 mod point_lines;
+mod shown_lines;
 
 pub use lines::report;
-pub use parts::{HartPart, ReportParts};
+pub use parts::{HartPart, RefusedPart, ReportParts, ShownPart};
 pub use plan_lines::plan_text;
 pub use point_lines::points_text;

@@ -1,0 +1,123 @@
+ghost use Rattle.std.specs.Prelude.{◌≡◌, ◌++◌, ◌<◌, ◌^◌, if◌then◌else◌, codes, flat_map, length, OnOk};
+ghost use Rattle.std.specs.List.{All};
+ghost use Rattle.report.specs.ShownTexts.{bin_line, bin_lines, from_text, histogram_line, pair_text, refused_line, shown_lines};
+
+use crate::parts::{RefusedPart, ShownPart};
+use fold_hist::Bin;
+use pn_types::{NoMemory, Text};
+use std::alloc::Global;
+
+/// A metric at a focus.
+fn add_pair(out: &mut Vec<u8>, metric: &Text, focus: &Text) -> Result<(), NoMemory>
+    ensures { OnOk result (out.new.items ≡ out.old.items ++ pair_text metric.now focus.now) }
+{
+    out.extend_from_slice(metric.bytes())?;
+    out.extend_from_slice(b" ")?;
+    out.extend_from_slice(focus.bytes())
+}
+
+/// What was wished.
+fn add_wish(out: &mut Vec<u8>, show: bool) -> Result<(), NoMemory>
+    ensures { OnOk result (out.new.items ≡ out.old.items ++ (if show then codes "show " else codes "drop ")) }
+{
+    if show {
+        out.extend_from_slice(b"show ")
+    } else {
+        out.extend_from_slice(b"drop ")
+    }
+}
+
+/// The line of a wish that was refused.
+fn add_refused(alloc: Global, out: &mut Vec<u8>, part: &RefusedPart) -> Result<(), NoMemory>
+    ensures { OnOk result (out.new.items ≡ out.old.items ++ refused_line part.now) }
+{
+    out.extend_from_slice(b"refused ")?;
+    add_wish(out, part.show)?;
+    add_pair(out, &part.metric, &part.focus)?;
+    let at = part.at;
+    let cause = part.cause;
+    let rest = format!(in alloc; " at {at}: {cause}\n")?;
+    out.extend_from_slice(rest.as_bytes())
+}
+
+/// The lines of the wishes that were refused.
+pub fn add_all_refused(
+    alloc: Global,
+    out: &mut Vec<u8>,
+    parts: &[RefusedPart],
+) -> Result<(), NoMemory>
+    ensures { OnOk result (out.new.items ≡ out.old.items ++ flat_map refused_line parts.now) }
+{
+    for part in parts {
+        add_refused(alloc, out, part)?;
+    }
+    Ok(())
+}
+
+/// From when on something was shown.
+fn add_from(alloc: Global, out: &mut Vec<u8>, from: Option<u64>) -> Result<(), NoMemory>
+    ensures { OnOk result (out.new.items ≡ out.old.items ++ from_text from) }
+{
+    match from {
+        None => out.extend_from_slice(b"none"),
+        Some(from) => {
+            let text = format!(in alloc; "{from}")?;
+            out.extend_from_slice(text.as_bytes())
+        }
+    }
+}
+
+/// The first line of a histogram.
+fn add_histogram(alloc: Global, out: &mut Vec<u8>, part: &ShownPart) -> Result<(), NoMemory>
+    ensures { OnOk result (out.new.items ≡ out.old.items ++ histogram_line part.now) }
+{
+    out.extend_from_slice(b"histogram ")?;
+    add_pair(out, &part.metric, &part.focus)?;
+    out.extend_from_slice(b" units ")?;
+    out.extend_from_slice(part.units.bytes())?;
+    out.extend_from_slice(b" from ")?;
+    add_from(alloc, out, part.from)?;
+    let bins = part.bins.as_slice().len();
+    let width = part.width;
+    let rest = format!(in alloc; " bins {bins} width {width}\n")?;
+    out.extend_from_slice(rest.as_bytes())
+}
+
+/// The line of a bin.
+fn add_bin(alloc: Global, out: &mut Vec<u8>, number: usize, bin: &Bin) -> Result<(), NoMemory>
+    ensures { OnOk result (out.new.items ≡ out.old.items ++ bin_line number bin.now) }
+{
+    let from = bin.from;
+    let to = bin.to;
+    let sum = bin.sum;
+    let line = format!(in alloc; "bin {number} from {from} to {to} value {sum}\n")?;
+    out.extend_from_slice(line.as_bytes())
+}
+
+/// The lines of all bins.
+fn add_bins(alloc: Global, out: &mut Vec<u8>, bins: &[Bin]) -> Result<(), NoMemory>
+    ensures { OnOk result (out.new.items ≡ out.old.items ++ bin_lines 0 bins.now) }
+{
+    for (number, bin) in bins.iter().enumerate() {
+        add_bin(alloc, out, number, bin)?;
+    }
+    Ok(())
+}
+
+/// The lines of one histogram.
+fn add_shown(alloc: Global, out: &mut Vec<u8>, part: &ShownPart) -> Result<(), NoMemory>
+    ensures { OnOk result (out.new.items ≡ out.old.items ++ shown_lines part.now) }
+{
+    add_histogram(alloc, out, part)?;
+    add_bins(alloc, out, part.bins.as_slice())
+}
+
+/// The lines of all histograms.
+pub fn add_all_shown(alloc: Global, out: &mut Vec<u8>, parts: &[ShownPart]) -> Result<(), NoMemory>
+    ensures { OnOk result (out.new.items ≡ out.old.items ++ flat_map shown_lines parts.now) }
+{
+    for part in parts {
+        add_shown(alloc, out, part)?;
+    }
+    Ok(())
+}
