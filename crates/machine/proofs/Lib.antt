@@ -31,6 +31,9 @@ pub mod Taking
 pub mod Firsts
 pub mod Packing
 pub mod Settled
+pub mod Quanta
+pub mod Alone
+pub mod OwnTurns
 pub mod Told
 pub mod Force
 pub mod Ways

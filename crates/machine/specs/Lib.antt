@@ -14,10 +14,12 @@ pub mod Readings
 pub mod FirstTurns
 pub mod Leaving
 pub mod States
+pub mod Quanta
 pub mod Reached
 pub mod Codes
 pub mod Views
 pub mod Performing
+pub mod Alone
 pub mod LoopCounted
 pub mod Links
 pub mod ThreeCounters

@@ -2,7 +2,7 @@
 use Rattle.std.specs.Prelude.{ℕ, zero, suc, ◌+◌, if◌then◌else◌, List, [], ◌∷◌, ◌++◌, length}
 use Rattle.machine.specs.Cores.{Row, Core}
 use Rattle.machine.specs.Events.{Event, Turn}
-use Rattle.machine.specs.Turns.{turn}
+use Rattle.machine.specs.Turns.{turn, is_runnable}
 use Rattle.machine.specs.Leaving.{is_out}
 use Rattle.machine.specs.Replays.{replay}
 
@@ -13,6 +13,13 @@ pub record Machine : Type 0 where
 
 abbrev pub with_core : Machine → Core → Machine
 with_core m c = record { core = c; room = m.room }
+
+-- ---- a quantum: a hart takes turns as long as it is runnable
+
+-- The turns of hart h, at most so many.
+abbrev pub quantum_turns : ℕ → ℕ → Core → List Event
+quantum_turns zero h c = []
+quantum_turns (suc most) h c = if is_runnable c h then Turn h ∷ quantum_turns most h (turn c h) else []
 
 -- ---- settling: each hart inside, by number, takes turns until it is outside or stopped
 

@@ -24,11 +24,11 @@ use tramp_spec::Mark;
 /// What one hart has. Contracts see the definitions' record of it.
 #[derive(Drop)]
 pub struct HartState {
-    pc: u64,
-    regs: Regs,
-    ticks: u64,
-    stop: Option<Cause>,
-    inside: bool,
+    pub(crate) pc: u64,
+    pub(crate) regs: Regs,
+    pub(crate) ticks: u64,
+    pub(crate) stop: Option<Cause>,
+    pub(crate) inside: bool,
     bank: Vec<u64>,
 }
 

@@ -7,6 +7,7 @@ ghost use Rattle.machine.specs.Laws.{Erasure, ReplaysGoOn};
 ghost use Rattle.machine.specs.LoopCounted.{LoopCounted};
 ghost use Rattle.machine.specs.Measures.{LevelsGoOn, MeasuresAdd};
 ghost use Rattle.machine.specs.Arming.{ArmingSets};
+ghost use Rattle.machine.specs.Quanta.{BudgetIsKept, QuantaAreLegal, TimeGoesOn};
 ghost use Rattle.machine.specs.Readings.{ReadingsMeasure};
 ghost use Rattle.machine.specs.ThreeCounters.{MinisUnlinked, PointUnlinked};
 
@@ -36,6 +37,21 @@ pub fn arming_sets()
 /// blocks of its point that aren't freed have words. From the jump that enters it is one turn more.
 pub fn leaves_soon()
     ensures { LeavesSoon }
+{}
+
+/// The turns of a quantum may happen when they come, and those that are ticks are the hart's.
+pub fn quanta_are_legal()
+    ensures { QuantaAreLegal }
+{}
+
+/// The time, which is the ticks of all harts together, goes on by the events that are ticks.
+pub fn time_goes_on()
+    ensures { TimeGoesOn }
+{}
+
+/// No hart has more ticks than the budget.
+pub fn budget_is_kept()
+    ensures { BudgetIsKept }
 {}
 
 /// Lists of events may be parted anywhere: what a list leads to, what it owns and whether it is legal go on from its first part.

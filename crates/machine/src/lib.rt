@@ -9,12 +9,16 @@ mod laws;
 mod machine;
 mod patching;
 mod performing;
+mod quantum;
 mod settling;
 mod slots;
+mod turning;
 
 pub use instruments::Sample;
 pub use laws::{
-    arming_sets, erasure, first_turns, hart_inside, leaves_soon, levels_go_on, loop_counted,
-    measures_add, minis_unlinked, point_unlinked, readings_measure, replays_go_on,
+    arming_sets, budget_is_kept, erasure, first_turns, hart_inside, leaves_soon, levels_go_on,
+    loop_counted, measures_add, minis_unlinked, point_unlinked, quanta_are_legal, readings_measure,
+    replays_go_on, time_goes_on,
 };
 pub use machine::Machine;
+pub use quantum::Taken;

@@ -17,6 +17,9 @@ use std::{env, io};
 /// More ticks than a run has.
 const BUDGET: u64 = 100_000_000;
 
+/// The turns of a quantum.
+const QUANTUM: u32 = 50;
+
 /// `ld a1, 0(a2)`, `addi a1, a1, 1`, `sd a1, 0(a2)`, `addi a0, a0, 1` and a jump back to the first.
 const LOOP: &[u8; 20] = b"\x83\x35\x06\0\x93\x85\x15\0\x23\x30\xb6\0\x13\x05\x15\0\x6f\xf0\x1f\xff";
 
@@ -72,17 +75,15 @@ fn machine(alloc: Global, unpatched: bool) -> Result<Option<Machine>, NoMemory>
     }
 }
 
-/// Turns of the only hart. It answers its ticks.
+/// Turns of the only hart, in quanta. It answers its ticks.
 fn run(machine: &mut Machine, turns: u64) -> u64
     requires { length machine.old.core.harts ≡ 1 }
 {
     let hart = HartNo::first();
-    for _ in 0..turns {
-        if !machine.runnable(hart) {
-            break;
-        }
-        machine.turn(hart);
+    for _ in 0..turns / QUANTUM as u64 {
+        machine.take_turns(hart, QUANTUM);
     }
+    machine.take_turns(hart, (turns % QUANTUM as u64) as u32);
     machine.ticks(hart)
 }
 

@@ -1,0 +1,49 @@
+-- For proofs alone: several turns of one hart by itself.
+use Rattle.std.specs.Prelude.{◌≡◌, ℕ, zero, suc, ◌<◌, ◌≤◌, ◌⊎◌, ◌&&◌, IsTrue, Bool, true, false, Option, Some}
+use Rattle.tramp_spec.specs.Codes.{fetched_at, is_tool_word}
+use Rattle.rv_word.specs.Table.{decode_of}
+use Rattle.rv_word.specs.declared.instr.Instr.{Instr}
+use Rattle.tramp_spec.specs.Marks.{is_own}
+use Rattle.tramp_spec.specs.Harts.{Solo, is_tick, step_of}
+use Rattle.tramp_spec.specs.declared.mark.MarkedWord.{MarkedWord}
+use Rattle.code_store.specs.Stores.{StoredCode}
+use Rattle.machine.specs.Performing.{home_in_store}
+use Rattle.machine.specs.Turns.{may_turn}
+
+-- what the hart fetches
+abbrev pub fetched_alone : StoredCode → Solo → Option MarkedWord
+fetched_alone s x = fetched_at s.program s.code x.hart.pc x.hart.inside
+
+-- one turn of hart h
+abbrev pub turned_alone : StoredCode → ℕ → Solo → Solo
+turned_alone s h x = step_of (fetched_alone s x) h (home_in_store s x.hart.pc x.hart.inside) x
+
+abbrev pub may_alone : ℕ → Solo → Bool
+may_alone budget x = may_turn (Some x.hart) budget
+
+-- a hart outside fetches a word of the program, which is this instruction
+pub record IsOwnWord (s : StoredCode) (pc : ℕ) (i : Option Instr) : Type 0 where
+  pub word : MarkedWord
+  pub fetched : fetched_at s.program s.code pc false ≡ Some word
+  pub own : is_own word.mark ≡ true
+  pub same : i ≡ decode_of word.word
+
+-- so many turns, each of which the hart could take, lead from the one to the other
+abbrev pub Leads : StoredCode → ℕ → ℕ → ℕ → Solo → Solo → Type 0
+Leads s budget h zero x z = z ≡ x
+Leads s budget h (suc k) x z = IsTrue (may_alone budget x) × Leads s budget h k (turned_alone s h x) z
+
+-- what is known of a hart that takes turns: where it stands, and that a tick is below the budget
+pub record IsPlaced (s : StoredCode) (budget : ℕ) (x : Solo) : Type 0 where
+  pub tool : x.hart.inside ≡ true → is_tool_word s.program x.hart.pc ≡ true
+  pub below : IsTrue (may_alone budget x) → is_tick (fetched_alone s x) ≡ true → x.hart.ticks < budget
+
+-- that is so wherever turns lead
+abbrev pub ArePlaced : StoredCode → ℕ → ℕ → Solo → Type 0
+ArePlaced s budget h x = (k : ℕ) (z : Solo) → Leads s budget h k x z → IsPlaced s budget z
+
+-- the hart took so many turns of at most `most`, and could take no more where these are fewer
+pub record TakesAlone (s : StoredCode) (budget h most : ℕ) (x z : Solo) (turns : ℕ) : Type 0 where
+  pub leads : Leads s budget h turns x z
+  pub bound : turns ≤ most
+  pub full : (turns ≡ most) ⊎ (may_alone budget z ≡ false)
