@@ -116,6 +116,9 @@ text_cut t l m words given n k r b e =
       entries = omega (arith, f, h, e, k.entries);
     }
 
+pub entries_cut : (l m : LedgerData) (n : ℕ) → m.book.rooms ≡ take n l.book.rooms → m.spare_entries ≡ l.spare_entries → l.spare_entries - for_drops l.book.rooms ≤ m.spare_entries - for_drops m.book.rooms
+entries_cut l m n b e = let f = held_take n l.book.rooms in let h = ap held_minis b in omega (arith, f, h, e)
+
 -- ---- a site is placed in the text
 
 pub text_placed : {A : Type 0} (t : Words) (l m : LedgerData) (words after : Rooms) (owner : ℕ) (slots : List ℕ) (s : Site) (r : Result A Refused) → IsToolText t l words → AreRoomsOf t after m.book.rooms

@@ -39,4 +39,7 @@ pub mod RoomsTaken
 pub mod Grown
 pub mod Added
 pub mod Mapping
+pub mod Ready
+pub mod Owners
+pub mod Memoryless
 pub mod Examples

@@ -5,6 +5,7 @@ pub mod Spaces
 pub mod Rosters
 pub mod ToolTexts
 pub mod Shown
+pub mod Needs
 pub mod Placers
 pub mod Handing
 pub mod Fits

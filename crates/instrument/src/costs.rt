@@ -51,9 +51,10 @@ pub fn entries_for(rooms: &[Room], sites: usize) -> Option<usize>
     drops.checked_add(sites.checked_mul(7)?)
 }
 
-/// How many rooms so many sites can take: each two. None where they are more than a space can reserve.
-pub fn rooms_for(sites: usize) -> Option<u32>
-    ensures { IfSome result (λ rooms. rooms ≡ 2 * sites) }
+/// How many takes of a space are needed for so many sites or instruments: two each. None where they are more than a space can
+/// reserve.
+pub fn takes_for(count: usize) -> Option<u32>
+    ensures { IfSome result (λ takes. takes ≡ 2 * count) }
 {
-    u32::try_from(sites.checked_mul(2)?).ok()
+    u32::try_from(count.checked_mul(2)?).ok()
 }

@@ -1,15 +1,21 @@
 //! Instruments: the rooms of their blocks, their slots, and the agenda of what is to be done for them in the patched machine.
 #![tactic(auto)]
 
+mod admission;
 mod agenda;
 mod blocks;
+mod buffers;
 mod costs;
 mod entry;
 mod event;
 mod freeing;
+mod giving;
 mod instrument;
+mod kit;
+mod kits;
 mod laws;
 mod ledger;
+mod memory;
 mod number;
 mod placer;
 mod placing;

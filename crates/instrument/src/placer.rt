@@ -1,12 +1,14 @@
-ghost use Rattle.std.specs.Prelude.{◌≡◌, ◌+◌, ◌<◌, ◌≤◌, ◌⊎◌, ◌^◌, Ok, Err, IfErr, IfOk, IfSome, OnOk, Some, length};
+ghost use Rattle.std.specs.Prelude.{◌≡◌, ◌+◌, ◌<◌, ◌≤◌, ◌⊎◌, ◌^◌, Ok, Err, IfErr, IfOk, IfSome, OnErr, OnOk, Some, [], length, map};
 ghost use Rattle.std.specs.Option.{option_map};
 ghost use Rattle.machine.specs.Cores.{In};
 ghost use Rattle.pn_types.specs.Images.{IsImage};
+ghost use Rattle.pn_types.specs.declared.plan.Plan.{Plan};
 ghost use Rattle.pn_types.specs.declared.plan.Site.{Site};
 ghost use Rattle.prim_code.specs.Counts as table;
 ghost use Rattle.prim_code.specs.Named.{AreBelow};
 ghost use Rattle.instrument.specs.Admission as admission;
 ghost use Rattle.instrument.specs.Laws.{IsPlaced};
+ghost use Rattle.instrument.specs.Needs.{need_of, without};
 ghost use Rattle.instrument.specs.Placements as placements;
 ghost use Rattle.instrument.specs.Placers.{new_placer};
 ghost use Rattle.instrument.specs.Shown.{shown};
@@ -14,65 +16,23 @@ ghost use Rattle.instrument.specs.declared.instrument.Instrument.{Instrument};
 ghost use Rattle.instrument.specs.declared.number.Refused.TheVariants.{NoMemory};
 ghost use Rattle.instrument.specs.declared.number.State.TheVariants.{Placing, Armed, Gone};
 
+use crate::admission::{is_over, place};
 use crate::costs::slot_count;
 use crate::event::Event;
-use crate::instrument::Instrument;
+use crate::kit::Kit;
+use crate::kits::{kits_for, sites_in, take_kit};
+use crate::memory::{kit_for, take_memory};
 use crate::number::{InstrumentNo, Refused, State};
 use crate::roster::Roster;
-use crate::slots::{copy_vars, slots_from};
 use crate::tool_text::ToolText;
-use pn_types::{Image, MAX_INSTRUMENTS, NoMemory, Placed, Plan, Seq};
+use pn_types::{Image, MAX_INSTRUMENTS, NoMemory, Placed, Plan};
 use prim_code::predicted;
-use std::alloc::Global;
+use std::alloc::{AllocError, Global};
 use std::marker::Model;
 
-/// The cost in words is over the search's limit, if there is one.
-fn is_over(limit: Option<u64>, cost: u64) -> bool
-    ensures { result ≡ placements.is_over limit cost }
-{
-    match limit {
-        None => false,
-        Some(limit) => limit < cost,
-    }
-}
-
-/// Places the sites of a plan whose slots were found, from `first` on, and answers the instrument.
-fn place(
-    alloc: Global,
-    text: &mut ToolText,
-    number: InstrumentNo,
-    first: u32,
-    plan: &Plan,
-) -> Result<Instrument, Refused>
-    requires named { (s : Site) → In s plan.now.sites → AreBelow (length plan.now.vars) s.stmts }
-    requires words { table.predicted plan.now < 2 ^ 32 }
-    requires slots { first + admission.slot_count plan.now.vars < 2 ^ 32 }
-    ensures ok { OnOk result (admission.with_sites text.old.program number.n (admission.slots_from first plan.now.vars) plan.now.sites text.old.book ≡ Ok text.new.book) }
-    ensures instrument { IfOk result (λ i. i ≡ record { no = number.n; placed = record { vars = plan.now.vars; slots = admission.slots_from first plan.now.vars; sites = placements.sites_of number.n text.new.book.rooms }; state = Placing }) }
-    ensures refused { IfErr result (λ refused. (refused ≡ NoMemory) ⊎ (admission.with_sites text.old.program number.n (admission.slots_from first plan.now.vars) plan.now.sites text.old.book ≡ Err refused)) }
-    ensures unchanged { IfErr result (λ refused. text.new.book ≡ text.old.book) }
-    ensures program { text.new.program ≡ text.old.program }
-{
-    let Ok(vars) = copy_vars(alloc, plan.vars.as_slice()) else {
-        return Err(Refused::NoMemory);
-    };
-    let Ok(slots) = slots_from(alloc, first, plan.vars.as_slice()) else {
-        return Err(Refused::NoMemory);
-    };
-    let sites = text.place_sites(alloc, number.n, slots.as_slice(), plan.sites.as_slice())?;
-    Ok(Instrument {
-        no: number.n,
-        placed: Placed {
-            vars: Seq::from_vec(vars),
-            slots: Seq::from_vec(slots),
-            sites: Seq::from_vec(sites),
-        },
-        state: State::Placing,
-    })
-}
-
 /// The instruments of a patched machine: where they act, and what is to be done for them there. Contracts see the definitions'
-/// placements, and how many more entries of the agenda need no memory beside those of drops.
+/// placements, how many more entries of the agenda need no memory beside those of drops, and the needs of the plans that are ready:
+/// the memory of their admissions was taken.
 #[derive(Drop)]
 pub struct Placer {
     text: ToolText,
@@ -80,14 +40,18 @@ pub struct Placer {
     // How many instruments are allowed at once, and how many were admitted ever.
     limit: u32,
     count: u64,
+    // What the plans that are ready need for themselves.
+    kits: Vec<Kit>,
 }
 
 impl Model for Placer {
-    ghost use Rattle.instrument.specs.Placers.{PlacerData, placer_data};
+    ghost use Rattle.instrument.specs.Placers.{IsPlacer, PlacerData, placer_data};
 
     ghost Value = { PlacerData };
 
-    ghost view = { λ p. placer_data p.text p.roster p.limit p.count };
+    ghost view = { λ p. placer_data p.text p.roster p.limit p.count p.kits.items };
+
+    ghost invariant = { λ p. IsPlacer p.text p.roster p.count p.kits.items };
 }
 
 impl Placer {
@@ -107,6 +71,7 @@ impl Placer {
             roster: Roster::new(alloc)?,
             limit: instruments,
             count: 0,
+            kits: Vec::new(alloc),
         })
     }
 
@@ -134,6 +99,7 @@ impl Placer {
         requires placed { (i : Instrument) → placements.instrument_at self.old.placements number.n ≡ Some i → IsPlaced self.old.placements i }
         ensures placements { self.new.placements ≡ placements.armed number.n self.old.placements }
         ensures entries { self.new.entries ≡ self.old.entries }
+        ensures ready { self.new.ready ≡ self.old.ready }
     {
         self.roster.set_state(number, State::Armed);
     }
@@ -143,6 +109,7 @@ impl Placer {
         requires { (placements.state_of self.old.placements number.n ≡ Placing) ⊎ (placements.state_of self.old.placements number.n ≡ Armed) }
         ensures placements { self.new.placements ≡ placements.dropped number.n self.old.placements }
         ensures entries { self.old.entries ≤ self.new.entries }
+        ensures ready { self.new.ready ≡ self.old.ready }
     {
         self.text.drop_sites(number.n);
         self.roster.set_state(number, State::Leaving);
@@ -155,6 +122,7 @@ impl Placer {
         ensures placements { self.new.placements ≡ placements.behind self.old.placements }
         ensures entries { self.old.entries ≤ self.new.entries }
         ensures room { IfSome result (λ event. self.old.entries < self.new.entries) }
+        ensures ready { self.new.ready ≡ self.old.ready }
     {
         match self.text.hand_out() {
             Some(entry) => Some(Event::of(entry)),
@@ -169,6 +137,7 @@ impl Placer {
         ensures placements { self.new.placements ≡ placements.free_behind self.old.placements }
         ensures entries { self.old.entries ≤ self.new.entries }
         ensures room { IfSome result (λ point. self.old.entries < self.new.entries) }
+        ensures ready { self.new.ready ≡ self.old.ready }
     {
         self.text.take_free()
     }
@@ -178,6 +147,7 @@ impl Placer {
         requires { 0 < self.old.entries }
         ensures placements { self.new.placements ≡ placements.put_back point self.old.placements }
         ensures entries { self.new.entries + 1 ≡ self.old.entries }
+        ensures ready { self.new.ready ≡ self.old.ready }
     {
         self.text.put_back(point);
     }
@@ -187,19 +157,49 @@ impl Placer {
     pub fn freed(&mut self, point: u64)
         ensures placements { self.new.placements ≡ placements.freed point self.old.placements }
         ensures entries { self.old.entries ≤ self.new.entries }
+        ensures ready { self.new.ready ≡ self.old.ready }
     {
         self.text.free(point);
         self.roster.settle(self.text.rooms());
     }
 
+    /// Takes the memory, and keeps the numbers, for the admission of each of these plans, which are ready then. What was kept for
+    /// other plans is given up. Entries that no drop needs may be used up.
+    ///
+    /// # Errors
+    ///
+    /// `NoMemory` where memory or numbers are wanting. Then no plan is ready.
+    pub fn reserve(&mut self, alloc: Global, plans: &[Plan]) -> Result<(), NoMemory>
+        requires words { (p : Plan) → In p plans.now → table.predicted p < 2 ^ 32 }
+        ensures placements { self.new.placements ≡ self.old.placements }
+        ensures ok { OnOk result (self.new.ready ≡ map need_of plans.now) }
+        ensures err { OnErr result (self.new.ready ≡ []) }
+    {
+        self.kits.clear();
+        let kits = kits_for(alloc, plans)?;
+        let Some(sites) = sites_in(kits.as_slice()) else {
+            return Err(AllocError);
+        };
+        take_memory(
+            &mut self.text,
+            &mut self.roster,
+            self.count,
+            sites,
+            kits.len(),
+        )?;
+        self.kits = kits;
+        Ok(())
+    }
+
     /// Admits a plan, under the search's limit of the cost in words if there is one: the instrument gets its slots and rooms, and
-    /// the placing of its sites is put into the agenda, in the order of their addresses. Its number is answered. Entries that no
-    /// drop needs may be used up.
+    /// the placing of its sites is put into the agenda, in the order of their addresses. Its number is answered. Where the plan is
+    /// ready, it is so no more, whatever is answered; else memory is taken, and entries that no drop needs may be used up.
     ///
     /// # Errors
     ///
     /// Why it is refused: it costs too much, there are as many instruments as are allowed, or slots or words of the tool text
-    /// are wanting, or a word can't be moved; or `NoMemory`, where memory or numbers are wanting. Then no placement has changed.
+    /// are wanting, or a word can't be moved; or `NoMemory`, where the plan isn't ready and memory or numbers are wanting. Then no
+    /// placement has changed.
     pub fn admit(
         &mut self,
         alloc: Global,
@@ -213,7 +213,10 @@ impl Placer {
         ensures ok { OnOk result (placements.admission self.old.placements plan.now cost ≡ Ok self.new.placements) }
         ensures refused { IfErr result (λ refused. (refused ≡ NoMemory) ⊎ (placements.admission self.old.placements plan.now cost ≡ Err refused)) }
         ensures unchanged { IfErr result (λ refused. self.new.placements ≡ self.old.placements) }
+        ensures memory { In (need_of plan.now) self.old.ready → result ≡ Err NoMemory → ⊥ }
+        ensures ready { self.new.ready ≡ without (need_of plan.now) self.old.ready }
     {
+        let kit = take_kit(&mut self.kits, plan);
         let words = predicted(plan);
         if is_over(cost, words) {
             return Err(Refused::OverCost(words));
@@ -221,21 +224,27 @@ impl Placer {
         if self.roster.instruments().len() >= self.limit as usize {
             return Err(Refused::TooMany);
         }
-        if self.roster.reserve().is_err() {
+        let kit = kit_for(
+            alloc,
+            &mut self.text,
+            &mut self.roster,
+            self.count,
+            &self.kits,
+            kit,
+            plan,
+        );
+        let Ok(kit) = kit else {
             return Err(Refused::NoMemory);
-        }
+        };
         let slots = slot_count(plan.vars.as_slice());
         let Some(first) = self.roster.free_slots(slots) else {
             return Err(Refused::NoSlot(slots));
         };
-        let Some(count) = self.count.checked_add(1) else {
-            return Err(Refused::NoMemory);
-        };
         let number = InstrumentNo { n: self.count };
         // The slots are taken behind the sites: where a site is refused, none are to be given back.
-        let instrument = place(alloc, &mut self.text, number, first, plan)?;
+        let instrument = place(&mut self.text, number, first, plan, kit)?;
         self.roster.add(instrument);
-        self.count = count;
+        self.count += 1;
         Ok(number)
     }
 }

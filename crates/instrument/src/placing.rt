@@ -1,15 +1,15 @@
 //! A site is placed: its blocks get the lowest rooms.
 
-ghost use Rattle.std.specs.Prelude.{◌≡◌, ◌+◌, ◌*◌, ◌<◌, ◌≤◌, ◌^◌, ◌⊎◌, [], IfErr, IfNone, IfSome, OnOk, Ok, Err, length, vec_capacity};
+ghost use Rattle.std.specs.Prelude.{◌≡◌, ◌+◌, ◌*◌, ◌<◌, ◌≤◌, ◌^◌, [], IfErr, IfNone, IfSome, OnOk, Ok, Err, length, vec_capacity};
 ghost use Rattle.prim_code.specs.Counts.{word_count};
 ghost use Rattle.prim_code.specs.Named.{AreBelow};
 ghost use Rattle.rv_word.specs.Plain.{Words, program_word};
 ghost use Rattle.tramp_spec.specs.Statements.{body_of};
 ghost use Rattle.instrument.specs.Admission as table;
-ghost use Rattle.instrument.specs.declared.number.Refused.TheVariants.{NoMemory};
 ghost use Rattle.instrument.specs.Spaces.{AreRoomsOf, HasNoRoom, IsRoomTaken};
 
 use crate::blocks::{build_mini, move_base};
+use crate::buffers::Buffers;
 use crate::costs::base_len;
 use crate::ledger::Ledger;
 use crate::number::Refused;
@@ -17,7 +17,6 @@ use crate::program::Program;
 use crate::rooms::find_base;
 use pn_types::Site;
 use prim_code::words_of;
-use std::alloc::Global;
 use tool_space::Space;
 use tramp_spec::{Block, MarkedWord};
 
@@ -124,19 +123,19 @@ fn place_based(
     }
 }
 
-/// Places a site of an instrument: a base block too, where its point has none.
+/// Places a site of an instrument: a base block too, where its point has none. `buffers` give the memory.
 ///
 /// # Errors
 ///
-/// Why it has no room, or `NoMemory`. Then nothing was placed.
+/// Why it has no room. Then nothing was placed.
 pub fn place_site(
-    alloc: Global,
     program: &Program,
     ledger: &mut Ledger,
     words: &mut Space,
     owner: u64,
     slots: &[u32],
     site: &Site,
+    buffers: Buffers,
 ) -> Result<(), Refused>
     requires tied { AreRoomsOf program.now words.old ledger.old.book.rooms }
     requires rooms { 2 ≤ ledger.old.spare_rooms }
@@ -145,8 +144,9 @@ pub fn place_site(
     requires low { words.old.end < 2 ^ 60 }
     requires named { AreBelow (length slots.now) site.now.stmts }
     requires count { word_count site.now.stmts + 1 < 2 ^ 32 }
+    requires buffers { buffers ≡ word_count site.now.stmts + 1 }
     ensures ok { OnOk result (table.with_site program.now owner slots.now site.now ledger.old.book ≡ Ok ledger.new.book) }
-    ensures refused { IfErr result (λ refused. (refused ≡ NoMemory) ⊎ (table.with_site program.now owner slots.now site.now ledger.old.book ≡ Err refused)) }
+    ensures refused { IfErr result (λ refused. table.with_site program.now owner slots.now site.now ledger.old.book ≡ Err refused) }
     ensures unchanged { IfErr result (λ refused. ledger.new ≡ ledger.old) }
     ensures tied { AreRoomsOf program.now words.new ledger.new.book.rooms }
     ensures rooms_left { ledger.old.spare_rooms ≤ ledger.new.spare_rooms + 2 }
@@ -154,24 +154,9 @@ pub fn place_site(
     ensures takes_left { words.old.takes ≤ words.new.takes + 2 }
     ensures end { words.new.end ≡ words.old.end }
 {
-    let len = words_of(site.stmts.as_slice()) as usize + 1;
-    let Ok(buffer) = Vec::with_capacity(alloc, len) else {
-        return Err(Refused::NoMemory);
-    };
+    let Buffers { base, mini, .. } = buffers;
     if find_base(ledger.rooms(), site.at).is_some() {
-        return place_mini(ledger, words, owner, slots, site, None, buffer);
+        return place_mini(ledger, words, owner, slots, site, None, mini);
     }
-    let Ok(base_buffer) = Vec::with_capacity(alloc, 7) else {
-        return Err(Refused::NoMemory);
-    };
-    place_based(
-        program,
-        ledger,
-        words,
-        owner,
-        slots,
-        site,
-        base_buffer,
-        buffer,
-    )
+    place_based(program, ledger, words, owner, slots, site, base, mini)
 }

@@ -1,12 +1,11 @@
 //! Rooms in the order of their taking.
 
-ghost use Rattle.std.specs.Prelude.{◌≡◌, ◌≤◌, IfOk, filter, find, map, vec_capacity, vec_len};
+ghost use Rattle.std.specs.Prelude.{◌≡◌, ◌≤◌, [], filter, find, length, map, vec_capacity, vec_len};
 ghost use Rattle.instrument.specs.Books as books;
 ghost use Rattle.instrument.specs.Placements as placements;
 
 use crate::room::Room;
-use pn_types::{NoMemory, PlacedSite};
-use std::alloc::Global;
+use pn_types::PlacedSite;
 
 /// The room of the base block of a point whose unlinking wasn't asked for.
 pub fn find_base(rooms: &[Room], point: u64) -> Option<Room>
@@ -68,18 +67,20 @@ pub fn free(rooms: &mut Vec<Room>, point: u64)
     rooms.retain(|room| room.stays(point));
 }
 
-/// The sites of an instrument, by its rooms.
-pub fn sites_of(alloc: Global, rooms: &[Room], owner: u64) -> Result<Vec<PlacedSite>, NoMemory>
-    ensures { IfOk result (λ sites. sites.items ≡ placements.sites_of owner rooms.now) }
+/// The sites of an instrument, by its rooms. `sites` gives the memory.
+pub fn sites_of(sites: Vec<PlacedSite>, rooms: &[Room], owner: u64) -> Vec<PlacedSite>
+    requires empty { sites.items ≡ [] }
+    requires room { length (placements.sites_of owner rooms.now) ≤ vec_capacity sites }
+    ensures { result.items ≡ placements.sites_of owner rooms.now }
 {
-    let mut sites = Vec::new(alloc);
+    let mut sites = sites;
     for room in rooms {
         if !room.base && room.owner == owner {
-            sites.push(PlacedSite {
+            sites.push_reserved(PlacedSite {
                 at: room.point,
                 mini: room.at,
-            })?;
+            });
         }
     }
-    Ok(sites)
+    sites
 }

@@ -1,6 +1,6 @@
 //! The instruments that aren't gone, by number.
 
-ghost use Rattle.std.specs.Prelude.{◌≡◌, ◌+◌, ◌==◌, ◌<◌, ◌≤◌, ◌^◌, ◌++◌, ◌∷◌, [], IfOk, IfSome, OnErr, OnOk, None, Some, filter, find, flat_map, length, map, vec_capacity, vec_len};
+ghost use Rattle.std.specs.Prelude.{◌≡◌, ◌+◌, ◌*◌, ◌==◌, ◌<◌, ◌≤◌, ◌^◌, ◌++◌, ◌∷◌, [], IfOk, IfSome, OnErr, OnOk, None, Some, filter, find, flat_map, length, map, vec_capacity, vec_len};
 ghost use Rattle.std.specs.Option.{option_copied, option_map};
 ghost use Rattle.tramp_spec.specs.Slots.{places_of};
 ghost use Rattle.instrument.specs.Admission.{slot_count};
@@ -9,13 +9,13 @@ ghost use Rattle.instrument.specs.Placements as placements;
 ghost use Rattle.instrument.specs.Rosters as rosters;
 ghost use Rattle.instrument.specs.Spaces.{IsRow, slots_of};
 
-use crate::costs;
+use crate::costs::{self, takes_for};
 use crate::instrument::Instrument;
 use crate::number::{InstrumentNo, State};
 use crate::room::Room;
 use crate::slots::{give_gone, is_here};
 use pn_types::{BANK_LEN, FIRST_SLOT, NoMemory, Placed};
-use std::alloc::Global;
+use std::alloc::{AllocError, Global};
 use std::marker::Model;
 use tool_space::Space;
 
@@ -141,30 +141,35 @@ impl Roster {
         keep_here(&mut self.instruments, rooms);
     }
 
-    /// Takes the memory that one more instrument needs, and the taking of its slots.
+    /// Takes the memory that so many more instruments need, and the taking of their slots.
     ///
     /// # Errors
     ///
     /// `NoMemory` where memory is wanting.
-    pub fn reserve(&mut self) -> Result<(), NoMemory>
+    pub fn reserve(&mut self, count: usize) -> Result<(), NoMemory>
         ensures instruments { self.new.instruments ≡ self.old.instruments }
-        ensures room { OnOk result (0 < self.new.room) }
-        ensures takes { OnOk result (2 ≤ self.new.takes) }
+        ensures room { OnOk result (count ≤ self.new.room) }
+        ensures takes { OnOk result (2 * count ≤ self.new.takes) }
+        ensures room_kept { self.old.room ≤ self.new.room }
+        ensures takes_kept { self.old.takes ≤ self.new.takes }
     {
-        let room = self.room.max(1);
+        let Some(takes) = takes_for(count) else {
+            return Err(AllocError);
+        };
+        let room = self.room.max(count);
         self.instruments.reserve(room)?;
         self.room = room;
-        self.slots.reserve(2)
+        self.slots.reserve(takes)
     }
 
     /// The first of the lowest so many consecutive slots that are free: None exactly where there are none. They stay free.
     pub fn free_slots(&mut self, count: u32) -> Option<u32>
-        requires { 2 ≤ self.old.takes }
+        requires { 0 < self.old.takes }
         ensures slot { result ≡ slots_for (flat_map (λ i. places_of i.placed) self.old.instruments) count }
         ensures within { IfSome result (λ slot. slot + count < 2 ^ 32) }
         ensures instruments { self.new.instruments ≡ self.old.instruments }
         ensures room { self.new.room ≡ self.old.room }
-        ensures takes { 1 ≤ self.new.takes }
+        ensures takes { self.old.takes ≤ self.new.takes + 1 }
     {
         if count == 0 {
             return Some(FIRST_SLOT);
@@ -182,6 +187,8 @@ impl Roster {
         requires row { IsRow instrument }
         requires free { slots_for (flat_map (λ i. places_of i.placed) self.old.instruments) (slot_count instrument.placed.vars) ≡ Some (slots_of instrument).at }
         ensures instruments { self.new.instruments ≡ self.old.instruments ++ instrument ∷ [] }
+        ensures room { self.old.room ≡ self.new.room + 1 }
+        ensures takes { self.old.takes ≤ self.new.takes + 1 }
     {
         let count = costs::slot_count(instrument.placed.vars.as_slice());
         if count > 0 {

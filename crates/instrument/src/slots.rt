@@ -1,6 +1,6 @@
 //! The slots of instruments.
 
-ghost use Rattle.std.specs.Prelude.{◌≡◌, ◌+◌, ◌==◌, ◌^◌, ◌<◌, IfOk, filter, nat_lt, if◌then◌else◌};
+ghost use Rattle.std.specs.Prelude.{◌≡◌, ◌+◌, ◌==◌, ◌^◌, ◌<◌, ◌≤◌, [], IfOk, filter, length, nat_lt, vec_capacity, if◌then◌else◌};
 ghost use Rattle.std.specs.List.{list_any};
 ghost use Rattle.tool_space.specs.Rooms.{IsTaken, after_give};
 ghost use Rattle.tramp_spec.specs.Banks.{first_slot};
@@ -71,18 +71,20 @@ pub fn give_gone(slots: &mut Space, instruments: &[Instrument], rooms: &[Room])
     }
 }
 
-/// The slots of variables, which follow each other from one on.
-pub fn slots_from(alloc: Global, first: u32, vars: &[Var]) -> Result<Vec<u32>, NoMemory>
-    requires { first + slot_count vars.now < 2 ^ 32 }
-    ensures { IfOk result (λ slots. slots.items ≡ table.slots_from first vars.now) }
+/// The slots of variables, which follow each other from one on. `slots` gives the memory.
+pub fn slots_from(slots: Vec<u32>, first: u32, vars: &[Var]) -> Vec<u32>
+    requires few { first + slot_count vars.now < 2 ^ 32 }
+    requires empty { slots.items ≡ [] }
+    requires room { length vars.now ≤ vec_capacity slots }
+    ensures { result.items ≡ table.slots_from first vars.now }
 {
-    let mut slots = Vec::new(alloc);
+    let mut slots = slots;
     let mut slot = first;
     for var in vars {
-        slots.push(slot)?;
+        slots.push_reserved(slot);
         slot += if var.timer { 2 } else { 1 };
     }
-    Ok(slots)
+    slots
 }
 
 /// A copy of variables.

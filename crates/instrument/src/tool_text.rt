@@ -1,23 +1,22 @@
 //! The blocks of the tool text: their rooms, and what is to be done for them.
 
-ghost use Rattle.std.specs.Prelude.{◌≡◌, ◌+◌, ◌*◌, ◌/◌, ◌<◌, ◌≤◌, ◌⊎◌, ◌++◌, ◌∷◌, [], ◌^◌, Ok, Err, IfErr, IfOk, IfSome, OnErr, OnOk, drop, filter, length, take};
+ghost use Rattle.std.specs.Prelude.{◌≡◌, ◌+◌, ◌*◌, ◌<◌, ◌≤◌, ◌++◌, ◌∷◌, [], ◌^◌, Ok, Err, IfErr, IfOk, IfSome, OnOk, filter, length, map, take, vec_capacity};
 ghost use Rattle.pn_types.specs.Images.{IsImage};
 ghost use Rattle.pn_types.specs.declared.plan.Site.{Site};
-ghost use Rattle.prim_code.specs.Counts.{word_count};
+ghost use Rattle.prim_code.specs.Counts.{site_words, word_count};
 ghost use Rattle.prim_code.specs.Named.{AreBelow};
 ghost use Rattle.machine.specs.Cores.{In};
-ghost use Rattle.rv_word.specs.Plain.{Words};
 ghost use Rattle.instrument.specs.Admission as table;
 ghost use Rattle.instrument.specs.Books as books;
 ghost use Rattle.instrument.specs.Placements.{agenda_in, behind_first, first_of, is_site_of, point_in, sites_of, without_sites};
-ghost use Rattle.instrument.specs.Spaces.{AreRoomsOf};
 ghost use Rattle.instrument.specs.ToolTexts as texts;
 ghost use Rattle.instrument.specs.ToolTexts.{IsGrown};
 ghost use Rattle.instrument.specs.declared.entry.Entry.TheVariants.{Free};
-ghost use Rattle.instrument.specs.declared.number.Refused.TheVariants.{NoMemory};
 
-use crate::costs::{entries_for, rooms_for};
+use crate::buffers::Buffers;
+use crate::costs::{entries_for, takes_for};
 use crate::entry::Entry;
+use crate::giving::{give_behind, give_rooms};
 use crate::ledger::Ledger;
 use crate::number::Refused;
 use crate::placing::place_site;
@@ -26,33 +25,9 @@ use crate::room::Room;
 use crate::rooms::sites_of;
 use pn_types::{Image, NoMemory, PlacedSite, SEGMENTS_TO, Site, TOOL_TEXT_LEN};
 use std::alloc::{AllocError, Global};
+use std::collections::VecDeque;
 use std::marker::Model;
 use tool_space::Space;
-
-/// Gives back the rooms of the unlinked blocks of a point.
-fn give_rooms(words: &mut Space, rooms: &[Room], point: u64)
-    requires { (program : Words) × AreRoomsOf program words.old rooms.now }
-    ensures rooms { (program : Words) → AreRoomsOf program words.old rooms.now → AreRoomsOf program words.new (filter (books.stays point) rooms.now) }
-    ensures takes { words.new.takes ≡ words.old.takes }
-{
-    for room in rooms {
-        if !room.stays(point) {
-            words.give(room.at / 4, room.len);
-        }
-    }
-}
-
-/// Gives back the rooms from a place on.
-fn give_behind(words: &mut Space, rooms: &[Room], len: usize)
-    requires tied { (program : Words) × AreRoomsOf program words.old rooms.now }
-    requires within { len ≤ length rooms.now }
-    ensures { (program : Words) → AreRoomsOf program words.old rooms.now → AreRoomsOf program words.new (take len rooms.now) }
-{
-    for place in len..rooms.len() {
-        let room = rooms[place];
-        words.give(room.at / 4, room.len);
-    }
-}
 
 /// The tool text behind a program: the rooms that were taken there, which words are free beside them, and the agenda.
 #[derive(Drop)]
@@ -165,38 +140,43 @@ impl ToolText {
     /// # Errors
     ///
     /// `NoMemory` where memory is wanting.
-    fn reserve(&mut self, sites: usize) -> Result<(), NoMemory>
+    pub fn reserve(&mut self, sites: usize) -> Result<(), NoMemory>
         ensures program { self.new.program ≡ self.old.program }
         ensures book { self.new.book ≡ self.old.book }
         ensures rooms { OnOk result (2 * sites ≤ self.new.spare_rooms) }
         ensures takes { OnOk result (2 * sites ≤ self.new.takes) }
         ensures entries { OnOk result (7 * sites ≤ self.new.entries) }
+        ensures rooms_kept { self.old.spare_rooms ≤ self.new.spare_rooms }
+        ensures takes_kept { self.old.takes ≤ self.new.takes }
+        ensures entries_kept { self.old.entries ≤ self.new.entries }
     {
-        let Some(rooms) = rooms_for(sites) else {
+        let Some(takes) = takes_for(sites) else {
             return Err(AllocError);
         };
         let Some(entries) = entries_for(self.ledger.rooms(), sites) else {
             return Err(AllocError);
         };
-        self.ledger.reserve(rooms as usize, entries)?;
-        self.words.reserve(rooms)
+        // A site has two rooms at most, and each is one take.
+        self.ledger.reserve(takes as usize, entries)?;
+        self.words.reserve(takes)
     }
 
-    /// Places a site of an instrument, for which memory was reserved.
+    /// Places a site of an instrument, for which memory was reserved. `buffers` give that of its blocks' words.
     fn place_site(
         &mut self,
-        alloc: Global,
         owner: u64,
         slots: &[u32],
         site: &Site,
+        buffers: Buffers,
     ) -> Result<(), Refused>
         requires rooms { 2 ≤ self.old.spare_rooms }
         requires takes { 2 ≤ self.old.takes }
         requires entries { 7 ≤ self.old.entries }
         requires named { AreBelow (length slots.now) site.now.stmts }
         requires count { word_count site.now.stmts + 1 < 2 ^ 32 }
+        requires buffers { buffers ≡ word_count site.now.stmts + 1 }
         ensures ok { OnOk result (table.with_site self.old.program owner slots.now site.now self.old.book ≡ Ok self.new.book) }
-        ensures refused { IfErr result (λ refused. (refused ≡ NoMemory) ⊎ (table.with_site self.old.program owner slots.now site.now self.old.book ≡ Err refused)) }
+        ensures refused { IfErr result (λ refused. table.with_site self.old.program owner slots.now site.now self.old.book ≡ Err refused) }
         ensures unchanged { IfErr result (λ refused. self.new.book ≡ self.old.book) }
         ensures program { self.new.program ≡ self.old.program }
         ensures rooms_left { self.old.spare_rooms ≤ self.new.spare_rooms + 2 }
@@ -205,36 +185,43 @@ impl ToolText {
     {
         prove!(self.program.tool_at() <= SEGMENTS_TO + 4095);
         place_site(
-            alloc,
             &self.program,
             &mut self.ledger,
             &mut self.words,
             owner,
             slots,
             site,
+            buffers,
         )
     }
 
     /// Places the sites of an instrument in turn, up to the first that is refused.
     fn place_each(
         &mut self,
-        alloc: Global,
         owner: u64,
         slots: &[u32],
         sites: &[Site],
+        buffers: &mut VecDeque<Buffers>,
     ) -> Result<(), Refused>
         requires rooms { 2 * length sites.now ≤ self.old.spare_rooms }
         requires takes { 2 * length sites.now ≤ self.old.takes }
         requires entries { 7 * length sites.now ≤ self.old.entries }
         requires named { (s : Site) → In s sites.now → AreBelow (length slots.now) s.stmts }
         requires count { (s : Site) → In s sites.now → word_count s.stmts + 1 < 2 ^ 32 }
+        requires buffers { buffers.old.items ≡ map site_words sites.now }
         ensures ok { OnOk result (table.with_sites self.old.program owner slots.now sites.now self.old.book ≡ Ok self.new.book) }
-        ensures refused { IfErr result (λ refused. (refused ≡ NoMemory) ⊎ (table.with_sites self.old.program owner slots.now sites.now self.old.book ≡ Err refused)) }
+        ensures refused { IfErr result (λ refused. table.with_sites self.old.program owner slots.now sites.now self.old.book ≡ Err refused) }
         ensures program { self.new.program ≡ self.old.program }
         ensures grown { IsGrown self.old.book self.new.book }
+        ensures rooms_left { self.old.spare_rooms ≤ self.new.spare_rooms + 2 * length sites.now }
+        ensures takes_left { self.old.takes ≤ self.new.takes + 2 * length sites.now }
+        ensures entries_left { self.old.entries ≤ self.new.entries + 7 * length sites.now }
     {
         for site in sites {
-            self.place_site(alloc, owner, slots, site)?;
+            let Some(buffers) = buffers.pop_front() else {
+                unreachable!();
+            };
+            self.place_site(owner, slots, site, buffers)?;
         }
         Ok(())
     }
@@ -244,46 +231,53 @@ impl ToolText {
         requires { rooms ≤ length self.old.book.rooms }
         ensures program { self.new.program ≡ self.old.program }
         ensures book { self.new.book ≡ record { rooms = take rooms self.old.book.rooms; agenda = take entries self.old.book.agenda } }
+        ensures spare { self.new.spare_rooms ≡ self.old.spare_rooms }
+        ensures takes { self.new.takes ≡ self.old.takes }
+        ensures entries { self.old.entries ≤ self.new.entries }
     {
         give_behind(&mut self.words, self.ledger.rooms(), rooms);
         self.ledger.truncate(rooms, entries);
     }
 
-    /// Places the sites of an instrument, and answers them.
+    /// Places the sites of an instrument, for which memory was reserved, and answers them. `buffers` give the memory of their
+    /// blocks' words, and `placed` that of the answer.
     ///
     /// # Errors
     ///
-    /// Why the first that is refused has no room, or `NoMemory`. Then nothing was placed.
+    /// Why the first that is refused has no room. Then nothing was placed.
     pub fn place_sites(
         &mut self,
-        alloc: Global,
         owner: u64,
         slots: &[u32],
         sites: &[Site],
+        buffers: VecDeque<Buffers>,
+        placed: Vec<PlacedSite>,
     ) -> Result<Vec<PlacedSite>, Refused>
+        requires rooms { 2 * length sites.now ≤ self.old.spare_rooms }
+        requires takes { 2 * length sites.now ≤ self.old.takes }
+        requires entries { 7 * length sites.now ≤ self.old.entries }
         requires named { (s : Site) → In s sites.now → AreBelow (length slots.now) s.stmts }
         requires count { (s : Site) → In s sites.now → word_count s.stmts + 1 < 2 ^ 32 }
-        ensures ok { IfOk result (λ placed. table.with_sites self.old.program owner slots.now sites.now self.old.book ≡ Ok self.new.book) }
+        requires new { sites_of owner self.old.book.rooms ≡ [] }
+        requires buffers { buffers.items ≡ map site_words sites.now }
+        requires empty { placed.items ≡ [] }
+        requires room { length sites.now ≤ vec_capacity placed }
+        ensures ok { OnOk result (table.with_sites self.old.program owner slots.now sites.now self.old.book ≡ Ok self.new.book) }
         ensures sites { IfOk result (λ placed. placed.items ≡ sites_of owner self.new.book.rooms) }
-        ensures refused { IfErr result (λ refused. (refused ≡ NoMemory) ⊎ (table.with_sites self.old.program owner slots.now sites.now self.old.book ≡ Err refused)) }
+        ensures refused { IfErr result (λ refused. table.with_sites self.old.program owner slots.now sites.now self.old.book ≡ Err refused) }
         ensures unchanged { IfErr result (λ refused. self.new.book ≡ self.old.book) }
         ensures program { self.new.program ≡ self.old.program }
+        ensures rooms_left { self.old.spare_rooms ≤ self.new.spare_rooms + 2 * length sites.now }
+        ensures takes_left { self.old.takes ≤ self.new.takes + 2 * length sites.now }
+        ensures entries_left { self.old.entries ≤ self.new.entries + 7 * length sites.now }
     {
-        if self.reserve(sites.len()).is_err() {
-            return Err(Refused::NoMemory);
-        }
         let rooms = self.ledger.rooms().len();
         let entries = self.ledger.entries();
-        if let Err(refused) = self.place_each(alloc, owner, slots, sites) {
+        let mut buffers = buffers;
+        if let Err(refused) = self.place_each(owner, slots, sites, &mut buffers) {
             self.truncate(rooms, entries);
             return Err(refused);
         }
-        match sites_of(alloc, self.ledger.rooms(), owner) {
-            Ok(placed) => Ok(placed),
-            Err(_) => {
-                self.truncate(rooms, entries);
-                Err(Refused::NoMemory)
-            }
-        }
+        Ok(sites_of(placed, self.ledger.rooms(), owner))
     }
 }

@@ -2,7 +2,7 @@ use Rattle.std.proofs.Common.{◌≡◌, ◌++◌, filter, take, drop}
 use Rattle.rv_word.specs.Plain.{Words}
 use Rattle.instrument.specs.Books.{stays}
 use Rattle.instrument.specs.Spaces.{AreRoomsOf}
-use Rattle.instrument.proofs.tool_text.give_rooms.Given as goal
+use Rattle.instrument.proofs.giving.give_rooms.Given as goal
 
 abbrev pub invariant-loop-room : goal.invariant-loop-room
 invariant-loop-room l = record {

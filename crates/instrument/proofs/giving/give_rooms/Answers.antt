@@ -8,8 +8,8 @@ use Rattle.instrument.specs.declared.room.Room.{Room}
 use Rattle.instrument.specs.declared.room.Hold.TheVariants.{Held}
 use Rattle.instrument.proofs.Holdings.{next_here, next_gives, taken}
 use Rattle.instrument.proofs.Texts.{room_goes, room_stays}
-use Rattle.instrument.proofs.tool_text.give_rooms.Goals as goal
-use Rattle.instrument.proofs.tool_text.give_rooms.Goals.{then-not-stays, else-not-stays}
+use Rattle.instrument.proofs.giving.give_rooms.Goals as goal
+use Rattle.instrument.proofs.giving.give_rooms.Goals.{then-not-stays, else-not-stays}
 
 abbrev nowhere : Room
 nowhere = record { point = 0; at = 0; len = 0; base = false; owner = 0; hold = Held }

@@ -1,0 +1,19 @@
+use Rattle.std.proofs.Common.{◌∙◌, ap, arith, filter, subst, sym}
+use Rattle.instrument.specs.Books.{Book}
+use Rattle.instrument.specs.Placements.{is_site_of}
+use Rattle.instrument.specs.Placers.{AreAdmitted}
+use Rattle.instrument.specs.Rosters.{RosterData}
+use Rattle.instrument.proofs.Owners.{admitted_dropped}
+use Rattle.instrument.proofs.Ready.{placer_kept}
+use Rattle.instrument.proofs.placer.Placer.drop.Goals as goal
+
+pub invariant_of-self : goal.invariant_of-self
+invariant_of-self c =
+    let t = c.self.inside.text in
+    let k = c.self.invariant in
+    let e = c.drop_sites.ensures in
+    let room = ap (λ (r : RosterData). r.room) c.settle.ensures ∙ ap (λ (r : RosterData). r.room) c.set_state.ensures in
+    let takes = ap (λ (r : RosterData). r.takes) c.settle.ensures ∙ ap (λ (r : RosterData). r.takes) c.set_state.ensures in
+    placer_kept t c.drop_sites.new.self c.self.inside.roster c.settle.new.self c.self.inside.count c.self.inside.kits.items k
+    (subst (λ (b : Book). AreAdmitted c.self.inside.count b.rooms) (sym e.book) (admitted_dropped c.self.inside.count (filter (is_site_of c.args.number.n) t.book.rooms) t.book k.admitted))
+    (omega (arith, e.spare)) (omega (arith, e.takes)) (omega (arith, e.entries, k.memory.entries)) (omega (arith, room)) (omega (arith, takes))

@@ -1,0 +1,53 @@
+ghost use Rattle.std.specs.Prelude.{◌≡◌, IfOk};
+
+use pn_types::NoMemory;
+use std::alloc::Global;
+use std::marker::Model;
+use tramp_spec::MarkedWord;
+
+/// The memory of the words of a site's blocks: of a mini block of so many words, which contracts see, and of any base block.
+#[derive(Drop)]
+pub struct Buffers {
+    /// That of the base block, which has seven words at most.
+    pub base: Vec<MarkedWord>,
+    /// That of the mini block.
+    pub mini: Vec<MarkedWord>,
+    /// How many words the mini block has.
+    pub words: u32,
+}
+
+impl Model for Buffers {
+    ghost use Rattle.std.specs.Prelude.{◌≡◌, ◌≤◌, [], vec_capacity};
+    ghost use Rattle.std.specs.Prelude.{ℕ};
+
+    ghost Value = { ℕ };
+
+    ghost view = { λ b. b.words };
+
+    ghost invariant = { λ b.
+        (b.base.items ≡ []) × (7 ≤ vec_capacity b.base) × (b.mini.items ≡ []) × (b.words ≤ vec_capacity b.mini) };
+}
+
+impl Buffers {
+    /// Takes the memory for a mini block of so many words.
+    ///
+    /// # Errors
+    ///
+    /// `NoMemory` where memory is wanting.
+    pub fn new(alloc: Global, words: u32) -> Result<Buffers, NoMemory>
+        ensures { IfOk result (λ buffers. buffers ≡ words) }
+    {
+        Ok(Buffers {
+            base: Vec::with_capacity(alloc, 7)?,
+            mini: Vec::with_capacity(alloc, words as usize)?,
+            words,
+        })
+    }
+
+    /// How many words the mini block has.
+    pub fn words(&self) -> u32
+        ensures { result ≡ self.now }
+    {
+        self.words
+    }
+}
