@@ -1,5 +1,5 @@
 -- For proofs alone: several turns of one hart by itself.
-use Rattle.std.specs.Prelude.{◌≡◌, ℕ, zero, suc, ◌<◌, ◌≤◌, ◌⊎◌, ◌&&◌, IsTrue, Bool, true, false, Option, Some, List}
+use Rattle.std.specs.Prelude.{◌≡◌, ℕ, zero, suc, ◌<◌, ◌≤◌, ◌⊎◌, IsTrue, Bool, true, false, Option, Some, List}
 use Rattle.tramp_spec.specs.Codes.{fetched_at, is_tool_word}
 use Rattle.rv_word.specs.Exec.{Prog}
 use Rattle.rv_word.specs.declared.outcome.Cause.{Cause}

@@ -1,7 +1,7 @@
-use Rattle.std.proofs.Common.{◌≡◌, ◌+◌, ◌≤◌, ◌<◌, ◌∙◌, sym, ap, subst, inl, inr, arith}
+use Rattle.std.proofs.Common.{◌≡◌, ◌+◌, ◌∙◌, sym, ap, subst, inl, inr, arith}
 use Rattle.std.specs.Prelude.{is_none, false, nat_lt, ◌&&◌, ◌||◌}
 use Rattle.rv_word.specs.Exec.{prog_of}
-use Rattle.tramp_spec.specs.Harts.{Hart, Solo}
+use Rattle.tramp_spec.specs.Harts.{Hart}
 use Rattle.machine.specs.Alone.{Leads, alone_of, may_alone, turned_alone}
 use Rattle.machine.specs.Performing.{solo_of}
 use Rattle.machine.proofs.Alone.{alone_may, leads_one, leads_ticks, none_is}
