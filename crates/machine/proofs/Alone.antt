@@ -1,12 +1,13 @@
 -- Turns of one hart by itself are turns of the machine.
 use Rattle.std.proofs.Common.{◌≡◌, ℕ, zero, suc, ◌+◌, ◌<◌, ◌≤◌, List, [], ◌∷◌, ◌++◌, length, Option, Some, None, refl, sym, ap, ◌∙◌, subst, arith, inl, inr, ⊎_elim}
-use Rattle.std.specs.Prelude.{Bool, true, false, cond, IsTrue, slice_get, slice_set, ◌⊎◌}
+use Rattle.std.specs.Prelude.{is_none, Bool, true, false, cond, IsTrue, slice_get, slice_set, nat_lt, ◌⊎◌}
 use Rattle.std.proofs.lemmas.Bool.{true≢false, cond-true, cond-false}
 use Rattle.std.proofs.lemmas.Grind.{common_steps}
 use Rattle.rv_word.specs.Exec.{Prog}
+use Rattle.rv_word.specs.declared.outcome.Cause.{Cause}
 use Rattle.tramp_spec.specs.Harts.{Hart, Solo, is_tick, step_of}
 use Rattle.code_store.specs.Stores.{StoredCode}
-use Rattle.machine.specs.Alone.{fetched_alone, turned_alone, may_alone, Leads, IsPlaced, ArePlaced, TakesAlone}
+use Rattle.machine.specs.Alone.{alone_of, fetched_alone, turned_alone, may_alone, Leads, IsPlaced, ArePlaced, TakesAlone}
 use Rattle.machine.specs.Cores.{Row, Core}
 use Rattle.machine.specs.Events.{Event, Turn}
 use Rattle.machine.specs.Performing.{home_in_store}
@@ -15,6 +16,7 @@ use Rattle.machine.specs.Replays.{replay, owns}
 use Rattle.machine.specs.States.{quantum_turns}
 use Rattle.machine.specs.Turns.{turn, turn_by, put_back, may_turn, is_runnable, ticks_by, ticks_next}
 use Rattle.machine.specs.Views.{core_of}
+use Rattle.machine.specs.declared.turning.Progress.{Progress}
 use Rattle.machine.proofs.HartPlaces.{stands, home_is, below_budget}
 use Rattle.machine.proofs.Lists.{get_set_same}
 use Rattle.machine.proofs.Quanta.{step_ticks}
@@ -22,19 +24,21 @@ use Rattle.machine.proofs.Reaching.{reaches_more}
 
 -- ---- more turns
 
-pub leads_on : (s : StoredCode) (budget h k n : ℕ) (x y z : Solo) → Leads s budget h k x y → Leads s budget h n y z → Leads s budget h (k + n) x z
+leads_on : (s : StoredCode) (budget h k n : ℕ) (x y z : Solo) → Leads s budget h k x y → Leads s budget h n y z → Leads s budget h (k + n) x z
 leads_on s budget h zero n x y z l m = let e : n ≡ 0 + n = omega arith in subst (λ i. Leads s budget h i x z) e (subst (λ v. Leads s budget h n v z) l m)
 leads_on s budget h (suc k) n x y z l m = let e : suc (k + n) ≡ suc k + n = omega arith in subst (λ i. Leads s budget h i x z) e (l.0, leads_on s budget h k n (turned_alone s h x) y z l.1 m)
 
-pub leads_one : (s : StoredCode) (budget h k : ℕ) (x y : Solo) → Leads s budget h k x y → IsTrue (may_alone budget y) → Leads s budget h (k + 1) x (turned_alone s h y)
-leads_one s budget h k x y l may = leads_on s budget h k 1 x y (turned_alone s h y) l (may, refl)
+pub leads_one : (s : StoredCode) (budget h k : ℕ) (x y z : Solo) → Leads s budget h k x y → IsTrue (may_alone budget y) → z ≡ turned_alone s h y → Leads s budget h (k + 1) x z
+leads_one s budget h k x y z l may e = leads_on s budget h k 1 x y z l (may, e)
 
-pub no_turns : (s : StoredCode) (budget h k : ℕ) (x z : Solo) → k ≡ 0 → Leads s budget h k x z → z ≡ x
-no_turns s budget h k x z e l = let none : Leads s budget h 0 x z = subst (λ n. Leads s budget h n x z) e l in none
+pub none_is : (stop : Option Cause) → is_none stop ≡ true → stop ≡ None
+none_is None e = refl
+none_is (Some cause) e = absurd (true≢false (sym e))
 
--- a hart outside that can take a turn has fewer ticks than the budget
-pub outside_below : (x : Hart) (budget : ℕ) → IsTrue (may_turn (Some x) budget) → x.inside ≡ false → x.ticks < budget
-outside_below x budget may e = grind (arith, common_steps)
+-- a hart can take a turn that isn't stopped, and is inside or has fewer ticks than the budget
+pub alone_may : (a : Progress) (stop : Option Cause) (regs bank : List ℕ) (p : Prog) (budget : ℕ) → stop ≡ None → (a.inside ≡ true) ⊎ (a.ticks < budget) → IsTrue (may_alone budget (alone_of a stop regs bank p))
+alone_may a stop regs bank p budget e (inl i) = grind (arith, common_steps)
+alone_may a stop regs bank p budget e (inr l) = grind (arith, common_steps)
 
 one_at_most : (b : Bool) (n : ℕ) → (n ≤ cond b (n + 1) n) × (cond b (n + 1) n ≤ n + 1)
 one_at_most true n = (omega arith, omega arith)
@@ -61,6 +65,17 @@ one_more most h c e = cond-true (is_runnable c h) (Turn h ∷ quantum_turns most
 no_more : (most h : ℕ) (c : Core) → is_runnable c h ≡ false → quantum_turns most h c ≡ []
 no_more zero h c e = refl
 no_more (suc most) h c e = cond-false (is_runnable c h) (Turn h ∷ quantum_turns most h (turn c h)) [] e
+
+-- a quantum of one turn
+pub one_turn : (h : ℕ) (c : Core) → is_runnable c h ≡ true → quantum_turns 1 h c ≡ Turn h ∷ []
+one_turn h c e = one_more 0 h c e
+
+pub one_ticks : (h ticks : ℕ) (c : Core) → is_runnable c h ≡ true → ticks ≡ length (owns (quantum_turns 1 h c) c) → nat_lt 0 ticks ≡ ticks_next c h
+one_ticks h ticks c e t = ap (nat_lt 0) (t ∙ ap (λ es. length (owns es c)) (one_turn h c e)) ∙ by (ticks_next c h)
+  where
+    by : (b : Bool) → nat_lt 0 (length (cond b (h ∷ []) [] ++ [])) ≡ b
+    by true = refl
+    by false = refl
 
 -- a hart that can't go on takes no more turns
 pub stays : (k most h : ℕ) (c : Core) → k ≤ most → length (quantum_turns k h c) ≡ k → is_runnable (replay (quantum_turns k h c) c) h ≡ false → quantum_turns most h c ≡ quantum_turns k h c

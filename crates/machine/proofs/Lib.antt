@@ -33,7 +33,6 @@ pub mod Packing
 pub mod Settled
 pub mod Quanta
 pub mod Alone
-pub mod OwnTurns
 pub mod Told
 pub mod Force
 pub mod Ways

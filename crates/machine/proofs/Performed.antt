@@ -57,7 +57,7 @@ access_fits w rs1 offset o = access_fits_by w.mark (decode_of w.word) rs1 offset
 
 -- ---- a word that does what it does in the program
 
-pub left_at_stop : (o : Outcome) (regs : List ℕ) (p : Prog) (stop : Option Cause) (pc : ℕ) (new_regs : List ℕ) (new_p : Prog) → done o regs p ≡ record { next = next_after stop pc; regs = new_regs; prog = new_p } → (stop ≡ None) ⊎ (new_regs ≡ regs)
+left_at_stop : (o : Outcome) (regs : List ℕ) (p : Prog) (stop : Option Cause) (pc : ℕ) (new_regs : List ℕ) (new_p : Prog) → done o regs p ≡ record { next = next_after stop pc; regs = new_regs; prog = new_p } → (stop ≡ None) ⊎ (new_regs ≡ regs)
 left_at_stop (Stops cause) regs p stop pc new_regs new_p e = inr (sym (ap (λ (d : Done). d.regs) e))
 left_at_stop (Goes at others q) regs p None pc new_regs new_p e = inl refl
 left_at_stop (Goes at others q) regs p (Some cause) pc new_regs new_p e = let no = ap (λ (d : Done). d.next) e in absurd cc

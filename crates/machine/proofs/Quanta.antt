@@ -1,6 +1,6 @@
 -- Quanta, the time, and the budget.
-use Rattle.std.proofs.Common.{◌≡◌, ℕ, zero, suc, ◌+◌, ◌<◌, ◌≤◌, List, [], ◌∷◌, ◌++◌, length, replicate, Option, Some, None, refl, sym, ap, ◌∙◌, subst, arith, ⊎_elim, inl, inr}
-use Rattle.std.specs.Prelude.{Bool, true, false, cond, IsTrue, Result, Ok, Err, map, slice_get, slice_set, ◌⊎◌}
+use Rattle.std.proofs.Common.{◌≡◌, ℕ, zero, suc, ◌+◌, ◌≤◌, List, [], ◌∷◌, ◌++◌, length, replicate, Option, Some, None, refl, sym, ap, ◌∙◌, subst, arith, ⊎_elim}
+use Rattle.std.specs.Prelude.{Bool, true, false, cond, IsTrue, Result, Ok, Err, map, slice_get, slice_set}
 use Rattle.std.proofs.lemmas.Bool.{cases_eq}
 use Rattle.std.proofs.lemmas.List.{length-append}
 use Rattle.pn_types.specs.declared.image.Image.{Image}
@@ -9,7 +9,7 @@ use Rattle.rv_word.specs.Plain.{program_word}
 use Rattle.rv_word.specs.declared.outcome.Next.{Next}
 use Rattle.rv_word.specs.declared.outcome.Next.TheVariants.{Go, Stop}
 use Rattle.rv_word.specs.declared.outcome.Cause.{Cause}
-use Rattle.rv_exec.specs.Start.{start, harts_from}
+use Rattle.rv_exec.specs.Start.{harts_from}
 use Rattle.tramp_spec.specs.Banks.{reach_of}
 use Rattle.tramp_spec.specs.Harts.{Hart, Solo, own_hart, other_hart, bench_of, marked_step, step_of, is_tick}
 use Rattle.tramp_spec.specs.Marks.{is_own}
@@ -24,7 +24,7 @@ use Rattle.machine.specs.Quanta.{IsQuantum, QuantaAreLegal, ticks_in, TimeGoesOn
 use Rattle.machine.specs.Reached.{IsReached}
 use Rattle.machine.specs.Replays.{replay, Legal, owns}
 use Rattle.machine.specs.States.{quantum_turns}
-use Rattle.machine.specs.Turns.{fetched, turn, turn_by, turn_alone, put_back, ticks_by, ticks_next, is_runnable}
+use Rattle.machine.specs.Turns.{fetched, turn, turn_by, turn_alone, ticks_by, ticks_next, is_runnable}
 use Rattle.machine.proofs.Arming.{get_map}
 use Rattle.machine.proofs.Beginning.{starts}
 use Rattle.machine.proofs.HartPlaces.{below_budget}

@@ -1,14 +1,14 @@
 -- For proofs alone: several turns of one hart by itself.
-use Rattle.std.specs.Prelude.{◌≡◌, ℕ, zero, suc, ◌<◌, ◌≤◌, ◌⊎◌, ◌&&◌, IsTrue, Bool, true, false, Option, Some}
+use Rattle.std.specs.Prelude.{◌≡◌, ℕ, zero, suc, ◌<◌, ◌≤◌, ◌⊎◌, IsTrue, Bool, true, false, Option, Some, List}
 use Rattle.tramp_spec.specs.Codes.{fetched_at, is_tool_word}
-use Rattle.rv_word.specs.Table.{decode_of}
-use Rattle.rv_word.specs.declared.instr.Instr.{Instr}
-use Rattle.tramp_spec.specs.Marks.{is_own}
+use Rattle.rv_word.specs.Exec.{Prog}
+use Rattle.rv_word.specs.declared.outcome.Cause.{Cause}
 use Rattle.tramp_spec.specs.Harts.{Solo, is_tick, step_of}
 use Rattle.tramp_spec.specs.declared.mark.MarkedWord.{MarkedWord}
 use Rattle.code_store.specs.Stores.{StoredCode}
 use Rattle.machine.specs.Performing.{home_in_store}
 use Rattle.machine.specs.Turns.{may_turn}
+use Rattle.machine.specs.declared.turning.Progress.{Progress}
 
 -- what the hart fetches
 abbrev pub fetched_alone : StoredCode → Solo → Option MarkedWord
@@ -21,12 +21,9 @@ turned_alone s h x = step_of (fetched_alone s x) h (home_in_store s x.hart.pc x.
 abbrev pub may_alone : ℕ → Solo → Bool
 may_alone budget x = may_turn (Some x.hart) budget
 
--- a hart outside fetches a word of the program, which is this instruction
-pub record IsOwnWord (s : StoredCode) (pc : ℕ) (i : Option Instr) : Type 0 where
-  pub word : MarkedWord
-  pub fetched : fetched_at s.program s.code pc false ≡ Some word
-  pub own : is_own word.mark ≡ true
-  pub same : i ≡ decode_of word.word
+-- a hart by itself, from its parts
+abbrev pub alone_of : Progress → Option Cause → List ℕ → List ℕ → Prog → Solo
+alone_of a stop regs bank p = record { hart = record { pc = a.pc; regs = regs; ticks = a.ticks; stop = stop; inside = a.inside; bank = bank }; prog = p }
 
 -- so many turns, each of which the hart could take, lead from the one to the other
 abbrev pub Leads : StoredCode → ℕ → ℕ → ℕ → Solo → Solo → Type 0

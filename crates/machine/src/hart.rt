@@ -1,21 +1,17 @@
 ghost use Rattle.std.specs.Prelude.{◌≡◌, ◌<◌, ◌+◌, ◌^◌, true, None, Some, IfOk, length};
-ghost use Rattle.rv_word.specs.Exec.{prog_of};
 ghost use Rattle.tramp_spec.specs.Banks.{bank_len};
-ghost use Rattle.tramp_spec.specs.Codes.{fetched_at, is_tool_word};
-ghost use Rattle.tramp_spec.specs.Harts.{is_tick, step_of};
+ghost use Rattle.tramp_spec.specs.Codes.{is_tool_word};
 ghost use Rattle.machine.specs.Cores.{first_hart};
 ghost use Rattle.machine.specs.Instruments.{reading};
 ghost use Rattle.machine.specs.Leaving.{is_out_now};
 ghost use Rattle.machine.specs.Links.{armed_now};
-ghost use Rattle.machine.specs.Performing.{home_in_store, solo_of};
+ghost use Rattle.machine.specs.Performing.{home_in_store};
 ghost use Rattle.machine.specs.Turns.{may_turn};
 
-use crate::performing::perform;
 use crate::slots::{read_first, set_variables};
 use code_store::Store;
-use pn_types::{BANK_LEN, HartNo, NoMemory, Placed};
-use rv_exec::{Output, Regs, Reservations};
-use rv_mem::Mem;
+use pn_types::{BANK_LEN, NoMemory, Placed};
+use rv_exec::Regs;
 use rv_word::{Cause, jump_target};
 use std::alloc::Global;
 use std::marker::Model;
@@ -29,7 +25,7 @@ pub struct HartState {
     pub(crate) ticks: u64,
     pub(crate) stop: Option<Cause>,
     pub(crate) inside: bool,
-    bank: Vec<u64>,
+    pub(crate) bank: Vec<u64>,
 }
 
 impl Model for HartState {
@@ -50,7 +46,7 @@ impl Model for HartState {
 /// The home of a pc: the point of the block in which a hart stands that is inside, but behind the program's word the address
 /// to which it leaves.
 #[inline(never)]
-fn home(store: &Store, pc: u64, inside: bool) -> u64
+pub fn home(store: &Store, pc: u64, inside: bool) -> u64
     requires { inside ≡ true → is_tool_word store.now.program pc ≡ true }
     ensures { result ≡ home_in_store store.now pc inside }
 {
@@ -151,55 +147,5 @@ impl HartState {
         ensures { result ≡ reading instrument.now self.now }
     {
         read_first(&self.bank, instrument, self.ticks)
-    }
-
-    /// One turn of a hart that isn't stopped. It answers whether the turn is a tick, and takes no memory.
-    #[inline(always)]
-    pub fn take_turn(
-        &mut self,
-        number: HartNo,
-        store: &Store,
-        mem: &mut Mem,
-        resv: &mut Reservations,
-        out: &mut Output,
-    ) -> bool
-        requires number { number < length resv.old }
-        requires running { self.old.stop ≡ None }
-        requires placed { self.old.inside ≡ true → is_tool_word store.now.program self.old.pc ≡ true }
-        requires countable { is_tick (fetched_at store.now.program store.now.code self.old.pc self.old.inside) ≡ true → self.old.ticks + 1 < 2 ^ 64 }
-        ensures tick { result ≡ is_tick (fetched_at store.now.program store.now.code self.old.pc self.old.inside) }
-        ensures turned { solo_of self.new (prog_of mem.new resv.new out.new) ≡ step_of (fetched_at store.now.program store.now.code self.old.pc self.old.inside) number (home_in_store store.now self.old.pc self.old.inside) (solo_of self.old (prog_of mem.old resv.old out.old)) }
-        ensures harts { length resv.new ≡ length resv.old }
-    {
-        let at = self.pc;
-        let Some(slot) = store.slot(at, self.inside) else {
-            self.pc = home(store, at, self.inside);
-            self.stop = Some(Cause::FetchOutside);
-            self.inside = false;
-            self.ticks += 1;
-            return true;
-        };
-        let ticks = self.ticks;
-        let goes = perform(
-            slot,
-            number,
-            ticks,
-            &mut self.pc,
-            &mut self.stop,
-            &mut self.regs,
-            self.bank.as_mut_slice(),
-            mem,
-            resv,
-            out,
-        );
-        let is_tick = slot.is_tick();
-        self.ticks = ticks + is_tick as u64;
-        if goes {
-            self.inside = slot.inside_after(self.inside);
-        } else {
-            self.pc = home(store, at, self.inside);
-            self.inside = false;
-        }
-        is_tick
     }
 }

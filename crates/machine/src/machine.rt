@@ -149,12 +149,6 @@ impl Machine {
         ensures tick { result ≡ ticks_next self.old.core hart }
         ensures harts { length self.new.core.harts ≡ length self.old.core.harts }
     {
-        self.harts[hart.get() as usize].take_turn(
-            hart,
-            &self.store,
-            &mut self.mem,
-            &mut self.resv,
-            &mut self.out,
-        )
+        self.take_turns(hart, 1).ticks > 0
     }
 }

@@ -1,116 +1,109 @@
-//! Several turns of one hart.
+//! Turns of one hart.
 
-ghost use Rattle.std.specs.Prelude.{◌≡◌, ℕ, ◌+◌, ◌<◌, ◌≤◌, ◌^◌, false, true, None, Some, IfSome, IsTrue, length};
+ghost use Rattle.std.specs.Prelude.{◌≡◌, ◌+◌, ◌<◌, ◌≤◌, ◌^◌, true, None, is_none, length};
 ghost use Rattle.rv_word.specs.Exec.{prog_of};
-ghost use Rattle.rv_word.specs.Words.{HasWord};
-ghost use Rattle.rv_exec.specs.Flat.{instr_of};
-ghost use Rattle.machine.specs.Alone.{ArePlaced, IsOwnWord, IsPlaced, Leads, TakesAlone};
+ghost use Rattle.tramp_spec.specs.Banks.{bank_len};
+ghost use Rattle.tramp_spec.specs.Codes.{fetched_at, is_tool_word};
+ghost use Rattle.tramp_spec.specs.Harts.{is_tick};
+ghost use Rattle.machine.specs.Alone.{ArePlaced, TakesAlone, alone_of, turned_alone};
 ghost use Rattle.machine.specs.Performing.{solo_of};
-ghost use Rattle.machine.specs.Turns.{may_turn};
 
-use crate::hart::HartState;
-use code_store::{Operation, Store};
+use crate::hart::{HartState, home};
+use crate::performing::perform;
+use code_store::Store;
 use pn_types::HartNo;
-use rv_exec::{Flat, Output, Reservations};
+use rv_exec::{Output, Regs, Reservations};
 use rv_mem::Mem;
+use rv_word::Cause;
 
-/// What the word at the pc does, if it is one of the program's.
+/// How far a hart is. While it takes turns this is kept apart from its registers.
+#[derive(Clone, Copy, Drop)]
+pub struct Progress {
+    pub pc: u64,
+    pub ticks: u64,
+    pub inside: bool,
+}
+
+/// One turn of a hart that isn't stopped. It says whether the hart goes on, and takes no memory.
 #[inline(always)]
-fn own_word(store: &Store, pc: u64) -> Option<&Flat>
-    ensures own { IfSome result (λ flat. IsOwnWord store.now pc (instr_of flat.now)) }
-    ensures word { IfSome result (λ flat. IfSome (instr_of flat.now) HasWord) }
+fn take_turn(
+    progress: &mut Progress,
+    stop: &mut Option<Cause>,
+    regs: &mut Regs,
+    bank: &mut Vec<u64>,
+    number: HartNo,
+    store: &Store,
+    mem: &mut Mem,
+    resv: &mut Reservations,
+    out: &mut Output,
+) -> bool
+    requires number { number < length resv.old }
+    requires bank { length bank.old.items ≡ bank_len }
+    requires running { stop.old ≡ None }
+    requires placed { progress.old.inside ≡ true → is_tool_word store.now.program progress.old.pc ≡ true }
+    requires countable { is_tick (fetched_at store.now.program store.now.code progress.old.pc progress.old.inside) ≡ true → progress.old.ticks + 1 < 2 ^ 64 }
+    ensures goes { result ≡ is_none stop.new }
+    ensures turned { alone_of progress.new stop.new regs.new bank.new.items (prog_of mem.new resv.new out.new) ≡ turned_alone store.now number (alone_of progress.old stop.old regs.old bank.old.items (prog_of mem.old resv.old out.old)) }
+    ensures room { length bank.new.items ≡ length bank.old.items }
+    ensures harts { length resv.new ≡ length resv.old }
 {
-    let slot = store.slot(pc, false)?;
-    if !slot.is_tick() {
-        return None;
+    let at = progress.pc;
+    let inside = progress.inside;
+    let ticks = progress.ticks;
+    let Some(slot) = store.slot(at, inside) else {
+        progress.pc = home(store, at, inside);
+        progress.ticks = ticks + 1;
+        progress.inside = false;
+        *stop = Some(Cause::FetchOutside);
+        return false;
+    };
+    let goes = perform(
+        slot,
+        number,
+        ticks,
+        &mut progress.pc,
+        stop,
+        regs,
+        bank.as_mut_slice(),
+        mem,
+        resv,
+        out,
+    );
+    progress.ticks = ticks + slot.is_tick() as u64;
+    if goes {
+        progress.inside = slot.inside_after(inside);
+    } else {
+        progress.pc = home(store, at, inside);
+        progress.inside = false;
     }
-    match slot.operation() {
-        Operation::Run(flat) => Some(flat),
-        _ => unreachable!(),
-    }
+    goes
 }
 
 impl HartState {
-    /// Turns of a hart that isn't stopped and is outside, at most so many, as long as the words that it fetches are the program's.
-    /// Each is a tick. It answers how many, and takes no memory.
+    /// How far the hart is.
     #[inline(always)]
-    fn take_ticks(
-        &mut self,
-        number: HartNo,
-        most: u32,
-        store: &Store,
-        mem: &mut Mem,
-        resv: &mut Reservations,
-        out: &mut Output,
-    ) -> u32
-        requires number { number < length resv.old }
-        requires running { self.old.stop ≡ None }
-        requires outside { self.old.inside ≡ false }
-        requires countable { self.old.ticks + most < 2 ^ 64 }
-        ensures leads { (budget : ℕ) → self.old.ticks + most ≤ budget → Leads store.now budget number result (solo_of self.old (prog_of mem.old resv.old out.old)) (solo_of self.new (prog_of mem.new resv.new out.new)) }
-        ensures bound { result ≤ most }
-        ensures harts { length resv.new ≡ length resv.old }
+    fn progress(&self) -> Progress
+        ensures { result ≡ record { pc = self.now.pc; ticks = self.now.ticks; inside = self.now.inside } }
     {
-        let ticks = self.ticks;
-        let mut pc = self.pc;
-        for turns in 0..most {
-            let at = pc;
-            let Some(flat) = own_word(store, at) else {
-                self.pc = at;
-                self.ticks = ticks + turns as u64;
-                return turns;
-            };
-            if !flat.run(
-                number,
-                &mut pc,
-                &mut self.stop,
-                &mut self.regs,
-                mem,
-                resv,
-                out,
-            ) {
-                self.pc = at;
-                self.ticks = ticks + turns as u64 + 1;
-                return turns + 1;
-            }
+        Progress {
+            pc: self.pc,
+            ticks: self.ticks,
+            inside: self.inside,
         }
-        self.pc = pc;
-        self.ticks = ticks + most as u64;
-        most
     }
 
-    /// At least one turn of a hart that can take it, and at most so many.
+    /// Sets how far the hart is.
     #[inline(always)]
-    fn go_on(
-        &mut self,
-        number: HartNo,
-        most: u32,
-        budget: u64,
-        store: &Store,
-        mem: &mut Mem,
-        resv: &mut Reservations,
-        out: &mut Output,
-    ) -> u32
-        requires number { number < length resv.old }
-        requires some { 0 < most }
-        requires runnable { IsTrue (may_turn (Some self.old) budget) }
-        requires placed { IsPlaced store.now budget (solo_of self.old (prog_of mem.old resv.old out.old)) }
-        ensures leads { Leads store.now budget number result (solo_of self.old (prog_of mem.old resv.old out.old)) (solo_of self.new (prog_of mem.new resv.new out.new)) }
-        ensures bound { (0 < result) × (result ≤ most) }
-        ensures harts { length resv.new ≡ length resv.old }
+    fn set_progress(&mut self, progress: Progress)
+        ensures { self.new ≡ record self.old { pc = progress.pc; ticks = progress.ticks; inside = progress.inside } }
     {
-        if !self.inside {
-            let limit = (budget - self.ticks).min(most as u64) as u32;
-            let turns = self.take_ticks(number, limit, store, mem, resv, out);
-            if turns > 0 {
-                return turns;
-            }
-        }
-        self.take_turn(number, store, mem, resv, out);
-        1
+        self.pc = progress.pc;
+        self.ticks = progress.ticks;
+        self.inside = progress.inside;
     }
 
     /// Turns of the hart, at most so many, as long as it can take them. It answers how many, and takes no memory.
+    #[inline(never)]
     pub fn take_turns(
         &mut self,
         number: HartNo,
@@ -127,13 +120,31 @@ impl HartState {
         ensures ticks { (self.old.ticks ≤ self.new.ticks) × (self.new.ticks ≤ self.old.ticks + result) }
         ensures harts { length resv.new ≡ length resv.old }
     {
-        let mut turns = 0;
-        for _ in 0..most {
-            if turns == most || !self.may_turn(budget) {
+        if self.stop.is_some() {
+            return 0;
+        }
+        let mut progress = self.progress();
+        for turns in 0..most {
+            if !progress.inside && progress.ticks >= budget {
+                self.set_progress(progress);
                 return turns;
             }
-            turns += self.go_on(number, most - turns, budget, store, mem, resv, out);
+            if !take_turn(
+                &mut progress,
+                &mut self.stop,
+                &mut self.regs,
+                &mut self.bank,
+                number,
+                store,
+                mem,
+                resv,
+                out,
+            ) {
+                self.set_progress(progress);
+                return turns + 1;
+            }
         }
-        turns
+        self.set_progress(progress);
+        most
     }
 }

@@ -1,4 +1,4 @@
-use Rattle.std.proofs.Common.{◌≡◌, ℕ, ◌+◌, ◌<◌, ◌≤◌, ◌∙◌, sym, ap, subst, length, get_or, set, Some, arith}
+use Rattle.std.proofs.Common.{◌≡◌, ◌<◌, ◌≤◌, ◌∙◌, sym, ap, subst, length, get_or, set, Some, arith}
 use Rattle.std.specs.Prelude.{slice_get}
 use Rattle.pn_types.specs.declared.limits.TheConstants.{MAX_HARTS}
 use Rattle.rv_word.specs.Exec.{prog_of}
