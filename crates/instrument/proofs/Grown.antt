@@ -1,6 +1,6 @@
 -- The sites of an instrument are placed one after another: the book grows, and is cut to what it was where one is refused.
 use Rattle.std.proofs.Common.{◌≡◌, ℕ, zero, suc, ◌+◌, ◌/◌, ◌<◌, ◌≤◌, List, [], ◌∷◌, ◌++◌, Option, Some, None, refl, sym, ap, ◌∙◌, subst, arith, inl, inr, length, take, drop, get_or}
-use Rattle.std.specs.Prelude.{Ok, Err, Result, ◌-◌, find, IfErr, OnOk, OnErr, max}
+use Rattle.std.specs.Prelude.{Ok, Err, Result, ◌-◌, find, IfErr, IfSome, OnOk, OnErr, max}
 use Rattle.std.proofs.Math.Nat.{le-max_left}
 use Rattle.std.proofs.lemmas.List.{drop_more}
 use Rattle.pn_types.specs.declared.limits.TheConstants.{TOOL_TEXT_LEN}
@@ -27,31 +27,32 @@ use Rattle.instrument.proofs.Holdings.{space_give, space_reserved, middle, witho
 
 -- ---- what a site makes of a book
 
-pub record HasBlocks (owner : ℕ) (before after : Book) : Type 0 where
+pub record HasBlocks (owner point : ℕ) (before after : Book) : Type 0 where
   pub k : Blocks
+  pub at : IfSome k.base (λ b. b.point ≡ point)
   pub is : after ≡ with_blocks owner k before
 
-of_mini : (o : Option ℕ) (owner point : ℕ) (body : List MarkedWord) (base : Option Block) (book new : Book) → with_mini_at o owner point body base book ≡ Ok new → HasBlocks owner book new
-of_mini None owner point body base book new e = absurd cc
-of_mini (Some at) owner point body base book new e = record { k = record { base = base; mini = a_mini point at body }; is = cc }
+of_mini : (o : Option ℕ) (owner point : ℕ) (body : List MarkedWord) (base : Option Block) (book new : Book) → IfSome base (λ b. b.point ≡ point) → with_mini_at o owner point body base book ≡ Ok new → HasBlocks owner point book new
+of_mini None owner point body base book new p e = absurd cc
+of_mini (Some at) owner point body base book new p e = record { at = p; k = record { base = base; mini = a_mini point at body }; is = cc }
 
-of_moved : (o : Option (List MarkedWord)) (t : Words) (at owner point : ℕ) (body : List MarkedWord) (book new : Book) → with_moved o t at owner point body book ≡ Ok new → HasBlocks owner book new
+of_moved : (o : Option (List MarkedWord)) (t : Words) (at owner point : ℕ) (body : List MarkedWord) (book new : Book) → with_moved o t at owner point body book ≡ Ok new → HasBlocks owner point book new
 of_moved None t at owner point body book new e = absurd cc
-of_moved (Some moved) t at owner point body book new e = of_mini (room_for t (rooms_with (Some (a_base point at moved)) book.rooms) (length body + 1)) owner point body (Some (a_base point at moved)) book new e
+of_moved (Some moved) t at owner point body book new e = of_mini (room_for t (rooms_with (Some (a_base point at moved)) book.rooms) (length body + 1)) owner point body (Some (a_base point at moved)) book new refl e
 
-of_base_at : (o : Option ℕ) (t : Words) (word owner point : ℕ) (body : List MarkedWord) (book new : Book) → with_base_at o t word owner point body book ≡ Ok new → HasBlocks owner book new
+of_base_at : (o : Option ℕ) (t : Words) (word owner point : ℕ) (body : List MarkedWord) (book new : Book) → with_base_at o t word owner point body book ≡ Ok new → HasBlocks owner point book new
 of_base_at None t word owner point body book new e = absurd cc
 of_base_at (Some at) t word owner point body book new e = of_moved (moved_of word point (moved_at at)) t at owner point body book new e
 
-of_base : (o : Option ℕ) (t : Words) (owner point : ℕ) (body : List MarkedWord) (book new : Book) → with_base o t owner point body book ≡ Ok new → HasBlocks owner book new
+of_base : (o : Option ℕ) (t : Words) (owner point : ℕ) (body : List MarkedWord) (book new : Book) → with_base o t owner point body book ≡ Ok new → HasBlocks owner point book new
 of_base None t owner point body book new e = absurd cc
 of_base (Some word) t owner point body book new e = of_base_at (room_for t book.rooms (base_len word)) t word owner point body book new e
 
-of_site : (o : Option Room) (t : Words) (owner point : ℕ) (body : List MarkedWord) (book new : Book) → with_site_by o t owner point body book ≡ Ok new → HasBlocks owner book new
-of_site (Some base) t owner point body book new e = of_mini (room_for t book.rooms (length body + 1)) owner point body None book new e
+of_site : (o : Option Room) (t : Words) (owner point : ℕ) (body : List MarkedWord) (book new : Book) → with_site_by o t owner point body book ≡ Ok new → HasBlocks owner point book new
+of_site (Some base) t owner point body book new e = of_mini (room_for t book.rooms (length body + 1)) owner point body None book new tt e
 of_site None t owner point body book new e = of_base (program_word t point) t owner point body book new e
 
-pub site_blocks : (t : Words) (owner : ℕ) (slots : List ℕ) (s : Site) (book new : Book) → with_site t owner slots s book ≡ Ok new → HasBlocks owner book new
+pub site_blocks : (t : Words) (owner : ℕ) (slots : List ℕ) (s : Site) (book new : Book) → with_site t owner slots s book ≡ Ok new → HasBlocks owner s.at book new
 site_blocks t owner slots s book new e = of_site (find (is_base_of s.at) book.rooms) t owner s.at (body_of slots s.stmts) book new e
 
 -- ---- one mini block more is held

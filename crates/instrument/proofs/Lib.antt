@@ -40,6 +40,7 @@ pub mod Grown
 pub mod Added
 pub mod Mapping
 pub mod Ready
+pub mod Based
 pub mod Owners
 pub mod Memoryless
 pub mod Examples

@@ -6,6 +6,7 @@ pub mod Rosters
 pub mod ToolTexts
 pub mod Shown
 pub mod Needs
+pub mod Bases
 pub mod Placers
 pub mod Handing
 pub mod Fits

@@ -52,20 +52,9 @@ pub fn place(
     ensures takes_left { text.old.takes ≤ text.new.takes + 2 * length plan.now.sites }
     ensures entries_left { text.old.entries ≤ text.new.entries + 7 * length plan.now.sites }
 {
-    let Kit {
-        vars,
-        slots,
-        sites,
-        buffers,
-    } = kit;
+    let Kit { vars, slots, sites } = kit;
     let slots = slots_from(slots, first, vars.as_slice());
-    let sites = text.place_sites(
-        number.n,
-        slots.as_slice(),
-        plan.sites.as_slice(),
-        buffers,
-        sites,
-    )?;
+    let sites = text.place_sites(number.n, slots.as_slice(), plan.sites.as_slice(), sites)?;
     Ok(Instrument {
         no: number.n,
         placed: Placed {

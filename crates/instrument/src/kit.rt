@@ -1,18 +1,14 @@
 //! What the admission of a plan needs in memory of its own.
 
-ghost use Rattle.std.specs.Prelude.{◌≡◌, ◌==◌, ◌<◌, ◌^◌, IfOk, length, map};
+ghost use Rattle.std.specs.Prelude.{◌≡◌, ◌<◌, ◌^◌, IfOk, length};
 ghost use Rattle.std.specs.Cmp.Lexicographic.{pointwise};
-ghost use Rattle.machine.specs.Cores.{In};
-ghost use Rattle.pn_types.specs.declared.plan.Site.{Site};
 ghost use Rattle.prim_code.specs.Counts as counts;
 ghost use Rattle.instrument.specs.Needs as needs;
 
-use crate::buffers::Buffers;
+use crate::site_memory::SiteMemory;
 use crate::slots::copy_vars;
-use pn_types::{NoMemory, PlacedSite, Plan, Site, Var};
-use prim_code::words_of;
+use pn_types::{NoMemory, Plan, Var};
 use std::alloc::Global;
-use std::collections::VecDeque;
 use std::marker::Model;
 
 /// Whether two variables are the same.
@@ -39,54 +35,16 @@ fn are_vars(ones: &[Var], others: &[Var]) -> bool
     true
 }
 
-/// How many words the mini block of a site has.
-fn site_words(site: &Site) -> u32
-    requires { counts.site_words site.now < 2 ^ 32 }
-    ensures { result ≡ counts.site_words site.now }
-{
-    words_of(site.stmts.as_slice()) + 1
-}
-
-/// Whether the mini blocks of these sites have as many words as the buffers.
-fn are_for(sites: &[Site], buffers: &VecDeque<Buffers>) -> bool
-    requires { (s : Site) → In s sites.now → counts.site_words s < 2 ^ 32 }
-    ensures { result ≡ pointwise (λ v w. v == w) (map counts.site_words sites.now) buffers.now.items }
-{
-    if sites.len() != buffers.len() {
-        return false;
-    }
-    for place in 0..sites.len() {
-        if site_words(&sites[place]) != buffers[place].words() {
-            return false;
-        }
-    }
-    true
-}
-
-/// Takes the memory of the words of sites' blocks.
-fn buffers_for(alloc: Global, sites: &[Site]) -> Result<VecDeque<Buffers>, NoMemory>
-    requires { (s : Site) → In s sites.now → counts.site_words s < 2 ^ 32 }
-    ensures { IfOk result (λ buffers. buffers.items ≡ map counts.site_words sites.now) }
-{
-    let mut buffers = VecDeque::with_capacity(alloc, sites.len())?;
-    for site in sites {
-        buffers.push_back_reserved(Buffers::new(alloc, site_words(site))?);
-    }
-    Ok(buffers)
-}
-
-/// The memory that the admission of a plan needs for the plan alone: its variables, copied, and room for their slots, for the
-/// sites, and for the words of each site's blocks. Contracts see the need that it meets.
+/// The memory that the admission of a plan needs for the plan alone: its variables, copied, room for their slots, and the memory
+/// of its sites. Contracts see the need that it meets.
 #[derive(Drop)]
 pub struct Kit {
     /// The variables.
     pub vars: Vec<Var>,
     /// No slots, and room for one of each variable.
     pub slots: Vec<u32>,
-    /// No sites, and room for as many as there are buffers.
-    pub sites: Vec<PlacedSite>,
-    /// The memory of each site's blocks, in order.
-    pub buffers: VecDeque<Buffers>,
+    /// The memory of the sites.
+    pub sites: SiteMemory,
 }
 
 impl Model for Kit {
@@ -95,11 +53,9 @@ impl Model for Kit {
 
     ghost Value = { Need };
 
-    ghost view = { λ k. record { vars = k.vars.items; words = k.buffers.items } };
+    ghost view = { λ k. record { vars = k.vars.items; words = k.sites } };
 
-    ghost invariant = { λ k.
-        (k.slots.items ≡ []) × (length k.vars.items ≤ vec_capacity k.slots)
-        × (k.sites.items ≡ []) × (length k.buffers.items ≤ vec_capacity k.sites) };
+    ghost invariant = { λ k. (k.slots.items ≡ []) × (length k.vars.items ≤ vec_capacity k.slots) };
 }
 
 impl Kit {
@@ -113,12 +69,10 @@ impl Kit {
         ensures { IfOk result (λ kit. kit ≡ needs.need_of plan.now) }
     {
         let vars = plan.vars.as_slice();
-        let sites = plan.sites.as_slice();
         Ok(Kit {
             vars: copy_vars(alloc, vars)?,
             slots: Vec::with_capacity(alloc, vars.len())?,
-            sites: Vec::with_capacity(alloc, sites.len())?,
-            buffers: buffers_for(alloc, sites)?,
+            sites: SiteMemory::new(alloc, plan.sites.as_slice())?,
         })
     }
 
@@ -126,7 +80,7 @@ impl Kit {
     pub fn sites(&self) -> usize
         ensures { result ≡ length self.now.words }
     {
-        self.buffers.len()
+        self.sites.len()
     }
 
     /// It meets the need of the plan.
@@ -135,6 +89,6 @@ impl Kit {
         ensures { result ≡ needs.is_need (needs.need_of plan.now) self.now }
     {
         are_vars(plan.vars.as_slice(), self.vars.as_slice())
-            && are_for(plan.sites.as_slice(), &self.buffers)
+            && self.sites.is_for(plan.sites.as_slice())
     }
 }

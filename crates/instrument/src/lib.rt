@@ -3,6 +3,7 @@
 
 mod admission;
 mod agenda;
+mod bases;
 mod blocks;
 mod buffers;
 mod costs;
@@ -23,6 +24,7 @@ mod program;
 mod room;
 mod rooms;
 mod roster;
+mod site_memory;
 mod slots;
 mod tool_text;
 

@@ -1,18 +1,20 @@
 //! The blocks of the tool text: their rooms, and what is to be done for them.
 
-ghost use Rattle.std.specs.Prelude.{◌≡◌, ◌+◌, ◌*◌, ◌<◌, ◌≤◌, ◌++◌, ◌∷◌, [], ◌^◌, Ok, Err, IfErr, IfOk, IfSome, OnOk, filter, length, map, take, vec_capacity};
+ghost use Rattle.std.specs.Prelude.{◌≡◌, ◌+◌, ◌*◌, ◌<◌, ◌≤◌, ◌++◌, ◌∷◌, [], ◌^◌, Ok, Err, IfErr, IfOk, IfSome, OnOk, filter, length, map, take};
 ghost use Rattle.pn_types.specs.Images.{IsImage};
 ghost use Rattle.pn_types.specs.declared.plan.Site.{Site};
 ghost use Rattle.prim_code.specs.Counts.{site_words, word_count};
 ghost use Rattle.prim_code.specs.Named.{AreBelow};
 ghost use Rattle.machine.specs.Cores.{In};
 ghost use Rattle.instrument.specs.Admission as table;
+ghost use Rattle.instrument.specs.Bases.{AreMarks, has_base};
 ghost use Rattle.instrument.specs.Books as books;
 ghost use Rattle.instrument.specs.Placements.{agenda_in, behind_first, first_of, is_site_of, point_in, sites_of, without_sites};
 ghost use Rattle.instrument.specs.ToolTexts as texts;
 ghost use Rattle.instrument.specs.ToolTexts.{IsGrown};
 ghost use Rattle.instrument.specs.declared.entry.Entry.TheVariants.{Free};
 
+use crate::bases::marks_for;
 use crate::buffers::Buffers;
 use crate::costs::{entries_for, takes_for};
 use crate::entry::Entry;
@@ -23,6 +25,7 @@ use crate::placing::place_site;
 use crate::program::Program;
 use crate::room::Room;
 use crate::rooms::sites_of;
+use crate::site_memory::SiteMemory;
 use pn_types::{Image, NoMemory, PlacedSite, SEGMENTS_TO, Site, TOOL_TEXT_LEN};
 use std::alloc::{AllocError, Global};
 use std::collections::VecDeque;
@@ -161,12 +164,14 @@ impl ToolText {
         self.words.reserve(takes)
     }
 
-    /// Places a site of an instrument, for which memory was reserved. `buffers` give that of its blocks' words.
+    /// Places a site of an instrument, for which memory was reserved. `mark` may tell whether its point has a base block. `buffers`
+    /// give the memory of its blocks' words.
     fn place_site(
         &mut self,
         owner: u64,
         slots: &[u32],
         site: &Site,
+        mark: Option<bool>,
         buffers: Buffers,
     ) -> Result<(), Refused>
         requires rooms { 2 ≤ self.old.spare_rooms }
@@ -174,6 +179,7 @@ impl ToolText {
         requires entries { 7 ≤ self.old.entries }
         requires named { AreBelow (length slots.now) site.now.stmts }
         requires count { word_count site.now.stmts + 1 < 2 ^ 32 }
+        requires mark { IfSome mark (λ based. based ≡ has_base self.old.book.rooms site.now) }
         requires buffers { buffers ≡ word_count site.now.stmts + 1 }
         ensures ok { OnOk result (table.with_site self.old.program owner slots.now site.now self.old.book ≡ Ok self.new.book) }
         ensures refused { IfErr result (λ refused. table.with_site self.old.program owner slots.now site.now self.old.book ≡ Err refused) }
@@ -191,6 +197,7 @@ impl ToolText {
             owner,
             slots,
             site,
+            mark,
             buffers,
         )
     }
@@ -201,6 +208,7 @@ impl ToolText {
         owner: u64,
         slots: &[u32],
         sites: &[Site],
+        marks: &mut VecDeque<bool>,
         buffers: &mut VecDeque<Buffers>,
     ) -> Result<(), Refused>
         requires rooms { 2 * length sites.now ≤ self.old.spare_rooms }
@@ -208,6 +216,7 @@ impl ToolText {
         requires entries { 7 * length sites.now ≤ self.old.entries }
         requires named { (s : Site) → In s sites.now → AreBelow (length slots.now) s.stmts }
         requires count { (s : Site) → In s sites.now → word_count s.stmts + 1 < 2 ^ 32 }
+        requires marks { AreMarks self.old.book.rooms sites.now marks.old.items }
         requires buffers { buffers.old.items ≡ map site_words sites.now }
         ensures ok { OnOk result (table.with_sites self.old.program owner slots.now sites.now self.old.book ≡ Ok self.new.book) }
         ensures refused { IfErr result (λ refused. table.with_sites self.old.program owner slots.now sites.now self.old.book ≡ Err refused) }
@@ -221,7 +230,7 @@ impl ToolText {
             let Some(buffers) = buffers.pop_front() else {
                 unreachable!();
             };
-            self.place_site(owner, slots, site, buffers)?;
+            self.place_site(owner, slots, site, marks.pop_front(), buffers)?;
         }
         Ok(())
     }
@@ -239,8 +248,7 @@ impl ToolText {
         self.ledger.truncate(rooms, entries);
     }
 
-    /// Places the sites of an instrument, for which memory was reserved, and answers them. `buffers` give the memory of their
-    /// blocks' words, and `placed` that of the answer.
+    /// Places the sites of an instrument, for which memory was reserved, and answers them. `memory` is their own.
     ///
     /// # Errors
     ///
@@ -250,8 +258,7 @@ impl ToolText {
         owner: u64,
         slots: &[u32],
         sites: &[Site],
-        buffers: VecDeque<Buffers>,
-        placed: Vec<PlacedSite>,
+        memory: SiteMemory,
     ) -> Result<Vec<PlacedSite>, Refused>
         requires rooms { 2 * length sites.now ≤ self.old.spare_rooms }
         requires takes { 2 * length sites.now ≤ self.old.takes }
@@ -259,9 +266,7 @@ impl ToolText {
         requires named { (s : Site) → In s sites.now → AreBelow (length slots.now) s.stmts }
         requires count { (s : Site) → In s sites.now → word_count s.stmts + 1 < 2 ^ 32 }
         requires new { sites_of owner self.old.book.rooms ≡ [] }
-        requires buffers { buffers.items ≡ map site_words sites.now }
-        requires empty { placed.items ≡ [] }
-        requires room { length sites.now ≤ vec_capacity placed }
+        requires memory { memory ≡ map site_words sites.now }
         ensures ok { OnOk result (table.with_sites self.old.program owner slots.now sites.now self.old.book ≡ Ok self.new.book) }
         ensures sites { IfOk result (λ placed. placed.items ≡ sites_of owner self.new.book.rooms) }
         ensures refused { IfErr result (λ refused. table.with_sites self.old.program owner slots.now sites.now self.old.book ≡ Err refused) }
@@ -273,8 +278,14 @@ impl ToolText {
     {
         let rooms = self.ledger.rooms().len();
         let entries = self.ledger.entries();
+        let SiteMemory {
+            buffers,
+            marks,
+            placed,
+        } = memory;
         let mut buffers = buffers;
-        if let Err(refused) = self.place_each(owner, slots, sites, &mut buffers) {
+        let mut marks = marks_for(marks, self.ledger.rooms(), sites);
+        if let Err(refused) = self.place_each(owner, slots, sites, &mut marks, &mut buffers) {
             self.truncate(rooms, entries);
             return Err(refused);
         }

@@ -4,5 +4,5 @@ use Rattle.machine.specs.Cores.{In}
 use Rattle.instrument.proofs.Added.{site_short}
 use Rattle.instrument.proofs.kit.Kit.new.Goals as goal
 
-pub buffers_for-requires : goal.buffers_for-requires
-buffers_for-requires c = λ s i. site_short c.args.plan.now c.requires s (subst (λ (ss : List Site). In s ss) c.as_slice-sites.ensures i)
+pub new-requires : goal.new-requires
+new-requires c = λ s i. site_short c.args.plan.now c.requires s (subst (λ (ss : List Site). In s ss) c.as_slice.ensures i)
