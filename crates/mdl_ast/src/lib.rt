@@ -5,6 +5,7 @@
 
 mod action;
 mod block;
+mod copies;
 mod items;
 mod metric;
 

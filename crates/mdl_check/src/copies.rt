@@ -6,18 +6,8 @@ use mdl_ast::{
     Action, Block, Condition, Constraint, Hypothesis, Insertion, LeftName, Metric, PhaseDecl, Set,
     Statement, VarName,
 };
-use pn_types::{NoMemory, Seq, Text};
+use pn_types::{NoMemory, Seq, copy_texts};
 use std::alloc::Global;
-
-fn texts(alloc: Global, texts: &Seq<Text>) -> Result<Seq<Text>, NoMemory>
-    ensures { IfOk result (λ copy. copy ≡ texts.now) }
-{
-    let mut copies = Vec::new(alloc);
-    for one in texts.as_slice() {
-        copies.push(one.copy(alloc)?)?;
-    }
-    Ok(Seq::from_vec(copies))
-}
 
 fn variable(alloc: Global, variable: &VarName) -> Result<VarName, NoMemory>
     ensures { IfOk result (λ copy. copy ≡ variable.now) }
@@ -117,7 +107,7 @@ fn set(alloc: Global, set: &Set) -> Result<Set, NoMemory>
     match set {
         Set::Focus => Ok(Set::Focus),
         Set::All => Ok(Set::All),
-        Set::Names(names) => Ok(Set::Names(texts(alloc, names)?)),
+        Set::Names(names) => Ok(Set::Names(copy_texts(alloc, names)?)),
     }
 }
 
@@ -149,7 +139,7 @@ pub(crate) fn metric(alloc: Global, line: u32, metric: &Metric) -> Result<Metric
         line,
         name: metric.name.copy(alloc)?,
         units: metric.units.copy(alloc)?,
-        constraints: texts(alloc, &metric.constraints)?,
+        constraints: copy_texts(alloc, &metric.constraints)?,
         timer: metric.timer,
         initially: metric.initially,
         blocks: blocks(alloc, &metric.blocks)?,
@@ -174,15 +164,6 @@ pub(crate) fn constraint(
     })
 }
 
-fn parent(alloc: Global, parent: &Option<Text>) -> Result<Option<Text>, NoMemory>
-    ensures { IfOk result (λ copy. copy ≡ parent.now) }
-{
-    match parent {
-        Some(name) => Ok(Some(name.copy(alloc)?)),
-        None => Ok(None),
-    }
-}
-
 /// A copy of a hypothesis at this line.
 pub(crate) fn hypothesis(
     alloc: Global,
@@ -191,23 +172,16 @@ pub(crate) fn hypothesis(
 ) -> Result<Hypothesis, NoMemory>
     ensures { IfOk result (λ copy. copy ≡ record hypothesis.now { line = line }) }
 {
-    Ok(Hypothesis {
-        line,
-        name: hypothesis.name.copy(alloc)?,
-        parent: parent(alloc, &hypothesis.parent)?,
-        metric: hypothesis.metric.copy(alloc)?,
-        threshold: hypothesis.threshold,
-        axes: texts(alloc, &hypothesis.axes)?,
-    })
+    let mut copy = hypothesis.copy(alloc)?;
+    copy.line = line;
+    Ok(copy)
 }
 
 /// A copy of a phase at this line.
 pub(crate) fn phase(alloc: Global, line: u32, phase: &PhaseDecl) -> Result<PhaseDecl, NoMemory>
     ensures { IfOk result (λ copy. copy ≡ record phase.now { line = line }) }
 {
-    Ok(PhaseDecl {
-        line,
-        name: phase.name.copy(alloc)?,
-        at: phase.at,
-    })
+    let mut copy = phase.copy(alloc)?;
+    copy.line = line;
+    Ok(copy)
 }
