@@ -7,9 +7,9 @@ use Rattle.std.proofs.lemmas.List.Folds.{list_any-append}
 use Rattle.pn_types.specs.declared.code.Proc.{Proc}
 use Rattle.mdl_ast.specs.declared.block.Set.{Set}
 use Rattle.mdl_ast.specs.declared.block.Set.TheVariants.{Names}
-use Rattle.resource_tree.specs.Resources.{ModuleNode}
+use Rattle.resource_tree.specs.Resources.{ModuleNode, numbers_named}
 use Rattle.mdl_plan.specs.Choosing.{in_set}
-use Rattle.mdl_plan.specs.Selecting.{AreNames, Scope, Selects, numbers_named, scope}
+use Rattle.mdl_plan.specs.Selecting.{AreNames, Scope, Selects, scope}
 
 -- equality of names goes both ways
 swapped : (a b : List ℕ) → bytes_eq a b ≡ bytes_eq b a

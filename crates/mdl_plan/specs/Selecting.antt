@@ -4,7 +4,7 @@ use Rattle.std.specs.List.{list_any}
 use Rattle.std.specs.Option.{option_map_or}
 use Rattle.std.specs.Str.{bytes_eq}
 use Rattle.pn_types.specs.declared.code.Proc.{Proc}
-use Rattle.resource_tree.specs.Resources.{ModuleNode}
+use Rattle.resource_tree.specs.Resources.{ModuleNode, numbers_named}
 
 -- these numbers of procedures are those of the procedures that pass the test
 abbrev pub Selects : List Proc → (ℕ → Proc → Bool) → List ℕ → Type 0
@@ -17,11 +17,6 @@ pub record Scope : Type 0 where
 
 abbrev pub scope : List ℕ → List Proc → Scope
 scope selected procs = record { selected = selected; procs = procs }
-
--- the numbers that stand under a name
-abbrev pub numbers_named : List ℕ → List ModuleNode → List ℕ
-numbers_named name [] = []
-numbers_named name (n ∷ ns) = if bytes_eq name n.name then n.procs else numbers_named name ns
 
 -- under each name stand the numbers of the procedures that have it
 abbrev pub AreNames : List Proc → List ModuleNode → Type 0

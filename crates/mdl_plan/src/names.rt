@@ -3,7 +3,8 @@
 ghost use Rattle.std.specs.Prelude.{◌≡◌, ◌<◌, ◌+◌, ◌^◌, ℕ, IfOk, length, map, flat_map};
 ghost use Rattle.std.specs.Str.{bytes_eq};
 ghost use Rattle.pn_types.specs.declared.code.Proc.{Proc};
-ghost use Rattle.mdl_plan.specs.Selecting.{AreNames, numbers_named};
+ghost use Rattle.mdl_plan.specs.Selecting.{AreNames};
+ghost use Rattle.resource_tree.specs.Resources.{numbers_named};
 
 use indexmap::IndexMap;
 use pn_types::{NoMemory, Proc, Text};

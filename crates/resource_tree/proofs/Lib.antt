@@ -15,3 +15,5 @@ pub mod Canonical
 pub mod InTree
 pub mod Named
 pub mod LowObjects
+pub mod Counts
+pub mod NameNumbers

@@ -37,6 +37,11 @@ abbrev pub add_to : List ℕ → ℕ → List ModuleNode → List ModuleNode
 add_to name n [] = module_node name (n ∷ []) ∷ []
 add_to name n (m ∷ ms) = if bytes_eq name m.name then module_node m.name (m.procs ++ n ∷ []) ∷ ms else m ∷ add_to name n ms
 
+-- the numbers that stand under a name
+abbrev pub numbers_named : List ℕ → List ModuleNode → List ℕ
+numbers_named name [] = []
+numbers_named name (n ∷ ns) = if bytes_eq name n.name then n.procs else numbers_named name ns
+
 -- these modules with the procedures put into them in order, of which the first has number n
 abbrev pub modules_from : List ModuleNode → ℕ → List Proc → List ModuleNode
 modules_from ms n [] = ms
@@ -91,7 +96,12 @@ tree_of procs symbols harts prefixes = record {
   harts = harts;
 }
 
--- no more harts than a machine can have, and each module's procedures are the tree's
+-- no module has more than n procedures
+abbrev pub HasFewMembers : ℕ → List ModuleNode → Type 0
+HasFewMembers n ms = (k : ℕ) (m : ModuleNode) → slice_get ms k ≡ Some m → length m.procs ≤ n
+
+-- no more harts than a machine can have, and each module's procedures are the tree's, of which it has no more than there are
 pub record IsBounded (t : Resources) : Type 0 where
   pub harts : t.harts ≤ MAX_HARTS
   pub members : HasMembersBelow (length t.code.paths) t.code.modules
+  pub few : HasFewMembers (length t.code.paths) t.code.modules

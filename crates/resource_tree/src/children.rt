@@ -1,6 +1,7 @@
 //! The children of a focus.
 
-ghost use Rattle.std.specs.Prelude.{◌≡◌, ◌≤◌, IfSome, slice_get};
+ghost use Rattle.std.specs.Prelude.{◌≡◌, ◌≤◌, IfSome, length, slice_get};
+ghost use Rattle.resource_tree.specs.Resources.{HasFewMembers};
 ghost use Rattle.resource_tree.specs.Foci.{code_children, children, flat_children, IsFocusOf};
 
 use crate::code::CodeTree;
@@ -13,7 +14,7 @@ fn code_child(code: &CodeTree, node: CodePart, number: u32) -> Option<CodePart>
 {
     match node {
         CodePart::All => {
-            if number as usize >= code.len() {
+            if number >= code.len() {
                 return None;
             }
             Some(CodePart::Module(number))
@@ -43,13 +44,13 @@ fn hart_child(harts: u32, node: Option<HartNo>, number: u32) -> Option<Option<Ha
 }
 
 /// The child of the root of the objects, or of an object.
-fn object_child(objects: usize, node: Option<u32>, number: u32) -> Option<Option<u32>>
+fn object_child(objects: u32, node: Option<u32>, number: u32) -> Option<Option<u32>>
     ensures { result ≡ slice_get (flat_children objects node) number }
 {
     match node {
         Some(_) => None,
         None => {
-            if number as usize >= objects {
+            if number >= objects {
                 return None;
             }
             Some(Some(number))
@@ -57,7 +58,50 @@ fn object_child(objects: usize, node: Option<u32>, number: u32) -> Option<Option
     }
 }
 
+/// How many children a node of the code has.
+fn code_count(code: &CodeTree, node: CodePart) -> u32
+    requires { HasFewMembers (length code.now.paths) code.now.modules }
+    ensures { result ≡ length (code_children code.now node) }
+{
+    match node {
+        CodePart::All => code.len(),
+        CodePart::Module(module_no) => code.member_count(module_no as usize),
+        CodePart::Procedure(_) => 0,
+    }
+}
+
+/// How many children the machine's root, or a hart, has.
+fn hart_count(harts: u32, node: Option<HartNo>) -> u32
+    ensures { result ≡ length (flat_children harts node) }
+{
+    match node {
+        Some(_) => 0,
+        None => harts,
+    }
+}
+
+/// How many children the root of the objects, or an object, has.
+fn object_count(objects: u32, node: Option<u32>) -> u32
+    ensures { result ≡ length (flat_children objects node) }
+{
+    match node {
+        Some(_) => 0,
+        None => objects,
+    }
+}
+
 impl Tree {
+    /// How many children the focus has on an axis.
+    pub fn child_count(&self, focus: &Focus, axis: Axis) -> u32
+        ensures { result ≡ length (children self.now focus.now axis) }
+    {
+        match axis {
+            Axis::Code => code_count(&self.code, focus.code),
+            Axis::Machine => hart_count(self.harts, focus.hart),
+            Axis::SyncObject => object_count(self.objects.len(), focus.object),
+        }
+    }
+
     /// The focus's child of this number, from 0, on an axis, in the order of the tree. None exactly where the number
     /// isn't below that of the children.
     pub fn child(&self, focus: &Focus, axis: Axis, number: u32) -> Option<Focus>

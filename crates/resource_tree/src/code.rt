@@ -4,7 +4,7 @@ ghost use Rattle.std.specs.Prelude.{◌≡◌, ◌≤◌, ◌<◌, ◌+◌, ◌^
 ghost use Rattle.std.specs.List.{range_with_len};
 ghost use Rattle.std.specs.Option.{option_map, option_and_then};
 ghost use Rattle.std.specs.Str.{bytes_eq};
-ghost use Rattle.resource_tree.specs.Resources.{code_of, module_node, path_of};
+ghost use Rattle.resource_tree.specs.Resources.{HasFewMembers, code_of, module_node, path_of};
 ghost use Rattle.resource_tree.specs.CodeMaps.{with_number};
 ghost use Rattle.resource_tree.specs.Foci.{procs_of_module};
 
@@ -164,9 +164,18 @@ impl CodeTree {
     }
 
     /// How many modules there are.
-    pub(crate) fn len(&self) -> usize
+    pub(crate) fn len(&self) -> u32
         ensures { result ≡ length self.now.modules }
     {
-        self.modules.len()
+        self.modules.len() as u32
+    }
+
+    /// How many procedures a module has. None where there is no such module.
+    pub(crate) fn member_count(&self, number: usize) -> u32
+        requires { HasFewMembers (length self.now.paths) self.now.modules }
+        ensures { result ≡ length (procs_of_module self.now number) }
+    {
+        let _paths = &self.paths;
+        self.members(number).len() as u32
     }
 }

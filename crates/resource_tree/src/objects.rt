@@ -113,9 +113,9 @@ impl Objects {
     }
 
     /// How many objects there are.
-    pub(crate) fn len(&self) -> usize
+    pub(crate) fn len(&self) -> u32
         ensures { result ≡ length self.now }
     {
-        self.addresses.len()
+        self.addresses.len() as u32
     }
 }

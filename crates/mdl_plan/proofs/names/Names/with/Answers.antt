@@ -1,7 +1,7 @@
 use Rattle.std.proofs.Common.{[], ap, ◌∙◌}
 use Rattle.std.specs.Option.{option_map_or}
-use Rattle.mdl_plan.specs.Selecting.{numbers_named}
-use Rattle.mdl_plan.proofs.NameNumbers.{found}
+use Rattle.resource_tree.specs.Resources.{numbers_named}
+use Rattle.resource_tree.proofs.NameNumbers.{found}
 use Rattle.mdl_plan.proofs.names.Names.with.Goals as goal
 
 pub returns-in-Some : goal.returns-in-Some

@@ -1,5 +1,5 @@
 use Rattle.std.proofs.Common.{◌≡◌, take, flat_map}
-use Rattle.mdl_plan.specs.Selecting.{numbers_named}
+use Rattle.resource_tree.specs.Resources.{numbers_named}
 use Rattle.mdl_plan.proofs.names.Names.with_any.Given as goal
 
 abbrev pub invariant-loop-name : goal.invariant-loop-name

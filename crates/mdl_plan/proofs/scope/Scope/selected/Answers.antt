@@ -1,7 +1,8 @@
 use Rattle.std.proofs.Common.{◌≡◌, flat_map}
 use Rattle.std.proofs.lemmas.Result.{IfOk-weaker}
 use Rattle.mdl_plan.specs.Choosing.{in_set}
-use Rattle.mdl_plan.specs.Selecting.{Selects, numbers_named}
+use Rattle.mdl_plan.specs.Selecting.{Selects}
+use Rattle.resource_tree.specs.Resources.{numbers_named}
 use Rattle.mdl_plan.proofs.Selected.{selects_set}
 use Rattle.mdl_plan.proofs.scope.Scope.selected.Goals as goal
 
