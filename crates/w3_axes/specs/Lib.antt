@@ -1,0 +1,3 @@
+pub mod Testing
+pub mod Refining
+pub mod Linked

@@ -1,0 +1,9 @@
+pub mod Numbering
+pub mod Changes
+pub mod Ends
+pub mod Pairs
+pub mod Indexes
+pub mod Kept
+pub mod Aging
+pub mod Growing
+pub mod Whole

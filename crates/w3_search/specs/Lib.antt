@@ -1,0 +1,5 @@
+pub mod Nodes
+pub mod Steps
+pub mod History
+pub mod Index
+pub mod States

@@ -1,0 +1,2 @@
+/// The most nodes that a search has.
+pub const MAX_NODES: usize = 4096;
