@@ -79,7 +79,7 @@ first_whole image harts budget limit p = record {
   force = λ i h. absurd h;
 }
 
-always : (image : Image) (harts budget limit : ℕ) (acts : List Act) → IsProgram image → AllCanDo acts (first_scene image harts budget limit)
+pub always : (image : Image) (harts budget limit : ℕ) (acts : List Act) → IsProgram image → AllCanDo acts (first_scene image harts budget limit)
     → Whole (start_core image harts budget) (scene_after acts (first_scene image harts budget limit)) (events_of acts (first_scene image harts budget limit))
 always image harts budget limit acts p c = all_whole (start_core image harts budget) acts (first_scene image harts budget limit) [] (first_whole image harts budget limit p) c
 

@@ -77,12 +77,12 @@ abbrev counted : Placements → Result Placements Refused → ℕ
 counted p (Ok q) = q.count
 counted p (Err r) = p.count
 
-record Taken (p : Placements) (plan : Plan) (q : Placements) : Type 0 where
-  i : Instrument
-  no : i.no ≡ p.count
-  state : i.state ≡ Placing
-  instruments : q.instruments ≡ p.instruments ++ i ∷ []
-  count : q.count ≡ p.count + 1
+pub record Taken (p : Placements) (plan : Plan) (q : Placements) : Type 0 where
+  pub i : Instrument
+  pub no : i.no ≡ p.count
+  pub state : i.state ≡ Placing
+  pub instruments : q.instruments ≡ p.instruments ++ i ∷ []
+  pub count : q.count ≡ p.count + 1
 
 taken : (p : Placements) (plan : Plan) (slot : ℕ) (r : Result Book Refused) (q : Placements) → with_instrument plan slot r p ≡ Ok q → Taken p plan q
 taken p plan slot (Err r) q e = absurd cc
@@ -103,7 +103,7 @@ within cost n e limit c =
     let z : nat_lt limit n ≡ false = sym (ap (λ o. is_over o n) c) ∙ e in
     ⊎_elim (λ (l : limit < n). absurd (true≢false (sym (lt-ltb _ _ l) ∙ z))) (λ l. l) (cases_lt limit n)
 
-admits : (p : Placements) (plan : Plan) (cost : Option ℕ) (q : Placements) → admission p plan cost ≡ Ok q → Taken p plan q × (is_over cost (predicted plan) ≡ false)
+pub admits : (p : Placements) (plan : Plan) (cost : Option ℕ) (q : Placements) → admission p plan cost ≡ Ok q → Taken p plan q × (is_over cost (predicted plan) ≡ false)
 admits p plan cost q e = by (is_over cost (predicted plan)) (nat_le p.limit (length p.instruments)) refl e
   where
     by : (b d : Bool) → is_over cost (predicted plan) ≡ b → cond b (Err (OverCost (predicted plan))) (cond d (Err TooMany) (with_slots (slots_for (slots_taken p) (slot_count plan.vars)) plan p)) ≡ Ok q → Taken p plan q × (is_over cost (predicted plan) ≡ false)

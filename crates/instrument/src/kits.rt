@@ -1,7 +1,6 @@
 //! The kits of several plans.
 
-ghost use Rattle.std.specs.Prelude.{◌≡◌, ◌<◌, ◌^◌, IfNone, IfOk, IfSome, length, map, remove, slice_get};
-ghost use Rattle.std.specs.Prelude.{Some};
+ghost use Rattle.std.specs.Prelude.{◌≡◌, ◌<◌, ◌^◌, IfNone, IfOk, IfSome, Some, length, map, remove, slice_get};
 ghost use Rattle.machine.specs.Cores.{In};
 ghost use Rattle.pn_types.specs.declared.plan.Plan.{Plan};
 ghost use Rattle.prim_code.specs.Counts.{predicted};

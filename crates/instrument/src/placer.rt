@@ -116,6 +116,13 @@ impl Placer {
         self.roster.settle(self.text.rooms());
     }
 
+    /// How many entries the agenda has.
+    pub fn agenda_len(&self) -> usize
+        ensures { result ≡ length self.now.placements.book.agenda }
+    {
+        self.text.agenda_len()
+    }
+
     /// Hands out the first entry of the agenda: None exactly where the agenda is empty.
     pub fn next(&mut self) -> Option<Event>
         ensures event { result ≡ option_map shown (placements.front self.old.placements) }

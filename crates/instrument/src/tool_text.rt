@@ -77,6 +77,13 @@ impl ToolText {
         self.ledger.rooms()
     }
 
+    /// How many entries the agenda has.
+    pub fn agenda_len(&self) -> usize
+        ensures { result ≡ length self.now.book.agenda }
+    {
+        self.ledger.entries()
+    }
+
     /// Hands out the first entry of the agenda. Where it unlinks a block, the block's room is noted.
     pub fn hand_out(&mut self) -> Option<Entry>
         ensures entry { result ≡ first_of self.old.book.agenda }

@@ -21,7 +21,7 @@ any_at : {A : Type 0} (test : A → Bool) (x : A) (xs : List A) (b : Bool) → t
 any_at test x xs true t e ih = (0, x, refl, t)
 any_at test x xs false t e ih = let r = ih e in (suc r.0, r.1, r.2, r.3)
 
-any_true : {A : Type 0} (test : A → Bool) (xs : List A) → list_any test xs ≡ true → (i : ℕ) × (y : A) × (slice_get xs i ≡ Some y) × (test y ≡ true)
+pub any_true : {A : Type 0} (test : A → Bool) (xs : List A) → list_any test xs ≡ true → (i : ℕ) × (y : A) × (slice_get xs i ≡ Some y) × (test y ≡ true)
 any_true test [] e = absurd (true≢false (sym e))
 any_true test (x ∷ xs) e = any_at test x xs (test x) refl e (any_true test xs)
 

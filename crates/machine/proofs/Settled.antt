@@ -154,23 +154,30 @@ none_left (suc n) h c e = cond-true (is_out c h) [] (Turn h ∷ leaving n h (tur
 pub rest_left : (n k h : ℕ) (c : Core) → n ≡ suc k → is_out c h ≡ false → replay (leaving k h (turn c h)) (turn c h) ≡ replay (leaving n h c) c
 rest_left n k h c s e = sym (ap (λ m. replay (leaving m h c) c) s ∙ ap (λ es. replay es c) (one_left k h c e))
 
--- a turn counts among all turns, and as a tick or as none
-abbrev Counts : ℕ → ℕ → ℕ → List Event → Core → Type 0
-Counts count owned total es c = count + owned + length es ≡ total + length (owns es c)
+-- so many were taken, of which so many are ticks, and the others are these events
+pub record Counted (turns ticks : ℕ) (all : List Event) (old : Core) (es : List Event) (now : Core) : Type 0 where
+  pub taken : turns + length es ≡ length all
+  pub ticked : ticks + length (owns es now) ≡ length (owns all old)
 
--- the count behind a turn
+-- the ticks behind a turn
 abbrev pub IsCount : ℕ → Bool → ℕ → Type 0
-IsCount count true next = next ≡ count
-IsCount count false next = next ≡ count + 1
+IsCount count true next = next ≡ count + 1
+IsCount count false next = next ≡ count
 
-counts_turn : (tick : Bool) (h count next owned total : ℕ) (es : List Event) (d : Core) → IsCount count tick next → count + owned + suc (length es) ≡ total + length (cond tick (h ∷ []) [] ++ owns es d) → Counts next owned total es d
-counts_turn true h count next owned total es d n e = let f : count + owned + suc (length es) ≡ total + suc (length (owns es d)) = e in omega arith
-counts_turn false h count next owned total es d n e = omega arith
+counts_tick : (tick : Bool) (h count next total : ℕ) (own : List ℕ) → IsCount count tick next → count + length (cond tick (h ∷ []) [] ++ own) ≡ total → next + length own ≡ total
+counts_tick true h count next total own n e = let f : count + suc (length own) ≡ total = e in omega arith
+counts_tick false h count next total own n e = let f : count + length own ≡ total = e in omega arith
 
-pub counts_left : (n k h count next owned total : ℕ) (c : Core) (tick : Bool) → n ≡ suc k → is_out c h ≡ false → tick ≡ ticks_next c h → IsCount count tick next → Counts count owned total (leaving n h c) c → Counts next owned total (leaving k h (turn c h)) (turn c h)
-counts_left n k h count next owned total c tick s e t is counted =
-    let first : Counts count owned total (Turn h ∷ leaving k h (turn c h)) c = subst (λ es. Counts count owned total es c) (ap (λ m. leaving m h c) s ∙ one_left k h c e) counted in
-    counts_turn tick h count next owned total (leaving k h (turn c h)) (turn c h) is (subst (λ b. count + owned + suc (length (leaving k h (turn c h))) ≡ total + length (cond b (h ∷ []) [] ++ owns (leaving k h (turn c h)) (turn c h))) (sym t) first)
+pub counts_left : (n k h turns ticks next : ℕ) (all : List Event) (old c : Core) (tick : Bool) → n ≡ suc k → is_out c h ≡ false → tick ≡ ticks_next c h → IsCount ticks tick next
+    → Counted turns ticks all old (leaving n h c) c → Counted (turns + 1) next all old (leaving k h (turn c h)) (turn c h)
+counts_left n k h turns ticks next all old c tick s e t is counted =
+    let es = leaving k h (turn c h) in
+    let first : Counted turns ticks all old (Turn h ∷ es) c = subst (λ l. Counted turns ticks all old l c) (ap (λ m. leaving m h c) s ∙ one_left k h c e) counted in
+    let sum : turns + suc (length es) ≡ length all = first.taken in
+    record {
+      taken = omega arith;
+      ticked = counts_tick tick h ticks next (length (owns all old)) (owns es (turn c h)) is (subst (λ b. ticks + length (cond b (h ∷ []) [] ++ owns es (turn c h)) ≡ length (owns all old)) (sym t) first.ticked);
+    }
 
 pub turn_len : (c : Core) (h : ℕ) → length (turn c h).harts ≡ length c.harts
 turn_len c h = (turn_same (slice_get c.harts h) c h).len
@@ -179,53 +186,64 @@ pub one_more : (count next turns : ℕ) (tick : Bool) → IsCount count tick nex
 one_more count next turns true n l = omega arith
 one_more count next turns false n l = omega arith
 
-pub is_count : (count next : ℕ) (tick : Bool) → ((tick ≡ false) × (next ≡ count + 1)) ⊎ ((tick ≡ true) × (next ≡ count)) → IsCount count tick next
-is_count count next true (inl e) = absurd (true≢false e.0)
-is_count count next true (inr e) = e.1
-is_count count next false (inl e) = e.1
-is_count count next false (inr e) = absurd (true≢false (sym e.0))
+pub is_count : (count next : ℕ) (tick : Bool) → ((tick ≡ true) × (next ≡ count + 1)) ⊎ ((tick ≡ false) × (next ≡ count)) → IsCount count tick next
+is_count count next true (inl e) = e.1
+is_count count next true (inr e) = absurd (true≢false e.0)
+is_count count next false (inl e) = absurd (true≢false (sym e.0))
+is_count count next false (inr e) = e.1
 
 -- ---- hart by hart
 
--- hart h is next, among so many turns that weren't ticks
-pub record Settling (most count h : ℕ) (old now : Machine) : Type 0 where
+-- hart h is next, behind so many turns, of which so many were ticks
+pub record Settling (most turns ticks h : ℕ) (old now : Machine) : Type 0 where
   pub coming : replay (settling_from (length old.core.harts - h) h now.core) now.core ≡ replay (settling old.core) old.core
   pub room : now.room ≡ old.room
   pub many : length now.core.harts ≡ length old.core.harts
   pub rows : now.core.rows ≡ old.core.rows
   pub words : most ≡ words_in old.core.rows
   pub few : most ≤ 98304
-  pub counted : Counts count (length (owns (settling old.core) old.core)) (length (settling old.core)) (settling_from (length old.core.harts - h) h now.core) now.core
-  pub bound : count ≤ 98304 * h
+  pub counted : Counted turns ticks (settling old.core) old.core (settling_from (length old.core.harts - h) h now.core) now.core
+  pub bound : turns ≤ 98304 * h
+  pub less : ticks ≤ turns
 
-pub settling_first : (old : Machine) (most : ℕ) → most ≡ words_in old.core.rows → 4 * words_in old.core.rows ≤ TOOL_TEXT_LEN → Settling most 0 0 old old
+pub settling_first : (old : Machine) (most : ℕ) → most ≡ words_in old.core.rows → 4 * words_in old.core.rows ≤ TOOL_TEXT_LEN → Settling most 0 0 0 old old
 settling_first old most w l =
     let all : length old.core.harts - 0 ≡ length old.core.harts = omega arith in
     let first : settling_from (length old.core.harts - 0) 0 old.core ≡ settling old.core = ap (λ m. settling_from m 0 old.core) all in
     let len = ap (λ (es : List Event). length es) first in
     let own = ap (λ (es : List Event). length (owns es old.core)) first in
-    record { coming = ap (λ es. replay es old.core) first; room = refl; many = refl; rows = refl; words = w; few = omega arith; counted = omega arith; bound = omega arith }
+    record {
+      coming = ap (λ es. replay es old.core) first;
+      room = refl;
+      many = refl;
+      rows = refl;
+      words = w;
+      few = omega arith;
+      counted = record { taken = omega arith; ticked = omega arith };
+      bound = omega arith;
+      less = omega arith;
+    }
 
 -- one hart more
-pub settling_step : (most count h left : ℕ) (old now new : Machine) → Settling most count h old now → h < length old.core.harts → new ≡ with_core now (replay (leaving most h now.core) now.core)
-    → left + length (owns (leaving most h now.core) now.core) ≡ length (leaving most h now.core) → left ≤ most → Settling most (count + left) (h + 1) old new
-settling_step most count h taken old now new s l e counted low = subst (Settling most (count + taken) (h + 1) old) (sym e) after
+pub settling_step : (most turns ticks h taken own : ℕ) (old now new : Machine) → Settling most turns ticks h old now → h < length old.core.harts → new ≡ with_core now (replay (leaving most h now.core) now.core)
+    → taken ≡ length (leaving most h now.core) → own ≡ length (owns (leaving most h now.core) now.core) → own ≤ taken → taken ≤ most → Settling most (turns + taken) (ticks + own) (h + 1) old new
+settling_step most turns ticks h taken own old now new s l e t o less low = subst (Settling most (turns + taken) (ticks + own) (h + 1) old) (sym e) after
   where
-    after : Settling most (count + taken) (h + 1) old (with_core now (replay (leaving most h now.core) now.core))
+    after : Settling most (turns + taken) (ticks + own) (h + 1) old (with_core now (replay (leaving most h now.core) now.core))
     after =
         let c = now.core in
         let d = replay (leaving most h c) c in
-        let total = length (settling old.core) in
-        let ticks = length (owns (settling old.core) old.core) in
         let one : length old.core.harts - h ≡ suc (length old.core.harts - (h + 1)) = omega arith in
         let words : most ≡ words_in c.rows = s.words ∙ ap words_in (sym s.rows) in
         let is : settling_from (length old.core.harts - h) h c ≡ leaving most h c ++ settling_from (length old.core.harts - (h + 1)) (h + 1) d = ap (λ m. settling_from m h c) one ∙ ap (λ m. leaving m h c ++ settling_from (length old.core.harts - (h + 1)) (h + 1) (replay (leaving m h c) c)) (sym words) in
         let others = settling_from (length old.core.harts - (h + 1)) (h + 1) d in
         let len : length (settling_from (length old.core.harts - h) h c) ≡ length (leaving most h c) + length others = ap (λ (l : List Event). length l) is ∙ length-append (leaving most h c) others in
-        let own : length (owns (settling_from (length old.core.harts - h) h c) c) ≡ length (owns (leaving most h c) c) + length (owns others d) = ap (λ (l : List Event). length (owns l c)) is ∙ (ap (λ (l : List ℕ). length l) (owns-append (leaving most h c) others c) ∙ length-append (owns (leaving most h c) c) (owns others d)) in
+        let mine : length (owns (settling_from (length old.core.harts - h) h c) c) ≡ length (owns (leaving most h c) c) + length (owns others d) = ap (λ (l : List Event). length (owns l c)) is ∙ (ap (λ (l : List ℕ). length l) (owns-append (leaving most h c) others c) ∙ length-append (owns (leaving most h c) c) (owns others d)) in
         let same = (left most h c).same in
-        let before = s.counted in
+        let sum = s.counted.taken in
+        let sum_ticks = s.counted.ticked in
         let bound = s.bound in
+        let fewer = s.less in
         let few = s.few in
         record {
           coming = sym (replay-append (leaving most h c) others c) ∙ (sym (ap (λ l. replay l c) is) ∙ s.coming);
@@ -234,18 +252,25 @@ settling_step most count h taken old now new s l e counted low = subst (Settling
           rows = same.rows ∙ s.rows;
           words = s.words;
           few = s.few;
-          counted = omega arith;
+          counted = record { taken = omega arith; ticked = omega arith };
           bound = omega arith;
+          less = omega arith;
         }
 
+-- behind all harts
+pub record AllSettled (turns ticks : ℕ) (old now : Machine) : Type 0 where
+  pub is : now ≡ with_core old (replay (settling old.core) old.core)
+  pub taken : turns ≡ length (settling old.core)
+  pub ticked : ticks ≡ length (owns (settling old.core) old.core)
+
 -- no hart is left
-pub settling_end : (most count h : ℕ) (old now : Machine) → Settling most count h old now → length old.core.harts ≤ h
-    → (now ≡ with_core old (replay (settling old.core) old.core)) × (count + length (owns (settling old.core) old.core) ≡ length (settling old.core))
-settling_end most count h old now s l =
+pub settling_end : (most turns ticks h : ℕ) (old now : Machine) → Settling most turns ticks h old now → length old.core.harts ≤ h → AllSettled turns ticks old now
+settling_end most turns ticks h old now s l =
     let zero : length old.core.harts - h ≡ 0 = omega arith in
     let nothing : settling_from (length old.core.harts - h) h now.core ≡ [] = ap (λ m. settling_from m h now.core) zero in
     let core : now.core ≡ replay (settling old.core) old.core = sym (ap (λ es. replay es now.core) nothing) ∙ s.coming in
-    let counted = s.counted in
+    let sum = s.counted.taken in
+    let sum_ticks = s.counted.ticked in
     let len = ap (λ (es : List Event). length es) nothing in
     let own = ap (λ (es : List Event). length (owns es now.core)) nothing in
-    (ap₂ (λ (c : Core) (r : ℕ). record { core = c; room = r }) core s.room, omega arith)
+    record { is = ap₂ (λ (c : Core) (r : ℕ). record { core = c; room = r }) core s.room; taken = omega arith; ticked = omega arith }

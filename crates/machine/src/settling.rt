@@ -1,46 +1,53 @@
-ghost use Rattle.std.specs.Prelude.{◌≡◌, ◌+◌, ◌<◌, ◌≤◌, length};
+ghost use Rattle.std.specs.Prelude.{◌≡◌, ◌<◌, ◌≤◌, length};
 ghost use Rattle.machine.specs.Events.{IsQuiet};
 ghost use Rattle.machine.specs.Leaving.{is_out};
 ghost use Rattle.machine.specs.Replays.{owns, replay};
 ghost use Rattle.machine.specs.States.{leaving, settling, with_core};
 
 use crate::machine::Machine;
+use crate::quantum::Taken;
 use pn_types::HartNo;
 
 impl Machine {
-    /// Each hart that is inside a trampoline, by number, takes turns until it is outside or stopped. It answers how many of these
-    /// turns weren't ticks, and takes no memory. Then no hart is inside.
-    pub fn settle(&mut self) -> u64
+    /// Each hart that is inside a trampoline, by number, takes turns until it is outside or stopped. It answers how many turns
+    /// these were, and takes no memory. Then no hart is inside.
+    pub fn settle(&mut self) -> Taken
         ensures settled { self.new ≡ with_core self.old (replay (settling self.old.core) self.old.core) }
-        ensures counted { result + length (owns (settling self.old.core) self.old.core) ≡ length (settling self.old.core) }
+        ensures turns { result.turns ≡ length (settling self.old.core) }
+        ensures ticks { result.ticks ≡ length (owns (settling self.old.core) self.old.core) }
         ensures quiet { IsQuiet self.new.core }
         ensures harts { length self.new.core.harts ≡ length self.old.core.harts }
     {
         let most = self.blocks.words();
-        let mut count = 0;
+        let mut turns = 0;
+        let mut ticks = 0;
         for hart in 0..self.harts.len() {
-            count += self.leave(HartNo::numbered(hart as u32), most);
+            let left = self.leave(HartNo::numbered(hart as u32), most);
+            turns += left.turns;
+            ticks += left.ticks;
         }
-        count
+        Taken { turns, ticks }
     }
 
-    /// The hart takes turns until it is outside or stopped, at most so many. It answers how many of them weren't ticks.
-    fn leave(&mut self, hart: HartNo, most: u32) -> u64
+    /// The hart takes turns until it is outside or stopped, at most so many. It answers how many these were.
+    fn leave(&mut self, hart: HartNo, most: u32) -> Taken
         requires { hart < length self.old.core.harts }
         ensures left { self.new ≡ with_core self.old (replay (leaving most hart self.old.core) self.old.core) }
-        ensures counted { result + length (owns (leaving most hart self.old.core) self.old.core) ≡ length (leaving most hart self.old.core) }
-        ensures bound { result ≤ most }
+        ensures turns { result.turns ≡ length (leaving most hart self.old.core) }
+        ensures ticks { result.ticks ≡ length (owns (leaving most hart self.old.core) self.old.core) }
+        ensures few { result.ticks ≤ result.turns }
+        ensures bound { result.turns ≤ most }
     {
-        let mut count = 0;
-        for _ in 0..most {
+        let mut ticks = 0;
+        for turns in 0..most {
             if self.is_out(hart) {
-                return count;
+                return Taken { turns, ticks };
             }
-            if !self.turn(hart) {
-                count += 1;
+            if self.turn(hart) {
+                ticks += 1;
             }
         }
-        count
+        Taken { turns: most, ticks }
     }
 
     /// Whether the hart is stopped or outside.

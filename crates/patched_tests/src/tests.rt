@@ -1,6 +1,15 @@
 use crate::blocks::{counter, mini};
 use crate::unlinking::{passed_by, renew};
+use machine::Taken;
 use std::test::Fail;
+
+/// The turns of the hart that is inside until it is outside: its own word is among them.
+const LEFT: Taken = Taken {
+    turns: 12,
+    ticks: 1,
+};
+
+const NONE: Taken = Taken { turns: 0, ticks: 0 };
 
 #[test]
 fn unlinked_blocks_are_freed_once_left(rt: HostRuntime) -> Result<(), Fail> {
@@ -11,7 +20,7 @@ fn unlinked_blocks_are_freed_once_left(rt: HostRuntime) -> Result<(), Fail> {
     assert!(rt; !machine.quiet());
     let renewal = renew(&mut machine, &block, &fourth);
     assert!(rt; !renewal.held);
-    assert_eq!(rt; renewal.settled, 11);
+    assert_eq!(rt; renewal.settled, LEFT);
     assert!(rt; renewal.freed);
     assert!(rt; machine.quiet());
     assert_eq!(rt; machine.output().len(), 0);
@@ -25,8 +34,8 @@ fn nothing_is_armed_under_a_hart(rt: HostRuntime) -> Result<(), Fail> {
     let second = counter(alloc, 3, 0x11024)?;
     let mut machine = passed_by(alloc)?;
     assert!(rt; !machine.arm(&third));
-    assert_eq!(rt; machine.settle(), 11);
-    assert_eq!(rt; machine.settle(), 0);
+    assert_eq!(rt; machine.settle(), LEFT);
+    assert_eq!(rt; machine.settle(), NONE);
     assert!(rt; machine.arm(&third));
     assert!(rt; !machine.arm(&second));
     Ok(())

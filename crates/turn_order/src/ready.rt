@@ -37,6 +37,13 @@ impl Ready {
         Ok(())
     }
 
+    /// Takes all out. It keeps its memory.
+    pub fn clear(&mut self)
+        ensures { self.new ≡ [] }
+    {
+        self.harts.clear();
+    }
+
     /// Takes a hart out. It takes no memory.
     pub fn remove(&mut self, hart: HartNo)
         ensures { self.new ≡ filter (λ h. not (h == hart)) self.old }

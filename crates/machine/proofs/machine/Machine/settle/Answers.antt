@@ -1,4 +1,4 @@
-use Rattle.std.proofs.Common.{◌≡◌, ◌+◌, ◌*◌, ◌<◌, ◌≤◌, ◌∙◌, sym, ap, subst, length, arith}
+use Rattle.std.proofs.Common.{◌≡◌, ◌*◌, ◌<◌, ◌≤◌, ◌∙◌, sym, ap, subst, length, arith}
 use Rattle.pn_types.specs.declared.limits.TheConstants.{TOOL_TEXT_LEN}
 use Rattle.rv_word.specs.Exec.{prog_of}
 use Rattle.machine.specs.Events.{IsQuiet}
@@ -20,8 +20,8 @@ loop-hart-init c =
     let few = few_words (core_of s.harts.items (prog_of s.mem s.resv s.out) s.store s.blocks.rows s.budget) c.self.invariant.reached in
     settling_first c.args.self.now c.words-most.result (c.words-most.ensures ∙ ap (λ (m : Machine). words_in m.core.rows) c.self.view_is) (subst (λ (m : Machine). 4 * words_in m.core.rows ≤ TOOL_TEXT_LEN) c.self.view_is few)
 
-pub leave-count-requires : goal.leave-count-requires
-leave-count-requires c =
+pub leave-left-requires : goal.leave-left-requires
+leave-left-requires c =
     let n = c.numbered.ensures in
     let l = c.loop-hart-test.true in
     let many = c.loop-hart.invariant.many in
@@ -29,11 +29,23 @@ leave-count-requires c =
     let view = ap (λ (m : Machine). length m.core.harts) c.self.view_is in
     omega arith
 
-pub overflow_add-count : goal.overflow_add-count
-overflow_add-count c =
+pub overflow_add-turns : goal.overflow_add-turns
+overflow_add-turns c =
     let bound = c.loop-hart.invariant.bound in
     let few = c.loop-hart.invariant.few in
-    let low = c.leave-count.ensures.bound in
+    let low = c.leave-left.ensures.bound in
+    let l = c.loop-hart-test.true in
+    let all = c.len-hart-end.ensures in
+    let most = c.self.invariant.few in
+    omega arith
+
+pub overflow_add-ticks : goal.overflow_add-ticks
+overflow_add-ticks c =
+    let bound = c.loop-hart.invariant.bound in
+    let less = c.loop-hart.invariant.less in
+    let few = c.loop-hart.invariant.few in
+    let low = c.leave-left.ensures.bound in
+    let fewer = c.leave-left.ensures.few in
     let l = c.loop-hart-test.true in
     let all = c.len-hart-end.ensures in
     let most = c.self.invariant.few in
@@ -44,26 +56,32 @@ loop-hart-preserved c =
     let most = c.words-most.result in
     let d = c.loop-hart.self.core in
     let low : c.loop-hart.hart < length c.args.self.now.core.harts = (let l = c.loop-hart-test.true in let all = c.len-hart-end.ensures in let view = ap (λ (m : Machine). length m.core.harts) c.self.view_is in omega arith) in
-    settling_step most c.loop-hart.count c.loop-hart.hart c.leave-count.result c.args.self.now c.loop-hart.self c.leave-count.new.self c.loop-hart.invariant low
-    (subst (λ h. c.leave-count.new.self ≡ with_core c.loop-hart.self (replay (leaving most h d) d)) c.numbered.ensures c.leave-count.ensures.left)
-    (subst (λ h. c.leave-count.result + length (owns (leaving most h d) d) ≡ length (leaving most h d)) c.numbered.ensures c.leave-count.ensures.counted)
-    c.leave-count.ensures.bound
+    settling_step most c.loop-hart.turns c.loop-hart.ticks c.loop-hart.hart c.leave-left.result.turns c.leave-left.result.ticks c.args.self.now c.loop-hart.self c.leave-left.new.self c.loop-hart.invariant low
+    (subst (λ h. c.leave-left.new.self ≡ with_core c.loop-hart.self (replay (leaving most h d) d)) c.numbered.ensures c.leave-left.ensures.left)
+    (subst (λ h. c.leave-left.result.turns ≡ length (leaving most h d)) c.numbered.ensures c.leave-left.ensures.turns)
+    (subst (λ h. c.leave-left.result.ticks ≡ length (owns (leaving most h d) d)) c.numbered.ensures c.leave-left.ensures.ticks)
+    c.leave-left.ensures.few c.leave-left.ensures.bound
 
 pub returns-clause-settled : goal.returns-clause-settled
 returns-clause-settled c =
     let all : length c.args.self.now.core.harts ≤ c.loop-hart.hart = (let l = c.loop-hart-test.false in let all = c.len-hart-end.ensures in let view = ap (λ (m : Machine). length m.core.harts) c.self.view_is in omega arith) in
-    (settling_end c.words-most.result c.loop-hart.count c.loop-hart.hart c.args.self.now c.loop-hart.self c.loop-hart.invariant all).0
+    (settling_end c.words-most.result c.loop-hart.turns c.loop-hart.ticks c.loop-hart.hart c.args.self.now c.loop-hart.self c.loop-hart.invariant all).is
 
-pub returns-clause-counted : goal.returns-clause-counted
-returns-clause-counted c =
+pub returns-clause-turns : goal.returns-clause-turns
+returns-clause-turns c =
     let all : length c.args.self.now.core.harts ≤ c.loop-hart.hart = (let l = c.loop-hart-test.false in let all = c.len-hart-end.ensures in let view = ap (λ (m : Machine). length m.core.harts) c.self.view_is in omega arith) in
-    (settling_end c.words-most.result c.loop-hart.count c.loop-hart.hart c.args.self.now c.loop-hart.self c.loop-hart.invariant all).1
+    (settling_end c.words-most.result c.loop-hart.turns c.loop-hart.ticks c.loop-hart.hart c.args.self.now c.loop-hart.self c.loop-hart.invariant all).taken
+
+pub returns-clause-ticks : goal.returns-clause-ticks
+returns-clause-ticks c =
+    let all : length c.args.self.now.core.harts ≤ c.loop-hart.hart = (let l = c.loop-hart-test.false in let all = c.len-hart-end.ensures in let view = ap (λ (m : Machine). length m.core.harts) c.self.view_is in omega arith) in
+    (settling_end c.words-most.result c.loop-hart.turns c.loop-hart.ticks c.loop-hart.hart c.args.self.now c.loop-hart.self c.loop-hart.invariant all).ticked
 
 pub returns-clause-quiet : goal.returns-clause-quiet
 returns-clause-quiet c =
     let s = c.self.inside in
     let all : length c.args.self.now.core.harts ≤ c.loop-hart.hart = (let l = c.loop-hart-test.false in let all = c.len-hart-end.ensures in let view = ap (λ (m : Machine). length m.core.harts) c.self.view_is in omega arith) in
-    let is = (settling_end c.words-most.result c.loop-hart.count c.loop-hart.hart c.args.self.now c.loop-hart.self c.loop-hart.invariant all).0 in
+    let is = (settling_end c.words-most.result c.loop-hart.turns c.loop-hart.ticks c.loop-hart.hart c.args.self.now c.loop-hart.self c.loop-hart.invariant all).is in
     subst (λ (m : Machine). IsQuiet m.core) (sym is) (subst (λ (m : Machine). IsQuiet (replay (settling m.core) m.core)) c.self.view_is (settled_quiet (core_of s.harts.items (prog_of s.mem s.resv s.out) s.store s.blocks.rows s.budget) c.self.invariant.reached))
 
 pub returns-clause-harts : goal.returns-clause-harts

@@ -1,0 +1,15 @@
+pub mod Acts
+pub mod Handed
+pub mod Stays
+pub mod Reading
+pub mod Turns
+pub mod Sums
+pub mod Writes
+pub mod Kept
+pub mod Answered
+pub mod Linked
+pub mod Narrow
+pub mod Leading
+pub mod Beginning
+pub mod Reserved
+pub mod Harts

@@ -1,0 +1,6 @@
+pub mod Instrumented
+pub mod Reached
+pub mod Doing
+pub mod Data
+pub mod Readings
+pub mod Sums

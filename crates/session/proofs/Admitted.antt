@@ -1,0 +1,185 @@
+-- An admission of the code is the definitions'.
+use Rattle.std.proofs.Common.{◌≡◌, ℕ, zero, suc, ◌+◌, ◌-◌, ◌≤◌, List, [], ◌∷◌, ◌++◌, Option, Some, None, Ok, Err, refl, sym, ap, ap₂, ◌∙◌, subst, arith, length, inl, inr}
+use Rattle.std.specs.Prelude.{Bool, true, false, cond, Result, drop, replicate, take}
+use Rattle.std.specs.List.{AllByRecursion}
+use Rattle.std.proofs.lemmas.List.{length-append, length-map, map-append}
+use Rattle.std.proofs.lemmas.Bool.{true≢false}
+use Rattle.fold_hist.specs.Bins.{Histogram, hist_of}
+use Rattle.pn_types.specs.declared.pick.PickCause.{PickCause}
+use Rattle.pn_types.specs.declared.plan.Plan.{Plan}
+use Rattle.mdl_check.specs.declared.checked.CheckedWish.{CheckedWish}
+use Rattle.mdl_plan.specs.declared.fault.PlanFault.{PlanFault}
+use Rattle.instrument.specs.Placements.{Placements, admission}
+use Rattle.instrument.specs.declared.number.Refused.{Refused}
+use Rattle.instrument.proofs.Folds.{append_nil}
+use Rattle.session_spec.specs.declared.data.Shown.{Shown}
+use Rattle.session_spec.specs.Inputs.{Inputs, cause_of_plan, cause_of_refusal, planned}
+use Rattle.session_spec.specs.States.{Kept}
+use Rattle.session_spec.specs.Admission.{shown_now, with_admission, with_answer, with_drop, with_plan, with_refused, with_show, with_wish, with_wishes}
+use Rattle.session_spec.specs.Opening.{with_all}
+use Rattle.session_spec.specs.Ties.{IsGood}
+use Rattle.session_spec.specs.Reads.{AllGood, AreGood, IsWishGood, desk_admitted, hists_with, lasts_with}
+use Rattle.session_spec.proofs.Going.{wish_time}
+use Rattle.session.specs.declared.candidate.Candidate.{Candidate}
+use Rattle.session.specs.declared.kit.Kit.{Kit}
+use Rattle.session.specs.Candidates.{IsAnswer, answer_of}
+use Rattle.session.specs.Tables.{AreCandidates, IsAdmission, IsCount, IsMore, IsNew, IsSame, Table, desk_at, kept_of}
+use Rattle.session.proofs.Counting.{count_low, take_many}
+use Rattle.session.proofs.Simulated.{hists_in, lasts_in, shown_in}
+
+-- ---- a wish doesn't look at those that are to come
+
+module _ (i : Inputs) (w : CheckedWish) (ws : List CheckedWish) (k : Kept) where
+  refused_beside : (o : Option PickCause) → with_refused o w (record k { wishes = ws }) ≡ record (with_refused o w k) { wishes = ws }
+  refused_beside None = refl
+  refused_beside (Some cause) = refl
+
+  answer_beside : (r : Result Placements Refused) (plan : Plan) → with_answer r w plan (record k { wishes = ws }) ≡ record (with_answer r w plan k) { wishes = ws }
+  answer_beside (Err refused) plan = refused_beside (cause_of_refusal refused)
+  answer_beside (Ok q) plan = refl
+
+  plan_beside : (r : Result Plan PlanFault) → with_plan r w (record k { wishes = ws }) ≡ record (with_plan r w k) { wishes = ws }
+  plan_beside (Err fault) = refused_beside (cause_of_plan fault)
+  plan_beside (Ok plan) = answer_beside (admission k.machine.placer plan None) plan
+
+  show_beside : (o : Option Shown) → with_show o i w (record k { wishes = ws }) ≡ record (with_show o i w k) { wishes = ws }
+  show_beside (Some s) = refl
+  show_beside None = plan_beside (planned i w.metric w.focus)
+
+  drop_beside : (o : Option Shown) → with_drop o w (record k { wishes = ws }) ≡ record (with_drop o w k) { wishes = ws }
+  drop_beside None = refl
+  drop_beside (Some s) = refl
+
+  wish_beside : with_wish i w (record k { wishes = ws }) ≡ record (with_wish i w k) { wishes = ws }
+  unfolding with_wish
+  wish_beside = by w.show
+    where
+      by : (b : Bool) → cond b (with_show (shown_now k w) i w (record k { wishes = ws })) (with_drop (shown_now k w) w (record k { wishes = ws }))
+          ≡ record (cond b (with_show (shown_now k w) i w k) (with_drop (shown_now k w) w k)) { wishes = ws }
+      by true = show_beside (shown_now k w)
+      by false = drop_beside (shown_now k w)
+
+all_beside : (i : Inputs) (vs ws : List CheckedWish) (k : Kept) → with_all i vs (record k { wishes = ws }) ≡ record (with_all i vs k) { wishes = ws }
+all_beside i [] ws k = refl
+all_beside i (v ∷ vs) ws k = ap (with_all i vs) (wish_beside i v ws k) ∙ all_beside i vs ws (with_wish i v k)
+
+-- those that aren't above the time are looked at, and the others are left
+wishes_are : (i : Inputs) (ws : List CheckedWish) (n : ℕ) (k : Kept) → IsCount k.time ws n → k.wishes ≡ ws → with_wishes i ws k ≡ with_all i (take n ws) (record k { wishes = drop n ws })
+wishes_are i [] n k c e = subst (λ m. k ≡ with_all i (take m []) (record k { wishes = drop m [] })) (sym c) (ap (λ x. record k { wishes = x }) e)
+wishes_are i (w ∷ ws) zero k c e = ap (λ b. cond b (with_wishes i ws (with_wish i w (record k { wishes = ws }))) k) c ∙ ap (λ x. record k { wishes = x }) e
+wishes_are i (w ∷ ws) (suc n) k c e =
+    let one = with_wish i w (record k { wishes = ws }) in
+    let time : one.time ≡ k.time = wish_time i w (record k { wishes = ws }) in
+    let left : one.wishes ≡ ws = ap (λ (x : Kept). x.wishes) (wish_beside i w ws k) in
+    ap (λ b. cond b (with_wishes i ws one) k) c.0
+    ∙ (wishes_are i ws n one (subst (λ t. IsCount t ws n) (sym time) c.1) left
+    ∙ ap (with_all i (take n ws)) (ap (λ (x : Kept). record x { wishes = drop n ws }) (wish_beside i w ws k) ∙ sym (wish_beside i w (drop n ws) k)))
+
+-- ---- the plans of those that are looked at can be measured
+
+good_answer : (i : Inputs) (w : CheckedWish) (r : Result Plan PickCause) → IsAnswer i w r → IsWishGood i w
+good_answer i w (Ok plan) a p e = let same : plan ≡ p = (let z = sym a.0 ∙ e in cc) in subst (IsGood i) same (a.1).good
+good_answer i w (Err cause) a p e = absurd (let z = sym a.1 ∙ e in cc)
+
+pub good_wishes : (i : Inputs) (time : ℕ) (ws : List CheckedWish) (n : ℕ) (ps : List Plan) (cs : List Candidate) → IsCount time ws n → AreCandidates i (take n ws) ps cs → AreGood i time ws
+good_wishes i time [] n ps cs c a = tt
+good_wishes i time (w ∷ ws) zero ps cs c a = λ e. absurd (true≢false (sym e ∙ c))
+good_wishes i time (w ∷ ws) (suc n) [] cs c a = absurd a
+good_wishes i time (w ∷ ws) (suc n) (p ∷ ps) [] c a = absurd a
+good_wishes i time (w ∷ ws) (suc n) (p ∷ ps) (x ∷ cs) c a = λ e. ((λ s. good_answer i w (answer_of x.refusal p) ((a.0).answer s)), good_wishes i time ws n ps cs c.1 a.1)
+
+-- of all of them
+pub good_answers : (i : Inputs) (ws : List CheckedWish) (ps : List Plan) (cs : List Candidate) → AreCandidates i ws ps cs → AllGood i ws
+good_answers i [] ps cs a w h = absurd h
+good_answers i (v ∷ ws) [] cs a w h = absurd a
+good_answers i (v ∷ ws) (p ∷ ps) [] a w h = absurd a
+good_answers i (v ∷ ws) (p ∷ ps) (x ∷ cs) a w (inl e) = λ s. subst (IsWishGood i) (sym e) (good_answer i v (answer_of x.refusal p) ((a.0).answer (ap (λ (y : CheckedWish). y.show) (sym e) ∙ s)))
+good_answers i (v ∷ ws) (p ∷ ps) (x ∷ cs) a w (inr h) = good_answers i ws ps cs a.1 w h
+
+-- ---- what is known of new pairs
+
+new_lasts : (i : Inputs) (more : List Kit) → AllByRecursion (IsNew i) more → lasts_in more ≡ replicate (length more) 0
+new_lasts i [] a = refl
+new_lasts i (k ∷ more) a = ap₂ (λ (x : ℕ) (xs : List ℕ). x ∷ xs) (a.0).last (new_lasts i more a.1)
+
+new_hists : (i : Inputs) (more : List Kit) → AllByRecursion (IsNew i) more → hists_in more ≡ replicate (length more) (hist_of i.settings.bins [])
+new_hists i [] a = refl
+new_hists i (k ∷ more) a = ap₂ (λ (x : Histogram) (xs : List Histogram). x ∷ xs) (a.0).hist (new_hists i more a.1)
+
+-- how many are new
+many_new : (old more new : List Kit) → new ≡ old ++ more → length (shown_in new) - length (lasts_in old) ≡ length more
+many_new old more new e =
+    let a = length-map new (λ (k : Kit). k.shown) in
+    let b = length-map old (λ (k : Kit). k.last) in
+    let c = ap (λ (l : List Kit). length l) e in
+    let d = length-append old more in
+    omega arith
+
+pub lasts_more : (i : Inputs) (old new : List Kit) → IsMore i old new → lasts_in new ≡ lasts_with (shown_in new) (lasts_in old)
+lasts_more i old new m =
+    ap lasts_in m.is ∙ (map-append (λ (k : Kit). k.last) old m.more ∙ ap (λ l. lasts_in old ++ l) (new_lasts i m.more m.each ∙ ap (λ n. replicate n 0) (sym (many_new old m.more new m.is))))
+
+pub hists_more : (i : Inputs) (old new : List Kit) → IsMore i old new → hists_in new ≡ hists_with i.settings.bins (shown_in new) (hists_in old)
+hists_more i old new m =
+    let same : length (lasts_in old) ≡ length (hists_in old) = length-map old (λ (k : Kit). k.last) ∙ sym (length-map old (λ (k : Kit). k.hist)) in
+    let many : length (shown_in new) - length (hists_in old) ≡ length m.more = subst (λ n. length (shown_in new) - n ≡ length m.more) same (many_new old m.more new m.is) in
+    ap hists_in m.is ∙ (map-append (λ (k : Kit). k.hist) old m.more ∙ ap (λ l. hists_in old ++ l) (new_hists i m.more m.each ∙ ap (λ n. replicate n (hist_of i.settings.bins [])) (sym many)))
+
+-- ---- an admission
+
+desk_is : (i : Inputs) (later left : List CheckedWish) (t new : Table) → kept_of left new ≡ with_admission i (kept_of later t) → IsMore i t.kits new.kits → new.latest ≡ t.latest → desk_at left new ≡ desk_admitted i (desk_at later t)
+desk_is i later left t new kept m latest =
+    let shown : shown_in new.kits ≡ (with_admission i (kept_of later t)).shown = ap (λ (k : Kept). k.shown) kept in
+    let lasts = lasts_more i t.kits new.kits m ∙ ap (λ s. lasts_with s (lasts_in t.kits)) shown in
+    let hists = hists_more i t.kits new.kits m ∙ ap (λ s. hists_with i.settings.bins s (hists_in t.kits)) shown in
+    ap₂ (λ (x : Kept) (l : List ℕ). record { kept = x; lasts = l; hists = hists_in new.kits; latest = new.latest }) kept lasts
+    ∙ ap₂ (λ (h : List Histogram) (l : List _). record { kept = with_admission i (kept_of later t); lasts = lasts_with (with_admission i (kept_of later t)).shown (lasts_in t.kits); hists = h; latest = l }) hists latest
+
+-- no work was done
+pub none_admitted : (i : Inputs) (later : List CheckedWish) (t : Table) → t.worked ≡ false → desk_at later t ≡ desk_admitted i (desk_at later t)
+unfolding with_admission
+none_admitted i later t e = desk_is i later later t t (sym (ap (λ b. cond b (record (with_wishes i later (kept_of later t)) { worked = false }) (kept_of later t)) e)) (record { more = []; is = sym (append_nil t.kits); each = tt }) refl
+
+pub some_admitted : (i : Inputs) (later : List CheckedWish) (n : ℕ) (t new : Table) → t.worked ≡ true → IsCount t.time later n
+    → kept_of (drop n later) new ≡ with_all i (take n later) (kept_of (drop n later) t) → IsMore i t.kits new.kits → new.latest ≡ t.latest
+    → desk_at (drop n later) (record new { worked = false }) ≡ desk_admitted i (desk_at later t)
+unfolding with_admission
+some_admitted i later n t new e c kept m latest =
+    desk_is i later (drop n later) t (record new { worked = false })
+    (ap (λ (k : Kept). record k { worked = false }) (kept ∙ sym (wishes_are i later n (kept_of later t) c refl)) ∙ sym (ap (λ b. cond b (record (with_wishes i later (kept_of later t)) { worked = false }) (kept_of later t)) e)) m latest
+
+pub no_admission : (i : Inputs) (later : List CheckedWish) (t : Table) → t.worked ≡ false → IsAdmission i later t t 0
+no_admission i later t e = record {
+  looked = omega arith;
+  desk = none_admitted i later t e;
+  good = λ w. absurd (true≢false (sym w ∙ e));
+  kits = record { more = []; is = sym (append_nil t.kits); each = tt };
+  few = omega arith;
+  core = refl;
+  places = refl;
+  time = refl;
+  samples = refl;
+}
+
+-- memory was taken for them, they were looked at, and the admission was done
+pub one_admission : (i : Inputs) (later : List CheckedWish) (n : ℕ) (t reserved considered new : Table) (ps : List Plan) (cs : List Candidate) → t.worked ≡ true → IsCount t.time later n → AreCandidates i (take n later) ps cs
+    → IsSame t reserved → ((ws : List CheckedWish) → kept_of ws considered ≡ with_all i (take n later) (kept_of ws reserved)) → IsMore i reserved.kits considered.kits → length considered.kits ≤ length reserved.kits + length (take n later)
+    → considered.latest ≡ reserved.latest → considered.places ≡ reserved.places → considered.machine.state.core ≡ reserved.machine.state.core → considered.time ≡ reserved.time → considered.samples ≡ reserved.samples
+    → new ≡ record considered { worked = false } → IsAdmission i later t new n
+one_admission i later n t reserved considered new ps cs worked count each same kept kits few latest places core time samples is =
+    let low = count_low t.time later n count in
+    let len = take_many n later low in
+    let kits_same : reserved.kits ≡ t.kits = ap (λ (x : Table). x.kits) same in
+    let l = ap (λ (x : List Kit). length x) kits_same in
+    let more = subst (λ (x : List Kit). IsMore i x considered.kits) kits_same kits in
+    subst (λ (x : Table). IsAdmission i later t x n) (sym is) (record {
+      looked = low;
+      desk = some_admitted i later n t considered worked count (kept (drop n later) ∙ ap (λ (x : Table). with_all i (take n later) (kept_of (drop n later) x)) same) more (latest ∙ ap (λ (x : Table). x.latest) same);
+      good = λ w. good_wishes i t.time later n ps cs count each;
+      kits = more;
+      few = omega arith;
+      core = core ∙ ap (λ (x : Table). x.machine.state.core) same;
+      places = places ∙ ap (λ (x : Table). x.places) same;
+      time = time ∙ ap (λ (x : Table). x.time) same;
+      samples = samples ∙ ap (λ (x : Table). x.samples) same;
+    })

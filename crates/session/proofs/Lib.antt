@@ -1,0 +1,16 @@
+pub mod Sampled
+pub mod Arms
+pub mod Repeated
+pub mod Plans
+pub mod Looks
+pub mod Considered
+pub mod Simulated
+pub mod Fits
+pub mod ByTick
+pub mod Counting
+pub mod Admitted
+pub mod Quanta
+pub mod Halting
+pub mod Begun
+pub mod Reported
+pub mod Ticks

@@ -1,0 +1,12 @@
+use Rattle.std.proofs.Common.{◌∙◌, ap}
+use Rattle.instrument.specs.Scenes.{Hands}
+use Rattle.instrumented.specs.Data.{InstrumentedData}
+use Rattle.session.proofs.Repeated.{once_more}
+use Rattle.session.proofs.agenda.hand_out.Goals as goal
+
+pub loop-preserved : goal.loop-preserved
+loop-preserved c = record {
+  coming = once_more Hands c.args.count c.loop.counter c.loop.machine c.hand.new.self c.loop-test.true c.hand.ensures.state ∙ c.loop.invariant.coming;
+  ready = ap (λ (d : InstrumentedData). d.ready) c.hand.ensures.state ∙ c.loop.invariant.ready;
+  harts = c.hand.ensures.harts ∙ c.loop.invariant.harts;
+}

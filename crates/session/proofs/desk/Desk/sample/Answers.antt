@@ -1,0 +1,14 @@
+use Rattle.std.proofs.Common.{List, sym, subst, length}
+use Rattle.std.specs.List.{AllByRecursion}
+use Rattle.session.specs.declared.kit.Kit.{Kit}
+use Rattle.session.specs.Kits.{HasHarts}
+use Rattle.session.specs.Tables.{Table}
+use Rattle.session.proofs.Fits.{harts_sampled}
+use Rattle.session.proofs.desk.Desk.sample.Goals as goal
+
+pub returns-clause-harts : goal.returns-clause-harts
+returns-clause-harts c =
+    let s = c.self.inside in
+    let n = length c.args.self.now.machine.state.core.harts in
+    let kits = subst (λ (t : Table). AllByRecursion (HasHarts n) t.kits) (sym c.self.view_is) c.requires.harts in
+    subst (λ (ks : List Kit). AllByRecursion (HasHarts n) ks) (sym c.sample_kits.ensures.kits) (harts_sampled n (s.machine).state s.time s.kits.items kits)

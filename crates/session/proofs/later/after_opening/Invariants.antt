@@ -1,0 +1,6 @@
+use Rattle.std.proofs.Common.{◌≡◌, eqb, take, not}
+use Rattle.std.specs.List.{filter}
+use Rattle.session.proofs.later.after_opening.Given as goal
+
+abbrev pub invariant-loop-wish : goal.invariant-loop-wish
+invariant-loop-wish l = l.list.items ≡ filter (λ w. not (eqb w.at 0)) (take l.wish-index l.wishes)

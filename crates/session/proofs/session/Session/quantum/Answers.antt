@@ -1,0 +1,71 @@
+use Rattle.std.proofs.Common.{◌≡◌, ℕ, ap₂, ◌∙◌, ◌<◌, ◌++◌, ◌∷◌, [], List, ap, sym, subst, length, arith}
+use Rattle.std.specs.Prelude.{drop, false, true}
+use Rattle.pn_types.specs.declared.limits.TheConstants.{MAX_QUANTA}
+use Rattle.quanta_log.specs.declared.quantum.Quantum.{Quantum}
+use Rattle.mdl_check.specs.declared.checked.CheckedWish.{CheckedWish}
+use Rattle.machine.specs.Cores.{In}
+use Rattle.machine.specs.Replays.{owns}
+use Rattle.machine.specs.States.{quantum_turns}
+use Rattle.machine.specs.Turns.{is_runnable}
+use Rattle.session.specs.Kept.{IsKept}
+use Rattle.session.specs.Sessions.{SessionData, state_of}
+use Rattle.session.specs.Tables.{IsAdmission, table_tended}
+use Rattle.session.proofs.Halting.{allowed_now, drop_sum, few_now, harts_now, not_halted, program_kept}
+use Rattle.session.proofs.Quanta.{drop_many, quantum_kept}
+use Rattle.session.proofs.session.Session.quantum.Goals as goal
+
+pub admit_from-requires-clause-wishes : goal.admit_from-requires-clause-wishes
+admit_from-requires-clause-wishes c w h = c.self.invariant.0.wishes w (subst (λ (l : List CheckedWish). In w (drop c.self.inside.looked l)) c.deref.ensures.value h)
+
+pub admit_from-requires-clause-program : goal.admit_from-requires-clause-program
+admit_from-requires-clause-program c =
+    let s = c.self.inside in
+    program_kept (record { inputs = s.inputs; quanta = s.quanta.items; closed = s.closed }) (drop s.looked s.wishes.items) s.desk c.self.invariant.0
+
+pub tend-owns-requires-clause-harts : goal.tend-owns-requires-clause-harts
+tend-owns-requires-clause-harts c =
+    let s = c.self.inside in
+    let few : length s.quanta.items < MAX_QUANTA = subst (λ (x : SessionData). length x.quanta < MAX_QUANTA) (sym c.self.view_is) (c.runnable.ensures.few c.if-not-runnable.false) in
+    harts_now (record { inputs = s.inputs; quanta = s.quanta.items; closed = s.closed }) (drop s.looked s.wishes.items) s.desk c.admit_from.new.desk c.in_ok-looked.looked c.self.invariant.0 few
+    (subst (λ (l : List CheckedWish). IsAdmission s.inputs (drop s.looked l) s.desk c.admit_from.new.desk c.in_ok-looked.looked) c.deref.ensures.value c.in_ok-looked.ensures.ok)
+
+pub tend-owns-requires-clause-few : goal.tend-owns-requires-clause-few
+tend-owns-requires-clause-few c =
+    let s = c.self.inside in
+    let few : length s.quanta.items < MAX_QUANTA = subst (λ (x : SessionData). length x.quanta < MAX_QUANTA) (sym c.self.view_is) (c.runnable.ensures.few c.if-not-runnable.false) in
+    few_now (record { inputs = s.inputs; quanta = s.quanta.items; closed = s.closed }) (drop s.looked s.wishes.items) s.desk c.admit_from.new.desk c.in_ok-looked.looked c.self.invariant.0 few
+    (subst (λ (l : List CheckedWish). IsAdmission s.inputs (drop s.looked l) s.desk c.admit_from.new.desk c.in_ok-looked.looked) c.deref.ensures.value c.in_ok-looked.ensures.ok)
+
+pub invariant_of-self-2 : goal.invariant_of-self-2
+invariant_of-self-2 c =
+    let s = c.self.inside in
+    let d : SessionData = record { inputs = s.inputs; quanta = s.quanta.items; closed = s.closed } in
+    let later = drop s.looked s.wishes.items in
+    let k = c.self.invariant.0 in
+    let n = c.in_ok-looked.looked in
+    let q : Quantum = record { worker = c.args.worker; hart = c.args.hart; turns = c.args.turns; owns = c.tend-owns.result } in
+    let few : length s.quanta.items < MAX_QUANTA = subst (λ (x : SessionData). length x.quanta < MAX_QUANTA) (sym c.self.view_is) (c.runnable.ensures.few c.if-not-runnable.false) in
+    let going : s.closed ≡ false = ap (λ (x : SessionData). x.closed) c.self.view_is ∙ c.requires.going in
+    let admitted : IsAdmission s.inputs later s.desk c.admit_from.new.desk n = subst (λ (l : List CheckedWish). IsAdmission s.inputs (drop s.looked l) s.desk c.admit_from.new.desk n) c.deref.ensures.value c.in_ok-looked.ensures.ok in
+    let table : c.tend-owns.new.self ≡ table_tended s.inputs.settings.width c.args.hart c.args.turns c.admit_from.new.desk =
+    c.tend-owns.ensures.table ∙ ap₂ (λ (w h : ℕ). table_tended w h c.args.turns c.admit_from.new.desk) c.width-width.ensures c.numbered.ensures in
+    let own : c.tend-owns.result ≡ length (owns (quantum_turns c.args.turns c.args.hart c.admit_from.new.desk.machine.state.core) c.admit_from.new.desk.machine.state.core) =
+    c.tend-owns.ensures.owns ∙ ap (λ (h : ℕ). length (owns (quantum_turns c.args.turns h c.admit_from.new.desk.machine.state.core) c.admit_from.new.desk.machine.state.core)) c.numbered.ensures in
+    let hart : c.args.hart < s.inputs.settings.harts = subst (λ (x : SessionData). c.args.hart < x.inputs.settings.harts) (sym c.self.view_is) c.requires.hart in
+    let runs : is_runnable (state_of d).kept.machine.core c.args.hart ≡ true = subst (λ (x : SessionData). is_runnable (state_of x).kept.machine.core c.args.hart ≡ true) (sym c.self.view_is) (c.runnable.ensures.open c.if-not-runnable.false) in
+    let allowed = allowed_now d later s.desk c.admit_from.new.desk n k few admitted q c.requires.worker hart c.requires.turns.0 c.requires.turns.1 runs own in
+    let kept = quantum_kept d later s.desk c.admit_from.new.desk c.tend-owns.new.self n q going k few admitted table c.tend-owns.ensures.harts c.tend-owns.ensures.later allowed in
+    let quanta : c.put_quantum.new.list.items ≡ s.quanta.items ++ q ∷ [] = c.put_quantum.ensures.items ∙ ap (λ (l : List Quantum). l ++ q ∷ []) c.in_ok-reserve.ensures.items in
+    let low = admitted.looked in
+    let first = c.self.invariant.1 in
+    let len = c.deref.ensures.len in
+    let items = ap (λ (l : List CheckedWish). length l) c.deref.ensures.value in
+    let left = drop_many s.looked s.wishes.items (omega arith) in (
+      subst (λ (l : List CheckedWish). IsKept (record { inputs = s.inputs; quanta = c.put_quantum.new.list.items; closed = s.closed }) l c.tend-owns.new.self) (sym (drop_sum n s.looked s.wishes.items))
+          (subst (λ (l : List Quantum). IsKept (record { inputs = s.inputs; quanta = l; closed = s.closed }) (drop n later) c.tend-owns.new.self) (sym quanta) kept),
+      omega arith,
+    )
+
+pub returns-clause-going_on : goal.returns-clause-going_on
+returns-clause-going_on c halted =
+    not_halted c.args.self.now c.args.hart c.requires.going (c.runnable.ensures.open c.if-not-runnable.false) (c.runnable.ensures.few c.if-not-runnable.false) halted

@@ -1,0 +1,36 @@
+-- What a session asks of its inputs.
+use Rattle.std.specs.Prelude.{◌≡◌, ℕ, ◌+◌, ◌<◌, ◌≤◌, ◌^◌, None, Some, length, map}
+use Rattle.std.specs.List.Sorted.{IsStrictlyIncreasing}
+use Rattle.pn_types.specs.Images.{IsImage, text_of}
+use Rattle.pn_types.specs.Settings.{AreInRange}
+use Rattle.pn_types.specs.declared.code.Point.{Point}
+use Rattle.rv_word.specs.Names.{scratch_in, words_of}
+use Rattle.rv_word.specs.Plain.{program_word}
+use Rattle.rv_mem.specs.Start.{program_of}
+use Rattle.mdl_check.specs.Sound.{IsSound}
+use Rattle.mdl_check.specs.declared.checked.CheckedWish.{CheckedWish}
+use Rattle.mdl_plan.specs.Fitting.{HasLowObjects}
+use Rattle.machine.specs.Cores.{In}
+use Rattle.resource_tree.specs.Foci.{harts_of}
+use Rattle.session_spec.specs.Inputs.{Inputs}
+
+-- a wish names a metric, and its focus names a hart that there is
+pub record IsWishOf (i : Inputs) (w : CheckedWish) : Type 0 where
+  pub metric : w.metric < length i.checked.metrics
+  pub harts : (harts_of i.tree.harts w.focus.hart).0 + (harts_of i.tree.harts w.focus.hart).1 ≤ i.settings.harts
+
+-- An image whose text never names x31; settings in range; the tree has the settings' harts, and its objects lie below 2^31; what was
+-- checked is sound; and the points ascend and are words of the text.
+pub record AreGiven (i : Inputs) : Type 0 where
+  pub image : IsImage i.image
+  pub unscratched : scratch_in (words_of (text_of i.image)) i.image.text_at ≡ None
+  pub settings : AreInRange i.settings
+  pub harts : i.tree.harts ≡ i.settings.harts
+  pub objects : HasLowObjects i.tree
+  pub checked : IsSound i.checked
+  pub wishes : (w : CheckedWish) → In w i.checked.wishes → IsWishOf i w
+  pub few_wishes : length i.checked.wishes < 2 ^ 32
+  pub procs : length i.procs < 2 ^ 32
+  pub points : length i.points < 2 ^ 32
+  pub ascending : IsStrictlyIncreasing (map (λ p. p.at) i.points)
+  pub inside : (p : Point) → In p i.points → (word : ℕ) × (program_word (program_of i.image) p.at ≡ Some word)

@@ -1,0 +1,9 @@
+pub mod Kits
+pub mod Tables
+pub mod Given
+pub mod Candidates
+pub mod Outcomes
+pub mod Sessions
+pub mod Kept
+pub mod Parts
+pub mod Seen

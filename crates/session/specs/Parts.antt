@@ -1,0 +1,93 @@
+-- What a report shows of a session.
+use Rattle.std.specs.Prelude.{ℕ, Bool, true, false, List, [], Option, None, Some, map, slice_get, zip}
+use Rattle.pn_types.specs.declared.stop.StopText.{StopText}
+use Rattle.pn_types.specs.declared.stop.StopText.TheVariants as ended
+use Rattle.rv_word.specs.declared.outcome.Cause.{Cause}
+use Rattle.rv_word.specs.declared.outcome.Cause.TheVariants as cause
+use Rattle.rv_word.specs.Plain.{PlainHart, Plain, may_go}
+use Rattle.rv_exec.specs.Run.{run}
+use Rattle.fold_hist.specs.Bins.{Histogram, hist_of}
+use Rattle.fold_hist.specs.declared.bin.Bin.{Bin}
+use Rattle.mdl_ast.specs.declared.metric.Metric.{Metric}
+use Rattle.resource_tree.specs.Foci.{canonical}
+use Rattle.report.specs.declared.parts.HartPart.{HartPart}
+use Rattle.report.specs.declared.parts.RefusedPart.{RefusedPart}
+use Rattle.report.specs.declared.parts.ReportParts.{ReportParts}
+use Rattle.report.specs.declared.parts.ShownPart.{ShownPart}
+use Rattle.session_spec.specs.declared.data.RefusedWish.{RefusedWish}
+use Rattle.session_spec.specs.declared.data.Shown.{Shown}
+use Rattle.session_spec.specs.Inputs.{Inputs}
+use Rattle.session_spec.specs.States.{State}
+
+-- ---- harts
+
+-- how a hart ended: it stopped; or it could still go on, and the run was cut; or its ticks reached the budget
+abbrev pub ended_by : Option Cause → Bool → StopText
+ended_by None true = ended.Cut
+ended_by None false = ended.Budget
+ended_by (Some (cause.Exit status)) going = ended.Exit status
+ended_by (Some cause.Illegal) going = ended.Illegal
+ended_by (Some cause.Break) going = ended.Break
+ended_by (Some cause.Misaligned) going = ended.Misaligned
+ended_by (Some (cause.Access at)) going = ended.Access at
+ended_by (Some (cause.TextAccess at)) going = ended.TextAccess at
+ended_by (Some cause.FetchOutside) going = ended.FetchOutside
+
+abbrev pub hart_part : ℕ → PlainHart → HartPart
+hart_part budget x = record { ticks = x.ticks; stop = ended_by x.stop (may_go (Some x) budget); pc = x.pc }
+
+-- ---- metrics at foci
+
+-- the metric of a number
+abbrev pub metric_of : Inputs → ℕ → Option Metric
+metric_of i n = slice_get i.checked.metrics n
+
+abbrev pub name_of : Option Metric → List ℕ
+name_of None = []
+name_of (Some m) = m.name
+
+abbrev pub units_of : Option Metric → List ℕ
+units_of None = []
+units_of (Some m) = m.units
+
+-- a wish that was refused
+abbrev pub refused_part : Inputs → RefusedWish → RefusedPart
+refused_part i r = record {
+  show = r.show;
+  metric = name_of (metric_of i r.metric);
+  focus = canonical i.tree r.focus;
+  at = r.at;
+  cause = r.cause;
+}
+
+-- an instrument that shows something, or did, with a histogram
+abbrev pub shown_part : Inputs → Shown → Histogram → ShownPart
+shown_part i s h = record {
+  metric = name_of (metric_of i s.metric);
+  focus = canonical i.tree s.focus;
+  units = units_of (metric_of i s.metric);
+  from = s.armed;
+  width = h.width;
+  bins = h.bins;
+}
+
+-- each of these with the histogram of its samples
+abbrev pub shown_parts : Inputs → List Shown → List (List Bin) → List ShownPart
+shown_parts i ss rs = map (λ (p : Shown × List Bin). shown_part i p.0 (hist_of i.settings.bins p.1)) (zip ss rs)
+
+-- ---- the whole
+
+-- the state of the unpatched program behind its own run
+abbrev pub program_of_run : Inputs → List ℕ → Plain
+program_of_run i owns = run i.image i.settings.harts owns
+
+-- What a report shows of a session in this state: the harts and the output of the unpatched program's run, how many samples were
+-- taken, what was refused, and what was shown.
+abbrev pub parts_of : Inputs → State → ReportParts
+parts_of i s = record {
+  harts = map (hart_part i.settings.budget) (program_of_run i s.owns).harts;
+  samples = s.kept.samples;
+  output = (program_of_run i s.owns).prog.out;
+  refused = map (refused_part i) s.kept.refused;
+  shown = shown_parts i s.kept.shown s.recorded;
+}

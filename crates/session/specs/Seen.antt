@@ -1,0 +1,28 @@
+-- For proofs alone: what the code reports of what it holds.
+use Rattle.std.specs.Prelude.{ℕ, map, nat_lt}
+use Rattle.tramp_spec.specs.Harts.{Hart}
+use Rattle.machine.specs.Cores.{Core}
+use Rattle.machine.specs.Places.{program_pc}
+use Rattle.report.specs.declared.parts.HartPart.{HartPart}
+use Rattle.report.specs.declared.parts.ReportParts.{ReportParts}
+use Rattle.report.specs.declared.parts.ShownPart.{ShownPart}
+use Rattle.session_spec.specs.Inputs.{Inputs}
+use Rattle.session.specs.declared.kit.Kit.{Kit}
+use Rattle.session.specs.Parts.{ended_by, refused_part, shown_part}
+use Rattle.session.specs.Tables.{Table}
+
+-- a hart of the patched machine
+abbrev pub hart_seen : ℕ → Core → Hart → HartPart
+hart_seen budget c x = record { ticks = x.ticks; stop = ended_by x.stop (nat_lt x.ticks budget); pc = program_pc c.code c.rows x }
+
+abbrev pub kit_part : Inputs → Kit → ShownPart
+kit_part i k = shown_part i k.shown k.hist
+
+abbrev pub table_parts : Inputs → Table → ReportParts
+table_parts i t = record {
+  harts = map (hart_seen i.settings.budget t.machine.state.core) t.machine.state.core.harts;
+  samples = t.samples;
+  output = t.machine.state.core.prog.out;
+  refused = map (refused_part i) t.refused;
+  shown = map (kit_part i) t.kits;
+}

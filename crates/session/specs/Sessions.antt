@@ -1,0 +1,30 @@
+-- The state of a session behind its quanta, and its end.
+use Rattle.std.specs.Prelude.{◌≡◌, if◌then◌else◌, Bool, false, Some, List, []}
+use Rattle.quanta_log.specs.declared.quantum.Quantum.{Quantum}
+use Rattle.session_spec.specs.declared.data.RefusedWish.{RefusedWish}
+use Rattle.session_spec.specs.Inputs.{Inputs}
+use Rattle.session_spec.specs.Opening.{bad_pick}
+use Rattle.session_spec.specs.States.{State}
+use Rattle.session_spec.specs.Work.{closed, work}
+use Rattle.session.specs.Parts.{refused_part}
+use Rattle.session.specs.declared.fault.StartFault.{StartFault}
+use Rattle.session.specs.declared.fault.StartFault.TheVariants.{NoMemory, BadPick}
+
+-- what a session was given, the quanta that it took, and whether it was closed
+pub record SessionData : Type 0 where
+  pub inputs : Inputs
+  pub quanta : List Quantum
+  pub closed : Bool
+
+-- how one begins
+abbrev pub begun : Inputs → SessionData
+begun i = record { inputs = i; quanta = []; closed = false }
+
+-- why one doesn't begin, where it isn't for want of memory: a wish of the opening is refused
+abbrev pub IsStartFault : Inputs → StartFault → Type 0
+IsStartFault i NoMemory = Unit {0}
+IsStartFault i (BadPick refused) = (wish : RefusedWish) × (bad_pick i ≡ Some wish) × (refused ≡ refused_part i wish)
+
+-- its state, which is in its closed form where it was closed
+abbrev pub state_of : SessionData → State
+state_of s = if s.closed then closed s.inputs (work s.inputs s.quanta) else work s.inputs s.quanta

@@ -1,0 +1,22 @@
+use pn_types::NoMemory;
+use report::RefusedPart;
+
+/// Why a session doesn't begin.
+#[derive(Debug, Drop)]
+pub enum StartFault {
+    /// Memory is wanting.
+    NoMemory,
+    /// A wish of the opening is refused, the first such. It is told as a report tells it.
+    BadPick(RefusedPart),
+}
+
+impl From<NoMemory> for StartFault {
+    ghost use Rattle.std.specs.Prelude.{◌≡◌};
+    ghost use Rattle.session.specs.declared.fault.StartFault.TheVariants.{NoMemory};
+
+    ghost from_gives = { λ _ fault. fault ≡ NoMemory };
+
+    fn from(_fault: NoMemory) -> StartFault {
+        StartFault::NoMemory
+    }
+}

@@ -1,0 +1,17 @@
+use fold_hist::Hist;
+use session_spec::Shown;
+
+/// A pair of metric and focus that is or was shown, with its samples.
+#[derive(Drop)]
+pub struct Kit {
+    /// The instrument, and from when on it is sampled next.
+    pub shown: Shown,
+    /// The first hart of the focus.
+    pub first: u32,
+    /// How many harts the focus has.
+    pub count: u32,
+    /// The sum of what was read of the harts last, modulo 2^64.
+    pub last: u64,
+    /// The samples.
+    pub hist: Hist,
+}

@@ -1,0 +1,171 @@
+//! What a report shows of a session.
+
+ghost use Rattle.std.specs.Prelude.{◌≡◌, ◌≤◌, ◌<◌, IfOk, Some, length, map, slice_get};
+ghost use Rattle.std.specs.Option.{option_map};
+ghost use Rattle.session.specs.Parts.{ended_by, metric_of, name_of, refused_part, units_of};
+ghost use Rattle.session.specs.Seen.{hart_seen, kit_part, table_parts};
+
+use crate::desk::Desk;
+use crate::inputs::Inputs;
+use crate::kit::Kit;
+use instrumented::InstrumentedMachine;
+use mdl_ast::Metric;
+use pn_types::{HartNo, MAX_HARTS, NoMemory, Seq, Settings, StopText, Text};
+use report::{HartPart, RefusedPart, ReportParts, ShownPart};
+use rv_word::Cause;
+use session_spec::RefusedWish;
+use std::alloc::Global;
+
+/// How a hart ended, as a report says it.
+fn stop_text(stop: Option<Cause>, going: bool) -> StopText
+    ensures { result ≡ ended_by stop going }
+{
+    match stop {
+        None if going => StopText::Cut,
+        None => StopText::Budget,
+        Some(Cause::Exit(status)) => StopText::Exit(status),
+        Some(Cause::Illegal) => StopText::Illegal,
+        Some(Cause::Break) => StopText::Break,
+        Some(Cause::Misaligned) => StopText::Misaligned,
+        Some(Cause::Access(at)) => StopText::Access(at),
+        Some(Cause::TextAccess(at)) => StopText::TextAccess(at),
+        Some(Cause::FetchOutside) => StopText::FetchOutside,
+    }
+}
+
+/// What a report shows of a hart.
+fn hart_part(machine: &InstrumentedMachine, budget: u64, hart: HartNo) -> HartPart
+    requires { hart < length machine.now.state.core.harts }
+    ensures { slice_get (map (hart_seen budget machine.now.state.core) machine.now.state.core.harts) hart ≡ Some result }
+{
+    let ticks = machine.ticks(hart);
+    HartPart {
+        ticks,
+        // A hart inside a trampoline is runnable past its budget, so the ticks tell whether the program's could go on.
+        stop: stop_text(machine.stop(hart), ticks < budget),
+        pc: machine.at(hart),
+    }
+}
+
+/// What a report shows of each hart.
+fn hart_parts(
+    alloc: Global,
+    machine: &InstrumentedMachine,
+    settings: &Settings,
+) -> Result<Vec<HartPart>, NoMemory>
+    requires harts { settings.now.harts ≡ length machine.now.state.core.harts }
+    requires few { settings.now.harts ≤ MAX_HARTS }
+    ensures { IfOk result (λ parts. parts.items ≡ map (hart_seen settings.now.budget machine.now.state.core) machine.now.state.core.harts) }
+{
+    let mut parts = Vec::new(alloc);
+    for number in 0..settings.harts {
+        let hart = HartNo::numbered(number);
+        parts.push(hart_part(machine, settings.budget, hart))?;
+    }
+    Ok(parts)
+}
+
+/// The metric of a number, if there is one.
+fn metric(inputs: &Inputs, number: u32) -> Option<&Metric>
+    ensures { option_map (λ metric. metric.now) result ≡ metric_of inputs.now number }
+{
+    inputs.checked.metrics.as_slice().get(number as usize)
+}
+
+/// The name of the metric of a number, which is empty where there is none.
+fn name(alloc: Global, inputs: &Inputs, number: u32) -> Result<Text, NoMemory>
+    ensures { IfOk result (λ name. name ≡ name_of (metric_of inputs.now number)) }
+{
+    match metric(inputs, number) {
+        Some(metric) => metric.name.copy(alloc),
+        None => Ok(Text::from_vec(Vec::new(alloc))),
+    }
+}
+
+/// The units of the metric of a number, which are empty where there is none.
+fn units(alloc: Global, inputs: &Inputs, number: u32) -> Result<Text, NoMemory>
+    ensures { IfOk result (λ units. units ≡ units_of (metric_of inputs.now number)) }
+{
+    match metric(inputs, number) {
+        Some(metric) => metric.units.copy(alloc),
+        None => Ok(Text::from_vec(Vec::new(alloc))),
+    }
+}
+
+/// What a report shows of a wish that was refused.
+pub(crate) fn refused_part(
+    alloc: Global,
+    inputs: &Inputs,
+    refused: &RefusedWish,
+) -> Result<RefusedPart, NoMemory>
+    ensures { IfOk result (λ part. part ≡ refused_part inputs.now refused.now) }
+{
+    Ok(RefusedPart {
+        show: refused.show,
+        metric: name(alloc, inputs, refused.metric)?,
+        focus: inputs.tree.focus_text(alloc, &refused.focus)?,
+        at: refused.at,
+        cause: refused.cause,
+    })
+}
+
+/// What a report shows of each wish that was refused.
+fn refused_parts(
+    alloc: Global,
+    inputs: &Inputs,
+    refused: &[RefusedWish],
+) -> Result<Vec<RefusedPart>, NoMemory>
+    ensures { IfOk result (λ parts. parts.items ≡ map (refused_part inputs.now) refused.now) }
+{
+    let mut parts = Vec::new(alloc);
+    for wish in refused {
+        parts.push(refused_part(alloc, inputs, wish)?)?;
+    }
+    Ok(parts)
+}
+
+/// What a report shows of a pair of metric and focus that is or was shown.
+fn shown_part(alloc: Global, inputs: &Inputs, kit: &Kit) -> Result<ShownPart, NoMemory>
+    ensures { IfOk result (λ part. part ≡ kit_part inputs.now kit.now) }
+{
+    let bins = kit.hist.bins().to_vec(alloc)?;
+    Ok(ShownPart {
+        metric: name(alloc, inputs, kit.shown.metric)?,
+        focus: inputs.tree.focus_text(alloc, &kit.shown.focus)?,
+        units: units(alloc, inputs, kit.shown.metric)?,
+        from: kit.shown.armed,
+        width: kit.hist.width(),
+        bins: Seq::from_vec(bins),
+    })
+}
+
+/// What a report shows of each pair that is or was shown.
+fn shown_parts(alloc: Global, inputs: &Inputs, kits: &[Kit]) -> Result<Vec<ShownPart>, NoMemory>
+    ensures { IfOk result (λ parts. parts.items ≡ map (kit_part inputs.now) kits.now) }
+{
+    let mut parts = Vec::new(alloc);
+    for kit in kits {
+        parts.push(shown_part(alloc, inputs, kit)?)?;
+    }
+    Ok(parts)
+}
+
+/// What a report shows of a session, by what it goes on from.
+pub(crate) fn desk_parts(
+    alloc: Global,
+    inputs: &Inputs,
+    desk: &Desk,
+) -> Result<ReportParts, NoMemory>
+    requires harts { inputs.now.settings.harts ≡ length desk.now.machine.state.core.harts }
+    requires few { inputs.now.settings.harts ≤ MAX_HARTS }
+    ensures { IfOk result (λ parts. parts ≡ table_parts inputs.now desk.now) }
+{
+    let output = desk.machine.output().to_vec(alloc)?;
+    Ok(ReportParts {
+        harts: Seq::from_vec(hart_parts(alloc, &desk.machine, &inputs.settings)?),
+        samples: desk.samples,
+        output: Text::from_vec(output),
+        refused: Seq::from_vec(refused_parts(alloc, inputs, desk.refused.as_slice())?),
+        shown: Seq::from_vec(shown_parts(alloc, inputs, desk.kits.as_slice())?),
+    })
+}

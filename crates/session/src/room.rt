@@ -1,0 +1,56 @@
+//! What is put behind others where there is room.
+
+ghost use Rattle.std.specs.Prelude.{◌≡◌, ◌+◌, ◌<◌, ◌≤◌, ◌++◌, ◌∷◌, [], vec_len, vec_capacity};
+
+use crate::kit::Kit;
+use pn_types::Focus;
+use quanta_log::Quantum;
+use session_spec::{Latest, RefusedWish};
+
+/// Puts a sample behind the others, for which there is room.
+pub(crate) fn put_latest(list: &mut Vec<Latest>, latest: Latest)
+    requires { vec_len list.old < vec_capacity list.old }
+    ensures items { list.new.items ≡ list.old.items ++ latest ∷ [] }
+    ensures room { vec_capacity list.old ≤ vec_capacity list.new }
+{
+    let _room = list.push(latest);
+}
+
+/// Puts a refused wish behind the others, for which there is room.
+pub(crate) fn put_refused(list: &mut Vec<RefusedWish>, refused: RefusedWish)
+    requires { vec_len list.old < vec_capacity list.old }
+    ensures items { list.new.items ≡ list.old.items ++ refused ∷ [] }
+    ensures len { vec_len list.new ≡ vec_len list.old + 1 }
+    ensures room { vec_capacity list.old ≤ vec_capacity list.new }
+{
+    // Its parts are put together here: the prover takes no focus that was made elsewhere.
+    let _room = list.push(RefusedWish {
+        show: refused.show,
+        metric: refused.metric,
+        focus: Focus {
+            code: refused.focus.code,
+            hart: refused.focus.hart,
+            object: refused.focus.object,
+        },
+        at: refused.at,
+        cause: refused.cause,
+    });
+}
+
+/// Puts a pair behind the others, for which there is room.
+pub(crate) fn put_kit(list: &mut Vec<Kit>, kit: Kit)
+    requires { vec_len list.old < vec_capacity list.old }
+    ensures items { list.new.items ≡ list.old.items ++ kit ∷ [] }
+    ensures len { vec_len list.new ≡ vec_len list.old + 1 }
+    ensures room { vec_capacity list.old ≤ vec_capacity list.new }
+{
+    let _room = list.push(kit);
+}
+
+/// Puts a quantum behind the others, for which there is room.
+pub(crate) fn put_quantum(list: &mut Vec<Quantum>, quantum: Quantum)
+    requires { vec_len list.old < vec_capacity list.old }
+    ensures items { list.new.items ≡ list.old.items ++ quantum ∷ [] }
+{
+    let _room = list.push(quantum);
+}

@@ -1,0 +1,213 @@
+ghost use Rattle.std.specs.Prelude.{◌≡◌, ℕ, ◌<◌, ◌≤◌, ◌^◌, ◌++◌, ◌∷◌, [], IfErr, IfNone, IfOk, IfSome, IsTrue, None, OnErr, false, length, sum_by, true};
+ghost use Rattle.machine.specs.Turns.{is_runnable};
+ghost use Rattle.session_spec.specs.Opening.{bad_pick};
+ghost use Rattle.session_spec.specs.Run.{IsRun};
+ghost use Rattle.session_spec.specs.Work.{AreAllowed, Halted, IsWhole, quantum_of};
+ghost use Rattle.session.specs.Given.{AreGiven};
+ghost use Rattle.session.specs.Parts.{parts_of};
+ghost use Rattle.session.specs.Sessions.{begun, IsStartFault, state_of};
+
+use crate::admitting::admit_from;
+use crate::desk::Desk;
+use crate::fault::StartFault;
+use crate::inputs::Inputs;
+use crate::later::later;
+use crate::parts::desk_parts;
+use crate::room::put_quantum;
+use crate::starting::opened;
+use mdl_check::CheckedWish;
+use pn_types::{HartNo, MAX_HARTS, MAX_QUANTA, MAX_QUANTUM, MAX_WORKERS, NoMemory};
+use quanta_log::Quantum;
+use report::ReportParts;
+use session_spec::Latest;
+use std::alloc::Global;
+use std::marker::Model;
+
+/// The run of a program with instruments, quantum by quantum.
+#[derive(Drop)]
+pub struct Session {
+    inputs: Inputs,
+    // The wishes after the opening, by tick, and how many of them were looked at.
+    wishes: Vec<CheckedWish>,
+    looked: usize,
+    desk: Desk,
+    quanta: Vec<Quantum>,
+    closed: bool,
+    alloc: Global,
+}
+
+impl Model for Session {
+    ghost use Rattle.std.specs.Prelude.{◌≤◌, drop, vec_len};
+    ghost use Rattle.session.specs.Kept.{IsKept};
+    ghost use Rattle.session.specs.Sessions.{SessionData};
+
+    ghost Value = { SessionData };
+
+    ghost view = { λ s. record { inputs = s.inputs; quanta = s.quanta.items; closed = s.closed } };
+
+    ghost invariant = { λ s. IsKept (record { inputs = s.inputs; quanta = s.quanta.items; closed = s.closed }) (drop s.looked s.wishes.items) s.desk × (s.looked ≤ vec_len s.wishes) };
+}
+
+impl Session {
+    /// A session at its opening: the wishes at tick 0, in the order of the text; then the whole agenda, and then each instrument is
+    /// armed.
+    ///
+    /// # Errors
+    ///
+    /// `NoMemory` where memory is wanting; `BadPick` with the first wish at tick 0 that is refused, if one is.
+    pub fn new(alloc: Global, inputs: Inputs) -> Result<Session, StartFault>
+        requires { AreGiven inputs }
+        ensures begun { IfOk result (λ session. session ≡ begun inputs) }
+        ensures picked { IfOk result (λ session. bad_pick inputs ≡ None) }
+        ensures refused { IfErr result (IsStartFault inputs) }
+    {
+        let desk = opened(alloc, &inputs)?;
+        let wishes = later(alloc, inputs.checked.wishes.as_slice())?;
+        Ok(Session {
+            inputs,
+            wishes,
+            looked: 0,
+            desk,
+            quanta: Vec::new(alloc),
+            closed: false,
+            alloc,
+        })
+    }
+
+    /// The quanta that it took.
+    pub fn quanta(&self) -> &[Quantum]
+        ensures { result.now ≡ self.now.quanta }
+    {
+        &self.quanta
+    }
+
+    /// The time: how many of the program's words were executed.
+    pub fn time(&self) -> u64
+        ensures { result ≡ (state_of self.now).kept.time }
+    {
+        self.desk.time
+    }
+
+    /// How many times samples were taken.
+    pub fn samples(&self) -> u64
+        ensures { result ≡ (state_of self.now).kept.samples }
+    {
+        self.desk.samples
+    }
+
+    /// The samples that were taken together last, by the place of what they show.
+    pub fn latest(&self) -> &[Latest]
+        ensures { result.now ≡ (state_of self.now).latest }
+    {
+        &self.desk.latest
+    }
+
+    /// What a report shows of it.
+    ///
+    /// # Errors
+    ///
+    /// `NoMemory` where memory is wanting.
+    pub fn parts(&self) -> Result<ReportParts, NoMemory>
+        ensures parts { IfOk result (λ parts. parts ≡ parts_of self.now.inputs (state_of self.now)) }
+        // So the report's text can be made of it.
+        ensures harts { IfOk result (λ parts. length parts.harts ≤ MAX_HARTS) }
+        ensures ticks { IfOk result (λ parts. sum_by (λ part. part.ticks) parts.harts < 2 ^ 64) }
+    {
+        desk_parts(self.alloc, &self.inputs, &self.desk)
+    }
+
+    /// What holds of it: each of its quanta was allowed when it came; and its machine came about by events of which each could happen,
+    /// is the unpatched program's behind those of them that are ticks, and so has its memory, output, ticks and stops.
+    pub fn laws(&self)
+        ensures allowed { AreAllowed self.now.inputs self.now.quanta }
+        ensures run { IsRun self.now.inputs (state_of self.now) }
+    {
+        let _ = &self.inputs;
+    }
+
+    /// Whether a quantum of the hart can follow: it is runnable, and there are fewer quanta than there may be. The hart is one of
+    /// the settings'.
+    pub fn runnable(&self, hart: u32) -> bool
+        requires { hart < self.now.inputs.settings.harts }
+        ensures open { IsTrue result → is_runnable (state_of self.now).kept.machine.core hart ≡ true }
+        ensures few { IsTrue result → length self.now.quanta < MAX_QUANTA }
+        ensures halted { self.now.closed ≡ false → result ≡ false → Halted self.now.inputs self.now.quanta hart }
+    {
+        self.quanta.len() < MAX_QUANTA as usize && self.desk.runnable(HartNo::numbered(hart))
+    }
+
+    /// Whether no quantum can follow: the list of those that it took is whole.
+    pub fn done(&self) -> bool
+        requires { self.now.closed ≡ false }
+        ensures whole { result ≡ true → IsWhole self.now.inputs self.now.quanta }
+        ensures open { result ≡ false → (hart : ℕ) × (hart < self.now.inputs.settings.harts) × (Halted self.now.inputs self.now.quanta hart → ⊥) }
+    {
+        for hart in 0..self.inputs.settings.harts {
+            if self.runnable(hart) {
+                return false;
+            }
+        }
+        true
+    }
+
+    /// A quantum of the hart, at most so many turns, asked for by a worker: an admission, if work was done since the last; the
+    /// turns; some entries of the agenda; and the work that is due, if it is time. It answers the quantum's entry, which is put
+    /// behind the others, and none exactly where the hart can't take one. Then nothing has changed.
+    ///
+    /// # Errors
+    ///
+    /// `NoMemory` where memory is wanting. Then nothing has changed.
+    pub fn quantum(
+        &mut self,
+        worker: u32,
+        hart: u32,
+        turns: u32,
+    ) -> Result<Option<Quantum>, NoMemory>
+        requires going { self.old.closed ≡ false }
+        requires worker { worker < MAX_WORKERS }
+        requires hart { hart < self.old.inputs.settings.harts }
+        requires turns { (1 ≤ turns) × (turns ≤ MAX_QUANTUM) }
+        ensures inputs { self.new.inputs ≡ self.old.inputs }
+        ensures closed { self.new.closed ≡ false }
+        ensures taken { IfOk result (λ answer. IfSome answer (λ q. self.new.quanta ≡ self.old.quanta ++ q ∷ [])) }
+        ensures asked { IfOk result (λ answer. IfSome answer (λ q. q ≡ quantum_of self.old.inputs worker hart turns (state_of self.old).kept)) }
+        ensures halted { IfOk result (λ answer. IfNone answer (Halted self.old.inputs self.old.quanta hart)) }
+        ensures none { IfOk result (λ answer. IfNone answer (self.new ≡ self.old)) }
+        ensures going_on { IfOk result (λ answer. IfSome answer (λ q. Halted self.old.inputs self.old.quanta hart → ⊥)) }
+        ensures failed { OnErr result (self.new ≡ self.old) }
+    {
+        if !self.runnable(hart) {
+            return Ok(None);
+        }
+        self.quanta.reserve(1)?;
+        let width = self.inputs.width();
+        let looked = admit_from(
+            self.alloc,
+            &self.inputs,
+            &self.wishes,
+            self.looked,
+            &mut self.desk,
+        )?;
+        // From here on nothing fails.
+        self.looked += looked;
+        let owns = self.desk.tend(HartNo::numbered(hart), turns, width);
+        let quantum = Quantum {
+            worker,
+            hart,
+            turns,
+            owns,
+        };
+        put_quantum(&mut self.quanta, quantum);
+        Ok(Some(quantum))
+    }
+
+    /// The end: each hart that is inside a trampoline takes turns until it is outside, and where time passed since the last sample,
+    /// all that is armed is sampled once more. No quantum follows.
+    pub fn close(&mut self)
+        requires { self.old.closed ≡ false }
+        ensures { self.new ≡ record self.old { closed = true } }
+    {
+        self.desk.end();
+        self.closed = true;
+    }
+}

@@ -1,0 +1,10 @@
+pub mod Backwards
+pub mod Shows
+pub mod Tied
+pub mod Samples
+pub mod Armings
+pub mod Wishing
+pub mod Going
+pub mod Desks
+pub mod Tending
+pub mod Begins

@@ -1,0 +1,107 @@
+-- The work that is due whenever a sample's interval ends.
+use Rattle.std.specs.Prelude.{ℕ, ◌+◌, ◌*◌, ◌/◌, ◌&&◌, if◌then◌else◌, Bool, true, false, Some, List, [], ◌∷◌, ◌++◌, length, map, unwrap_or, Result, Ok, Err}
+use Rattle.pn_types.specs.declared.plan.Plan.{Plan}
+use Rattle.fold_hist.specs.declared.bin.Bin.{Bin}
+use Rattle.mdl_plan.specs.declared.fault.PlanFault.{PlanFault}
+use Rattle.rv_mem.specs.Start.{program_of}
+use Rattle.rv_exec.specs.Start.{start}
+use Rattle.machine.specs.Measures.{measure}
+use Rattle.instrument.specs.Placements.{Placements, state_of}
+use Rattle.instrument.specs.Scenes.{Arms, Sweeps}
+use Rattle.instrument.specs.declared.number.State.{State as Stage}
+use Rattle.instrument.specs.declared.number.State.TheVariants.{Placing, Armed, Leaving, Gone}
+use Rattle.instrumented.specs.Instrumented.{Instrumented, done, is_linked, repeated}
+use Rattle.session_spec.specs.declared.data.Latest.{Latest}
+use Rattle.session_spec.specs.declared.data.Shown.{Shown}
+use Rattle.session_spec.specs.Inputs.{Inputs, harts_of, planned}
+use Rattle.session_spec.specs.States.{Kept}
+
+-- ---- samples
+
+abbrev pub is_armed_state : Stage → Bool
+is_armed_state Armed = true
+is_armed_state Placing = false
+is_armed_state Leaving = false
+is_armed_state Gone = false
+
+abbrev pub is_armed : Placements → Shown → Bool
+is_armed p s = is_armed_state (state_of p s.instrument.n)
+
+-- What the plan of a pair measures on the program's own run, from time b to time c, where it was armed at time a.
+abbrev pub measure_by : Result Plan PlanFault → Inputs → List ℕ → ℕ → ℕ → ℕ → List ℕ → ℕ
+measure_by (Err fault) i harts a b c owns = 0
+measure_by (Ok plan) i harts a b c owns = measure (program_of i.image) plan harts a b c owns (start i.image i.settings.harts)
+
+unfoldable pub measured : Inputs → List ℕ → Shown → ℕ → ℕ
+measured i owns s time = measure_by (planned i s.metric s.focus) i (harts_of i s.focus) (unwrap_or s.armed 0) s.from time owns
+
+-- the sample of an instrument from its last one, or its arming, to now
+abbrev pub sample_of : Inputs → List ℕ → ℕ → Shown → Bin
+sample_of i owns time s = record { from = s.from; to = time; sum = measured i owns s time }
+
+-- one sample more for each that is armed
+abbrev pub recorded_with : Inputs → Placements → List ℕ → ℕ → List Shown → List (List Bin) → List (List Bin)
+recorded_with i p owns time [] rs = rs
+recorded_with i p owns time (s ∷ ss) [] = []
+recorded_with i p owns time (s ∷ ss) (r ∷ rs) = (if is_armed p s then r ++ sample_of i owns time s ∷ [] else r) ∷ recorded_with i p owns time ss rs
+
+-- the same samples as a list, the first of `shown` having place n
+abbrev pub latest_from : ℕ → Inputs → Placements → List ℕ → ℕ → List Shown → List Latest
+latest_from n i p owns time [] = []
+latest_from n i p owns time (s ∷ ss) =
+    (if is_armed p s then record { shown = n; from = s.from; to = time; sum = measured i owns s time } ∷ [] else [])
+    ++ latest_from (n + 1) i p owns time ss
+
+-- each that is armed was sampled to now
+abbrev pub sampled_to : Placements → ℕ → Shown → Shown
+sampled_to p time s = if is_armed p s then record s { from = time } else s
+
+-- All armed instruments are sampled.
+unfoldable pub with_samples : Kept → Kept
+with_samples k = record k { shown = map (sampled_to k.machine.placer k.time) k.shown; samples = k.samples + 1; last = k.time }
+
+-- ---- what is freed
+
+-- Each Free is done that no unlinking of its point stands before.
+unfoldable pub with_frees : Kept → Kept
+with_frees k = record k { machine = repeated (length k.machine.placer.book.agenda) Sweeps k.machine }
+
+-- ---- what is armed
+
+abbrev pub is_placing : Stage → Bool
+is_placing Placing = true
+is_placing Armed = false
+is_placing Leaving = false
+is_placing Gone = false
+
+-- it is being placed, and all its sites are linked
+abbrev pub is_ready : Instrumented → Shown → Bool
+is_ready m s = is_placing (state_of m.placer s.instrument.n) && is_linked m s.instrument.n
+
+abbrev pub armed_at : ℕ → Instrumented → Shown → Shown
+armed_at time m s = if is_ready m s then record s { armed = Some time; from = time } else s
+
+abbrev pub machine_armed : Instrumented → Shown → Instrumented
+machine_armed m s = if is_ready m s then done (Arms s.instrument.n) m else m
+
+-- those that are ready are armed, one after another
+abbrev pub arm_all : Instrumented → List Shown → Instrumented
+arm_all m [] = m
+arm_all m (s ∷ ss) = arm_all (machine_armed m s) ss
+
+abbrev pub all_armed : ℕ → Instrumented → List Shown → List Shown
+all_armed time m [] = []
+all_armed time m (s ∷ ss) = armed_at time m s ∷ all_armed time (machine_armed m s) ss
+
+-- Each instrument is armed that is ready.
+unfoldable pub with_arms : Kept → Kept
+with_arms k = record k { machine = arm_all k.machine k.shown; shown = all_armed k.time k.machine k.shown }
+
+-- ---- when work is due next
+
+-- the least multiple of the width above the time
+abbrev pub next_due : ℕ → ℕ → ℕ
+next_due width time = (time / width + 1) * width
+
+unfoldable pub with_next : ℕ → Kept → Kept
+with_next width k = record k { due = next_due width k.time; worked = true }

@@ -1,0 +1,10 @@
+pub mod Inputs
+pub mod States
+pub mod Admission
+pub mod Turns
+pub mod Due
+pub mod Opening
+pub mod Work
+pub mod Run
+pub mod Ties
+pub mod Reads

@@ -1,0 +1,47 @@
+-- The state of a session.
+use Rattle.std.specs.Prelude.{ℕ, Bool, false, List, []}
+use Rattle.fold_hist.specs.declared.bin.Bin.{Bin}
+use Rattle.mdl_check.specs.declared.checked.CheckedWish.{CheckedWish}
+use Rattle.instrumented.specs.Instrumented.{Instrumented, first_instrumented}
+use Rattle.session_spec.specs.declared.data.Latest.{Latest}
+use Rattle.session_spec.specs.declared.data.RefusedWish.{RefusedWish}
+use Rattle.session_spec.specs.declared.data.Shown.{Shown}
+use Rattle.session_spec.specs.Inputs.{Inputs, later_wishes}
+
+-- What a session goes on from: the machine with its instruments, the wishes whose tick is to come, those that were refused, all
+-- instruments that show or showed something in the order of their admission, the time, at which time work is due next, whether it
+-- was done since the last admission, how many samples were taken, and when the last one was.
+pub record Kept : Type 0 where
+  pub machine : Instrumented
+  pub wishes : List CheckedWish
+  pub refused : List RefusedWish
+  pub shown : List Shown
+  pub time : ℕ
+  pub due : ℕ
+  pub worked : Bool
+  pub samples : ℕ
+  pub last : ℕ
+
+-- With it the harts of all ticks, in order, which are the program's own run; the samples of each shown instrument; those that were
+-- taken together last; and all of them, in the order in which they were taken.
+pub record State : Type 0 where
+  pub kept : Kept
+  pub owns : List ℕ
+  pub recorded : List (List Bin)
+  pub latest : List Latest
+  pub feed : List Latest
+
+-- ---- the start, before any wish is looked at
+
+abbrev pub first_kept : Inputs → Kept
+first_kept i = record {
+  machine = first_instrumented i.image i.settings.harts i.settings.budget i.settings.instruments;
+  wishes = later_wishes i;
+  refused = [];
+  shown = [];
+  time = 0;
+  due = i.settings.width;
+  worked = false;
+  samples = 0;
+  last = 0;
+}

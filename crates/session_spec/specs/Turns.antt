@@ -1,0 +1,27 @@
+-- The turns of a quantum, and what is done of the agenda behind them.
+use Rattle.std.specs.Prelude.{ℕ, ◌+◌, List, length}
+use Rattle.machine.specs.Events.{Event}
+use Rattle.machine.specs.Replays.{owns}
+use Rattle.machine.specs.States.{quantum_turns, settling}
+use Rattle.instrument.specs.Scenes.{Hands}
+use Rattle.instrumented.specs.Instrumented.{repeated, taken}
+use Rattle.session_spec.specs.States.{Kept}
+
+-- these turns are taken; their ticks are time
+abbrev pub with_turns : List Event → Kept → Kept
+with_turns turns k = record k { machine = taken turns k.machine; time = k.time + length (owns turns k.machine.core) }
+
+-- the hart takes so many turns, or fewer where it can take no more
+unfoldable pub with_hart : ℕ → ℕ → Kept → Kept
+with_hart h n k = with_turns (quantum_turns n h k.machine.core) k
+
+-- up to eight entries are handed out
+abbrev pub handed_at_once : ℕ
+handed_at_once = 8
+
+unfoldable pub with_entries : Kept → Kept
+with_entries k = record k { machine = repeated handed_at_once Hands k.machine }
+
+-- each hart inside, by number, takes turns until it is outside
+unfoldable pub with_quiet : Kept → Kept
+with_quiet k = with_turns (settling k.machine.core) k

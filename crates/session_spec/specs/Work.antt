@@ -1,0 +1,134 @@
+-- A quantum, and the state of a session behind a list of quanta.
+use Rattle.std.specs.Prelude.{◌≡◌, ℕ, ◌-◌, ◌<◌, ◌≤◌, ◌⊎◌, nat_le, nat_lt, if◌then◌else◌, Bool, false, IsTrue, List, [], ◌∷◌, ◌++◌, length, map, replicate}
+use Rattle.fold_hist.specs.declared.bin.Bin.{Bin}
+use Rattle.pn_types.specs.declared.limits.TheConstants.{MAX_QUANTA, MAX_QUANTUM, MAX_WORKERS}
+use Rattle.quanta_log.specs.declared.quantum.Quantum.{Quantum}
+use Rattle.machine.specs.Cores.{Core}
+use Rattle.machine.specs.Replays.{owns}
+use Rattle.machine.specs.States.{quantum_turns, settling}
+use Rattle.machine.specs.Turns.{is_runnable}
+use Rattle.session_spec.specs.declared.data.Latest.{Latest}
+use Rattle.session_spec.specs.declared.data.Shown.{Shown}
+use Rattle.session_spec.specs.Inputs.{Inputs}
+use Rattle.session_spec.specs.States.{Kept, State}
+use Rattle.session_spec.specs.Admission.{with_admission}
+use Rattle.session_spec.specs.Turns.{with_entries, with_hart, with_quiet}
+use Rattle.session_spec.specs.Due.{latest_from, recorded_with, with_arms, with_frees, with_next, with_samples}
+use Rattle.session_spec.specs.Opening.{opened}
+
+-- ---- what a session goes on from
+
+-- behind the admission, the hart's turns, and the first entries of the agenda
+abbrev pub begun : Inputs → ℕ → ℕ → Kept → Kept
+begun i h n k = with_entries (with_hart h n (with_admission i k))
+
+abbrev pub is_due : Kept → Bool
+is_due k = nat_le k.due k.time
+
+-- the due work: settle, sample, free, arm
+abbrev pub worked : ℕ → Kept → Kept
+worked width k = with_next width (with_arms (with_frees (with_samples (with_quiet k))))
+
+-- behind a quantum
+unfoldable pub tended : Inputs → ℕ → ℕ → Kept → Kept
+tended i h n k = if is_due (begun i h n k) then worked i.settings.width (begun i h n k) else begun i h n k
+
+-- ---- the same with the program's own run and the samples
+
+-- the harts whose ticks the turns of hart h are, and those of settling
+abbrev pub owns_taken : ℕ → ℕ → Core → List ℕ
+owns_taken h n c = owns (quantum_turns n h c) c
+
+abbrev pub owns_settled : Core → List ℕ
+owns_settled c = owns (settling c) c
+
+-- an instrument that was admitted has no sample yet
+abbrev pub with_room : List Shown → List (List Bin) → List (List Bin)
+with_room shown rs = rs ++ replicate (length shown - length rs) []
+
+abbrev pub state_admitted : Inputs → State → State
+state_admitted i s = record s { kept = with_admission i s.kept; recorded = with_room (with_admission i s.kept).shown s.recorded }
+
+abbrev pub state_turned : ℕ → ℕ → State → State
+state_turned h n s = record s { kept = with_hart h n s.kept; owns = s.owns ++ owns_taken h n s.kept.machine.core }
+
+abbrev pub state_handed : State → State
+state_handed s = record s { kept = with_entries s.kept }
+
+abbrev pub state_quiet : State → State
+state_quiet s = record s { kept = with_quiet s.kept; owns = s.owns ++ owns_settled s.kept.machine.core }
+
+abbrev pub samples_now : Inputs → State → List Latest
+samples_now i s = latest_from 0 i s.kept.machine.placer s.owns s.kept.time s.kept.shown
+
+abbrev pub state_sampled : Inputs → State → State
+state_sampled i s = record {
+  kept = with_samples s.kept;
+  owns = s.owns;
+  recorded = recorded_with i s.kept.machine.placer s.owns s.kept.time s.kept.shown s.recorded;
+  latest = samples_now i s;
+  feed = s.feed ++ samples_now i s;
+}
+
+abbrev pub state_armed : ℕ → State → State
+state_armed width s = record s { kept = with_next width (with_arms (with_frees s.kept)) }
+
+abbrev pub state_worked : Inputs → State → State
+state_worked i s = if is_due s.kept then state_armed i.settings.width (state_sampled i (state_quiet s)) else s
+
+-- Behind a quantum of so many turns of hart h: an admission, if work was done since the last; the turns; up to eight entries of
+-- the agenda; and the due work, if it is time.
+unfoldable pub tend : Inputs → ℕ → ℕ → State → State
+tend i h n s = state_worked i (state_handed (state_turned h n (state_admitted i s)))
+
+-- ---- lists of quanta
+
+abbrev pub first_state : Inputs → State
+first_state i = record { kept = opened i; owns = []; recorded = map (λ s. []) (opened i).shown; latest = []; feed = [] }
+
+abbrev pub work_from : Inputs → List Quantum → State → State
+work_from i [] s = s
+work_from i (q ∷ quanta) s = work_from i quanta (tend i q.hart q.turns s)
+
+-- The state of a session behind these quanta.
+unfoldable pub work : Inputs → List Quantum → State
+work i quanta = work_from i quanta (first_state i)
+
+-- ---- which quanta there may be
+
+-- the entry of a quantum of a hart that a worker asks for: it owns as many ticks as its turns have
+abbrev pub quantum_of : Inputs → ℕ → ℕ → ℕ → Kept → Quantum
+quantum_of i worker h n k = record { worker = worker; hart = h; turns = n; owns = length (owns_taken h n (with_admission i k).machine.core) }
+
+-- the entry is in range, its hart is runnable, and it owns what it must
+pub record IsAllowed (i : Inputs) (k : Kept) (q : Quantum) : Type 0 where
+  pub worker : q.worker < MAX_WORKERS
+  pub hart : q.hart < i.settings.harts
+  pub some : 1 ≤ q.turns
+  pub few : q.turns ≤ MAX_QUANTUM
+  pub runnable : IsTrue (is_runnable k.machine.core q.hart)
+  pub owns : q ≡ quantum_of i q.worker q.hart q.turns k
+
+abbrev pub AreAllowedFrom : Inputs → State → List Quantum → Type 0
+AreAllowedFrom i s [] = Unit {0}
+AreAllowedFrom i s (q ∷ quanta) = IsAllowed i s.kept q × AreAllowedFrom i (tend i q.hart q.turns s) quanta
+
+-- each entry is allowed when it comes, and there aren't too many
+pub record AreAllowed (i : Inputs) (quanta : List Quantum) : Type 0 where
+  pub each : AreAllowedFrom i (first_state i) quanta
+  pub few : length quanta ≤ MAX_QUANTA
+
+-- No quantum of hart h can follow: it isn't runnable, or there are as many quanta as there may be.
+unfoldable pub Halted : Inputs → List Quantum → ℕ → Type 0
+Halted i quanta h = (is_runnable (work i quanta).kept.machine.core h ≡ false) ⊎ (MAX_QUANTA ≤ length quanta)
+
+-- A whole list: allowed, and none can follow.
+pub record IsWhole (i : Inputs) (quanta : List Quantum) : Type 0 where
+  pub allowed : AreAllowed i quanta
+  pub ended : (h : ℕ) → h < i.settings.harts → Halted i quanta h
+
+-- ---- the end
+
+-- The closed form: the machine settles, and where time passed since the last sample, all that is armed is sampled once more.
+unfoldable pub closed : Inputs → State → State
+closed i s = if nat_lt (state_quiet s).kept.last (state_quiet s).kept.time then state_sampled i (state_quiet s) else state_quiet s

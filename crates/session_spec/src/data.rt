@@ -1,0 +1,45 @@
+use instrument::InstrumentNo;
+use pn_types::{Focus, PickCause};
+
+/// An instrument that shows a metric at a focus, or did.
+#[derive(Debug, Drop)]
+pub struct Shown {
+    /// The instrument.
+    pub instrument: InstrumentNo,
+    /// The metric's number, from 0.
+    pub metric: u32,
+    /// The focus.
+    pub focus: Focus,
+    /// The time at which it was armed, if it was.
+    pub armed: Option<u64>,
+    /// The time to which it was sampled: that of its arming at first.
+    pub from: u64,
+}
+
+/// A wish that was refused.
+#[derive(Debug, Drop)]
+pub struct RefusedWish {
+    /// The metric was to be shown, and not dropped.
+    pub show: bool,
+    /// The metric's number, from 0.
+    pub metric: u32,
+    /// The focus.
+    pub focus: Focus,
+    /// The time at which it was refused.
+    pub at: u64,
+    /// Why.
+    pub cause: PickCause,
+}
+
+/// A sample of a shown instrument.
+#[derive(Clone, Copy, Debug, PartialEq, Eq, Drop)]
+pub struct Latest {
+    /// The place of the instrument among those that are or were shown, from 0.
+    pub shown: u32,
+    /// The time at which its interval begins.
+    pub from: u64,
+    /// The time at which it ends.
+    pub to: u64,
+    /// What was measured in it.
+    pub sum: u64,
+}

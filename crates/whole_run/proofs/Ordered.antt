@@ -1,0 +1,125 @@
+-- Quanta in the order of a seed go on by one more.
+use Rattle.std.proofs.Common.{◌≡◌, ℕ, ◌+◌, ◌<◌, ◌≤◌, List, [], ◌∷◌, ◌++◌, Option, Some, None, refl, sym, ap, ◌∙◌, subst, arith, length, inl, inr}
+use Rattle.std.specs.Prelude.{Bool, true, false, cond, filter, IfNone, IfSome}
+use Rattle.std.proofs.lemmas.Bool.{true≢false}
+use Rattle.std.specs.List.{range_with_len}
+use Rattle.std.proofs.lemmas.List.{length-append}
+use Rattle.std.proofs.lemmas.List.Elements.{filter-append}
+use Rattle.pn_types.specs.declared.limits.TheConstants.{MAX_QUANTA}
+use Rattle.turn_order.specs.declared.order.Order.{Order}
+use Rattle.turn_order.specs.Orders.{chosen, order_after, order_of_seed, picked, ready_of}
+use Rattle.turn_order.proofs.Picks.{none_may, picked_may, range_more}
+use Rattle.quanta_log.specs.declared.quantum.Quantum.{Quantum}
+use Rattle.machine.specs.Turns.{is_runnable}
+use Rattle.session_spec.specs.Inputs.{Inputs}
+use Rattle.session_spec.specs.States.{State}
+use Rattle.session_spec.specs.Work.{AreAllowed, Halted, IsWhole, closed, first_state, quantum_of, tend, work, work_from}
+use Rattle.session.specs.Sessions.{SessionData, state_of}
+use Rattle.whole_run.specs.Seeded.{AreInOrder, IsSeeded}
+
+-- ---- the harts that are runnable
+
+-- of a list of quanta
+abbrev pub may_go : Inputs → List Quantum → ℕ → Bool
+may_go i quanta = is_runnable (work i quanta).kept.machine.core
+
+pub going : (s : SessionData) → s.closed ≡ false → state_of s ≡ work s.inputs s.quanta
+going s e = ap (λ b. cond b (closed s.inputs (work s.inputs s.quanta)) (work s.inputs s.quanta)) e
+
+one_ready : (may : ℕ → Bool) (n : ℕ) (b : Bool) → may n ≡ b → ready_of may (n + 1) ≡ ready_of may n ++ cond b (n ∷ []) []
+one_ready may n b e =
+    ap (filter may) (range_more 0 n) ∙ (filter-append may (range_with_len 0 n) ((0 + n) ∷ []) ∙ ap (λ l. ready_of may n ++ l) (last b e))
+  where
+    last : (b : Bool) → may n ≡ b → filter may ((0 + n) ∷ []) ≡ cond b (n ∷ []) []
+    last b e = let z : 0 + n ≡ n = omega arith in ap (λ m. filter may (m ∷ [])) z ∙ ap (λ b. cond b (n ∷ []) []) e
+
+pub ready_more : (may : ℕ → Bool) (n : ℕ) (old new : List ℕ) → old ≡ ready_of may n → may n ≡ true → new ≡ old ++ n ∷ [] → new ≡ ready_of may (n + 1)
+ready_more may n old new e t f = f ∙ (ap (λ l. l ++ n ∷ []) e ∙ sym (one_ready may n true t))
+
+append_nil : (xs : List ℕ) → xs ++ [] ≡ xs
+append_nil [] = refl
+append_nil (x ∷ xs) = ap (λ l. x ∷ l) (append_nil xs)
+
+pub ready_past : (may : ℕ → Bool) (n : ℕ) (old : List ℕ) → old ≡ ready_of may n → may n ≡ false → old ≡ ready_of may (n + 1)
+ready_past may n old e t = e ∙ (sym (append_nil (ready_of may n)) ∙ sym (one_ready may n false t))
+
+-- a hart that isn't stopped by the limit of quanta isn't runnable
+pub stuck : (i : Inputs) (quanta : List Quantum) (h : ℕ) → length quanta < MAX_QUANTA → Halted i quanta h → may_go i quanta h ≡ false
+unfolding Halted
+stuck i quanta h few (inl e) = e
+stuck i quanta h few (inr l) = absurd (omega arith)
+
+pub halted : (i : Inputs) (quanta : List Quantum) (h : ℕ) → may_go i quanta h ≡ false → Halted i quanta h
+unfolding Halted
+halted i quanta h e = inl e
+
+full : (i : Inputs) (quanta : List Quantum) (h : ℕ) → MAX_QUANTA ≤ length quanta → Halted i quanta h
+unfolding Halted
+full i quanta h l = inr l
+
+-- ---- one quantum more
+
+abbrev pub order_at : Order → List Quantum → Order
+order_at order [] = order
+order_at order (q ∷ quanta) = order_at (order_after order q.hart) quanta
+
+order_push : (order : Order) (quanta : List Quantum) (q : Quantum) → order_at order (quanta ++ q ∷ []) ≡ order_after (order_at order quanta) q.hart
+order_push order [] q = refl
+order_push order (p ∷ quanta) q = order_push (order_after order p.hart) quanta q
+
+ordered_push : (i : Inputs) (turns : ℕ) (order : Order) (s : State) (quanta : List Quantum) (q : Quantum) → AreInOrder i turns order s quanta
+    → picked (order_at order quanta) (is_runnable (work_from i quanta s).kept.machine.core) i.settings.harts ≡ Some q.hart → q ≡ quantum_of i 0 q.hart turns (work_from i quanta s).kept
+    → AreInOrder i turns order s (quanta ++ q ∷ [])
+ordered_push i turns order s [] q a p e = (p, e, tt)
+ordered_push i turns order s (x ∷ quanta) q a p e = (a.0, a.1, ordered_push i turns (order_after order x.hart) (tend i x.hart x.turns s) quanta q a.2 p e)
+
+-- so many quanta were taken in order, and this order is next
+pub record Running (i : Inputs) (seed turns count : ℕ) (quanta : List Quantum) (order : Order) : Type 0 where
+  pub ordered : AreInOrder i turns (order_of_seed seed) (first_state i) quanta
+  pub number : length quanta ≡ count
+  pub order_is : order ≡ order_at (order_of_seed seed) quanta
+
+pub begins : (i : Inputs) (seed turns : ℕ) → Running i seed turns 0 [] (order_of_seed seed)
+begins i seed turns = record { ordered = tt; number = refl; order_is = refl }
+
+pub goes_on : (i : Inputs) (seed turns count h : ℕ) (quanta : List Quantum) (order : Order) (q : Quantum) → Running i seed turns count quanta order → picked order (may_go i quanta) i.settings.harts ≡ Some h
+    → q ≡ quantum_of i 0 h turns (work i quanta).kept → Running i seed turns (count + 1) (quanta ++ q ∷ []) (order_after order h)
+unfolding work
+goes_on i seed turns count h quanta order q r p e =
+    let hart : q.hart ≡ h = ap (λ (x : Quantum). x.hart) e in
+    let one : length (q ∷ []) ≡ 1 = refl in
+    let sum = length-append quanta (q ∷ []) in
+    let number = r.number in
+    record {
+      ordered = ordered_push i turns (order_of_seed seed) (first_state i) quanta q r.ordered
+          (subst (λ o. picked o (may_go i quanta) i.settings.harts ≡ Some q.hart) r.order_is (p ∙ ap Some (sym hart)))
+          (subst (λ n. q ≡ quantum_of i 0 n turns (work i quanta).kept) (sym hart) e);
+      number = omega arith;
+      order_is = ap (λ o. order_after o h) r.order_is ∙ (ap (order_after (order_at (order_of_seed seed) quanta)) (sym hart) ∙ sym (order_push (order_of_seed seed) quanta q));
+    }
+
+-- the next among the harts that are runnable
+pub picks : (i : Inputs) (quanta : List Quantum) (harts : ℕ) (order : Order) (ready : List ℕ) (r o : Option ℕ) → harts ≡ i.settings.harts → ready ≡ ready_of (may_go i quanta) harts → r ≡ chosen order ready → r ≡ o
+    → picked order (may_go i quanta) i.settings.harts ≡ o
+picks i quanta harts order ready r o h e p is = sym (p ∙ ap (chosen order) (e ∙ ap (ready_of (may_go i quanta)) h)) ∙ is
+
+-- a session that was asked for it took one
+pub takes : (s new : SessionData) (seed turns count h : ℕ) (order : Order) (answer : Option Quantum) → s.closed ≡ false → count < MAX_QUANTA → Running s.inputs seed turns count s.quanta order
+    → picked order (may_go s.inputs s.quanta) s.inputs.settings.harts ≡ Some h → IfSome answer (λ q. new.quanta ≡ s.quanta ++ q ∷ []) → IfSome answer (λ q. q ≡ quantum_of s.inputs 0 h turns (state_of s).kept) → IfNone answer (Halted s.inputs s.quanta h)
+    → Running s.inputs seed turns (count + 1) new.quanta (order_after order h)
+takes s new seed turns count h order (Some q) wide few r p taken asked none =
+    subst (λ l. Running s.inputs seed turns (count + 1) l (order_after order h)) (sym taken)
+    (goes_on s.inputs seed turns count h s.quanta order q r p (asked ∙ ap (λ (x : State). quantum_of s.inputs 0 h turns x.kept) (going s wide)))
+takes s new seed turns count h order None wide few r p taken asked none =
+    let number = r.number in
+    absurd (true≢false (sym (picked_may order (may_go s.inputs s.quanta) s.inputs.settings.harts h p).0 ∙ stuck s.inputs s.quanta h (omega arith) none))
+
+-- ---- the whole list
+
+-- no hart is next
+pub ends : (i : Inputs) (seed turns count : ℕ) (quanta : List Quantum) (order : Order) → Running i seed turns count quanta order → AreAllowed i quanta → picked order (may_go i quanta) i.settings.harts ≡ None → IsSeeded i seed turns quanta
+ends i seed turns count quanta order r a p = record { ordered = r.ordered; whole = record { allowed = a; ended = λ h l. halted i quanta h (none_may order (may_go i quanta) i.settings.harts h p l) } }
+
+-- there are as many as there may be
+pub fills : (i : Inputs) (seed turns : ℕ) (quanta : List Quantum) (order : Order) → Running i seed turns MAX_QUANTA quanta order → AreAllowed i quanta → IsSeeded i seed turns quanta
+fills i seed turns quanta order r a = let number = r.number in record { ordered = r.ordered; whole = record { allowed = a; ended = λ h l. full i quanta h (omega arith) } }

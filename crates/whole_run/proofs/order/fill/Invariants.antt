@@ -1,0 +1,7 @@
+use Rattle.std.proofs.Common.{◌≡◌}
+use Rattle.turn_order.specs.Orders.{ready_of}
+use Rattle.whole_run.proofs.Ordered.{may_go}
+use Rattle.whole_run.proofs.order.fill.Given as goal
+
+abbrev pub invariant-loop-number : goal.invariant-loop-number
+invariant-loop-number l = l.ready ≡ ready_of (may_go l.session.inputs l.session.quanta) l.number

@@ -1,0 +1,28 @@
+-- What is left of a run: its report and its log.
+use Rattle.std.specs.Prelude.{◌≡◌, ℕ, Bool, true, false, List, []}
+use Rattle.quanta_log.specs.declared.quantum.Quantum.{Quantum}
+use Rattle.quanta_log.specs.declared.version.Version.TheVariants.{Two}
+use Rattle.quanta_log.specs.Spelling.{spelled}
+use Rattle.report.specs.Text.{report_text}
+use Rattle.session_spec.specs.Inputs.{Inputs}
+use Rattle.session_spec.specs.Work.{closed, work}
+use Rattle.session.specs.Parts.{parts_of}
+use Rattle.whole_run.specs.declared.recorded.Course.{Course}
+use Rattle.whole_run.specs.declared.recorded.Recorded.{Recorded}
+use Rattle.whole_run.specs.Seeded.{IsSeeded}
+
+-- the report of a session behind these quanta and its end
+abbrev pub report_of : Inputs → List Quantum → ℕ → List ℕ
+report_of i quanta skipped = report_text (parts_of i (closed i (work i quanta))) skipped
+
+-- the bytes of its log, if one is asked for
+abbrev pub log_of : Bool → Inputs → List Quantum → List ℕ
+log_of true i quanta = spelled Two i.settings quanta
+log_of false i quanta = []
+
+-- What is left of the whole list of quanta in the order of a seed.
+pub record IsRecorded (i : Inputs) (c : Course) (r : Recorded) : Type 0 where
+  pub quanta : List Quantum
+  pub seeded : IsSeeded i c.seed c.turns quanta
+  pub report : r.report.items ≡ report_of i quanta c.skipped
+  pub log : r.log.items ≡ log_of c.logged i quanta

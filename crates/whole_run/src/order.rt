@@ -1,0 +1,69 @@
+//! Harts take quanta in the order of a seed.
+
+ghost use Rattle.std.specs.Prelude.{◌≡◌, ◌<◌, ◌≤◌, false, length, OnOk};
+ghost use Rattle.machine.specs.Turns.{is_runnable};
+ghost use Rattle.session.specs.Sessions.{begun};
+ghost use Rattle.session_spec.specs.Work.{work};
+ghost use Rattle.turn_order.specs.Orders.{ready_of};
+ghost use Rattle.whole_run.specs.Seeded.{IsSeeded};
+
+use pn_types::{HartNo, MAX_HARTS, MAX_QUANTA, MAX_QUANTUM, NoMemory};
+use session::Session;
+use std::alloc::Global;
+use turn_order::{Order, Ready};
+
+/// The harts that can take a quantum, by number.
+///
+/// # Errors
+///
+/// `NoMemory` where memory is wanting.
+fn fill(session: &Session, harts: u32, ready: &mut Ready) -> Result<(), NoMemory>
+    requires harts { harts ≡ session.now.inputs.settings.harts }
+    requires few { harts ≤ MAX_HARTS }
+    requires going { session.now.closed ≡ false }
+    requires room { length session.now.quanta < MAX_QUANTA }
+    ensures { OnOk result (ready.new ≡ ready_of (is_runnable (work session.now.inputs session.now.quanta).kept.machine.core) harts) }
+{
+    ready.clear();
+    for number in 0..harts {
+        if session.runnable(number) {
+            ready.push(HartNo::numbered(number))?;
+        }
+    }
+    Ok(())
+}
+
+/// Lets the harts of a session that just began take quanta of at most so many turns, in the order of a seed, until none can follow.
+///
+/// # Errors
+///
+/// `NoMemory` where memory is wanting.
+pub fn take_quanta(
+    alloc: Global,
+    session: &mut Session,
+    harts: u32,
+    seed: u32,
+    turns: u32,
+) -> Result<(), NoMemory>
+    requires begun { session.old ≡ begun session.old.inputs }
+    requires harts { harts ≡ session.old.inputs.settings.harts }
+    requires few { harts ≤ MAX_HARTS }
+    requires turns { (1 ≤ turns) × (turns ≤ MAX_QUANTUM) }
+    ensures inputs { session.new.inputs ≡ session.old.inputs }
+    ensures going { session.new.closed ≡ false }
+    ensures seeded { OnOk result (IsSeeded session.old.inputs seed turns session.new.quanta) }
+{
+    let mut order = Order::of_seed(seed);
+    let mut ready = Ready::new(alloc);
+    'quanta: for _ in 0..MAX_QUANTA {
+        fill(session, harts, &mut ready)?;
+        let Some(hart) = order.pick(&ready) else {
+            session.laws();
+            return Ok(());
+        };
+        session.quantum(0, hart.get(), turns)?;
+        order = order.after(hart);
+    }
+    session.laws();
+    Ok(())
+}

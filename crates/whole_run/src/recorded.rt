@@ -1,0 +1,97 @@
+//! What is left of a run.
+
+ghost use Rattle.std.specs.Prelude.{◌≡◌, ◌≤◌, false, IfErr, IfOk, None};
+ghost use Rattle.session.specs.Given.{AreGiven};
+ghost use Rattle.session.specs.Sessions.{begun, IsStartFault};
+ghost use Rattle.session_spec.specs.Opening.{bad_pick};
+ghost use Rattle.whole_run.specs.Recorded.{IsRecorded, log_of};
+
+use crate::order::take_quanta;
+use pn_types::{MAX_QUANTUM, NoMemory, Settings};
+use quanta_log::write;
+use report::report;
+use session::{Inputs, Session, StartFault};
+use std::alloc::Global;
+
+/// What is left of a run.
+#[derive(Drop)]
+pub struct Recorded {
+    /// The text of its report.
+    pub report: Vec<u8>,
+    /// The bytes of its log, or none where none was asked for.
+    pub log: Vec<u8>,
+}
+
+/// In which order harts take quanta, and what is asked for of the run.
+#[derive(Clone, Copy, Debug, PartialEq, Eq, Drop)]
+pub struct Course {
+    /// The seed of the order.
+    pub seed: u32,
+    /// The turns of a quantum, at most.
+    pub turns: u32,
+    /// The number of the program's function symbols that are no procedures.
+    pub skipped: u32,
+    /// A log is asked for.
+    pub logged: bool,
+}
+
+/// The bytes of a session's log, if one is asked for.
+fn log_of(
+    alloc: Global,
+    settings: &Settings,
+    session: &Session,
+    logged: bool,
+) -> Result<Vec<u8>, NoMemory>
+    requires given { AreGiven session.now.inputs }
+    requires settings { settings.now ≡ session.now.inputs.settings }
+    ensures { IfOk result (λ log. log.items ≡ log_of logged session.now.inputs session.now.quanta) }
+{
+    session.laws();
+    if logged {
+        write(alloc, settings, session.quanta())
+    } else {
+        Ok(Vec::new(alloc))
+    }
+}
+
+/// Runs a session that just began to its end.
+fn run_on(
+    alloc: Global,
+    settings: &Settings,
+    session: &mut Session,
+    course: &Course,
+) -> Result<Recorded, NoMemory>
+    requires given { AreGiven session.old.inputs }
+    requires begun { session.old ≡ begun session.old.inputs }
+    requires settings { settings.now ≡ session.old.inputs.settings }
+    requires turns { (1 ≤ course.now.turns) × (course.now.turns ≤ MAX_QUANTUM) }
+    ensures { IfOk result (IsRecorded session.old.inputs course.now) }
+{
+    take_quanta(alloc, session, settings.harts, course.seed, course.turns)?;
+    let log = log_of(alloc, settings, session, course.logged)?;
+    session.close();
+    let parts = session.parts()?;
+    let report = report(alloc, &parts, course.skipped)?;
+    Ok(Recorded { report, log })
+}
+
+/// Runs a program with its instruments: its harts take quanta in the order of a seed until none can follow. It answers the report
+/// and the log.
+///
+/// # Errors
+///
+/// `NoMemory` where memory is wanting; `BadPick` with the first wish at tick 0 that is refused, if one is.
+pub fn record_run(alloc: Global, inputs: Inputs, course: &Course) -> Result<Recorded, StartFault>
+    requires given { AreGiven inputs }
+    requires turns { (1 ≤ course.now.turns) × (course.now.turns ≤ MAX_QUANTUM) }
+    ensures recorded { IfOk result (IsRecorded inputs course.now) }
+    ensures picked { IfOk result (λ recorded. bad_pick inputs ≡ None) }
+    ensures refused { IfErr result (IsStartFault inputs) }
+{
+    let settings = inputs.settings;
+    let mut session = Session::new(alloc, inputs)?;
+    match run_on(alloc, &settings, &mut session, course) {
+        Ok(recorded) => Ok(recorded),
+        Err(_) => Err(StartFault::NoMemory),
+    }
+}
