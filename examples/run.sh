@@ -11,16 +11,16 @@ check() {
   name=$1
   shift
   "$paradyn" asm "$name.s" >"$made" && cmp "$made" "$name.elf" || failed=1
-  "$paradyn" run "$name.elf" empty.conf "$@" >"$made" && cmp "$made" "$name.report" || failed=1
+  "$paradyn" run "$name.elf" "$name.conf" "$@" >"$made" && cmp "$made" "$name.report" || failed=1
 }
 check_plan() {
   name=$1
   shift
   "$paradyn" plan "$name.elf" metrics.conf "$@" >"$made" && cmp "$made" "$name.plan" || failed=1
 }
-check crc
-check tickets --harts 4
-check rounds --harts 4 --quantum 25
+check crc --width 500
+check tickets --harts 4 --width 10000
+check rounds --harts 4 --quantum 25 --width 5000
 check_plan tickets sync_wait /SyncObject/lock_tickets
 [ "$failed" = 0 ] && echo "all examples print what they should"
 exit "$failed"

@@ -2,7 +2,9 @@
 //! values that it has, or `usage`; and behind it the name of the log, where they give one.
 #![tactic(auto)]
 
-use command_words::{PlanRequest, Request, RunRequest, WordFault, log_name, read_request};
+use command_words::{
+    PlanRequest, ReplayRequest, Request, RunRequest, WordFault, log_name, read_request,
+};
 use pn_types::{NoMemory, Start};
 use std::alloc::Global;
 use std::io;
@@ -43,6 +45,14 @@ fn run_text(alloc: Global, run: &RunRequest<'_>) -> Result<String, NoMemory> {
     format!(in alloc; "run [{program}] [{conf}] {numbers} {rest} seed {seed} quantum {quantum}")
 }
 
+/// What `replay` is asked for.
+fn replay_text(alloc: Global, replay: &ReplayRequest<'_>) -> Result<String, NoMemory> {
+    let program = replay.program;
+    let conf = replay.conf;
+    let log = replay.log;
+    format!(in alloc; "replay [{program}] [{conf}] [{log}]")
+}
+
 /// What `plan` is asked for.
 fn plan_text(alloc: Global, plan: &PlanRequest<'_>) -> Result<String, NoMemory> {
     let program = plan.program;
@@ -57,9 +67,11 @@ fn plan_text(alloc: Global, plan: &PlanRequest<'_>) -> Result<String, NoMemory> 
 fn request_text(alloc: Global, words: &[String]) -> Result<String, NoMemory> {
     match read_request(alloc, words) {
         Ok(Request::Run(run)) => run_text(alloc, &run),
+        Ok(Request::Replay(replay)) => replay_text(alloc, &replay),
         Ok(Request::Plan(plan)) => plan_text(alloc, &plan),
         Ok(Request::Asm(text)) => format!(in alloc; "asm [{text}]"),
         Ok(Request::Points(program)) => format!(in alloc; "points [{program}]"),
+        Ok(Request::Relog(log)) => format!(in alloc; "relog [{log}]"),
         Ok(Request::Later) => String::from_str(alloc, "later"),
         Err(WordFault::Usage) => String::from_str(alloc, "usage"),
         Err(WordFault::NoMemory) => Err(NoMemory {}),

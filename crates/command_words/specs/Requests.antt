@@ -41,6 +41,11 @@ pub record RunRequest : Type 0 where
   pub quantum : ℕ
   pub log : Option Text
 
+pub record ReplayRequest : Type 0 where
+  pub program : Text
+  pub conf : Text
+  pub log : Text
+
 pub record PlanRequest : Type 0 where
   pub program : Text
   pub conf : Text
@@ -50,9 +55,12 @@ pub record PlanRequest : Type 0 where
 
 pub data Request : Type 0 where
   run : RunRequest → Request
+  replay : ReplayRequest → Request
   make_plan : PlanRequest → Request
   assemble : Text → Request
   list_points : Text → Request
+  -- to write the log of this name anew
+  relog : Text → Request
   -- a command that isn't supported yet
   later : Request
 
@@ -82,12 +90,12 @@ stress_request given =
 abbrev pub request_from : CommandName → Given → Option Request
 request_from Run given = run_request given
 request_from Live given = live_request given
-request_from Replay given = Some later
+request_from Replay given = Some (replay (record { program = place_in given (codes "program"); conf = place_in given (codes "conf"); log = place_in given (codes "record") }))
 request_from Asm given = Some (assemble (place_in given (codes "text")))
 request_from Points given = Some (list_points (place_in given (codes "program")))
 request_from Plan given = plan_request given
 request_from Stress given = stress_request given
-request_from Relog given = Some later
+request_from Relog given = Some (relog (place_in given (codes "record")))
 
 -- What the words ask for; none where they are no command.
 abbrev pub request_of : List Text → Option Request
@@ -97,7 +105,9 @@ request_of (word ∷ words) = option_and_then (λ name. option_and_then (λ take
 -- the numbers of a request are in their ranges
 abbrev pub HasRanges : Request → Type 0
 HasRanges (run r) = AreInRange r.settings × (1 ≤ r.quantum) × (r.quantum ≤ MAX_QUANTUM)
+HasRanges (replay r) = Unit {0}
 HasRanges (make_plan p) = (1 ≤ p.harts) × (p.harts ≤ MAX_HARTS)
 HasRanges (assemble text) = Unit {0}
 HasRanges (list_points program) = Unit {0}
+HasRanges (relog log) = Unit {0}
 HasRanges later = Unit {0}

@@ -32,6 +32,17 @@ pub struct RunRequest<'a> {
     pub log: Option<&'a str>,
 }
 
+/// What `replay` is asked for.
+#[derive(Clone, Copy, Drop)]
+pub struct ReplayRequest<'a> {
+    /// The name of the program's file.
+    pub program: &'a str,
+    /// The name of the configuration's file.
+    pub conf: &'a str,
+    /// The name of the log's file.
+    pub log: &'a str,
+}
+
 /// What `plan` is asked for.
 #[derive(Clone, Copy, Drop)]
 pub struct PlanRequest<'a> {
@@ -52,12 +63,16 @@ pub struct PlanRequest<'a> {
 pub enum Request<'a> {
     /// To run a program.
     Run(RunRequest<'a>),
+    /// To run a program again as its log says.
+    Replay(ReplayRequest<'a>),
     /// To show how a metric is measured at a focus.
     Plan(PlanRequest<'a>),
     /// To assemble the text of this name.
     Asm(&'a str),
     /// To list the points of the program of this name.
     Points(&'a str),
+    /// To write the log of this name anew.
+    Relog(&'a str),
     /// A command that isn't supported yet.
     Later,
 }
@@ -166,12 +181,16 @@ pub fn request_from<'a, G: Given<'a>>(name: CommandName, given: &G) -> Option<Re
     match name {
         CommandName::Run => run_request(given),
         CommandName::Live => live_request(given),
-        CommandName::Replay => Some(Request::Later),
+        CommandName::Replay => Some(Request::Replay(ReplayRequest {
+            program: place(given, "program"),
+            conf: place(given, "conf"),
+            log: place(given, "record"),
+        })),
         CommandName::Asm => Some(Request::Asm(place(given, "text"))),
         CommandName::Points => Some(Request::Points(place(given, "program"))),
         CommandName::Plan => plan_request(given),
         CommandName::Stress => stress_request(given),
-        CommandName::Relog => Some(Request::Later),
+        CommandName::Relog => Some(Request::Relog(place(given, "record"))),
     }
 }
 

@@ -1,7 +1,6 @@
 use crate::images::image;
-use plain_report::report_of_run;
 use plain_run::{PlainMachine, run_schedule};
-use pn_types::{HartNo, Settings};
+use pn_types::HartNo;
 use rv_word::Cause;
 use std::test::Fail;
 use turn_order::{Order, Ready, generated};
@@ -18,17 +17,6 @@ fn runs_to_the_exit(rt: HostRuntime) -> Result<(), Fail> {
     assert_eq!(rt; machine.at(last), 0x1_0008);
     assert_eq!(rt; machine.output().len(), 0);
     assert!(rt; !machine.runnable(last));
-    Ok(())
-}
-
-#[test]
-fn reports_the_run(rt: HostRuntime) -> Result<(), Fail> {
-    let alloc = rt.alloc();
-    let settings = Settings::new(1, 100, 16, 10).expect(&rt, "in range");
-    let report = report_of_run(alloc, &image(alloc)?, &settings, 0, 50)?;
-    let want =
-        "paradyn report 1\nharts 1 ticks 3 samples 1 skipped 0\nhart 0 ticks 3 exit 7 at 0x10008\noutput 0\n\n";
-    assert_eq!(rt; report.as_slice(), want.as_bytes());
     Ok(())
 }
 

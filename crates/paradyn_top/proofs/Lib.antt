@@ -1,6 +1,10 @@
+mod Each
 mod FewItems
 mod SightSteps
 mod PlanLemmas
+mod Inside
+mod Wished
+mod Given
 mod OneDue
 mod Rising
 mod OneOwed

@@ -1,6 +1,6 @@
 -- What is due is unique where each file was seen as one thing.
 use Rattle.std.proofs.Common.{◌≡◌, ℕ, List, Option, Some, None, Bool, true, false, Result, Ok, Err, sym, ap, ◌∙◌}
-use Rattle.command_words.specs.Requests.{Request, RunRequest, PlanRequest, run, make_plan, assemble, list_points, later, request_of}
+use Rattle.command_words.specs.Requests.{Request, RunRequest, ReplayRequest, PlanRequest, run, replay, make_plan, assemble, list_points, relog, later, request_of}
 use Rattle.elf_form.specs.declared.limits.TheConstants.{MAX_PROGRAM_LEN}
 use Rattle.mdl_ast.specs.declared.items.Conf.{Conf}
 use Rattle.mdl_check.specs.Checking.{OneAnswer}
@@ -14,29 +14,43 @@ use Rattle.mdl_parse.specs.declared.fault.SyntaxKind.{SyntaxKind}
 use Rattle.mdl_plan.specs.Plans.{plan_of}
 use Rattle.mdl_plan.specs.declared.fault.PlanFault.{PlanFault}
 use Rattle.mdl_plan.specs.declared.fault.PlanFault.TheVariants as cause
-use Rattle.plain_report.specs.Reports.{OneReport}
 use Rattle.pn_types.specs.declared.code.Proc.{Proc}
 use Rattle.pn_types.specs.declared.image.Image.{Image}
 use Rattle.pn_types.specs.declared.plan.Plan.{Plan}
+use Rattle.pn_types.specs.declared.settings.Start.{Start}
+use Rattle.pn_types.specs.declared.settings.Start.TheVariants.{Cold, Warm}
 use Rattle.pn_types.specs.declared.code.Point.{Point}
+use Rattle.quanta_log.specs.Meaning.{meaning_of}
+use Rattle.quanta_log.specs.declared.quantum.Quantum.{Quantum}
 use Rattle.refusals.proofs.Steps.{IsOne, one_then}
 use Rattle.refusals.specs.Kinds.{fault_at, syntax_kind, check_kind}
 use Rattle.refusals.specs.Refusals.{Step, Then}
 use Rattle.refusals.specs.declared.configuration.ConfKind.TheVariants.{TooLong as TooLongConf}
+use Rattle.refusals.specs.declared.log.LogCause.TheVariants.{TooLong as TooLongLog}
 use Rattle.refusals.specs.declared.program.ProgramFault.TheVariants.{TooLong}
 use Rattle.refusals.specs.declared.fault.Fault.{Fault}
-use Rattle.refusals.specs.declared.fault.Fault.TheVariants.{Usage, BadProgram, BadConf, NotYet}
+use Rattle.refusals.specs.declared.fault.Fault.TheVariants.{Usage, BadProgram, BadConf, BadLog, NotYet}
 use Rattle.resource_tree.specs.Foci.{OneSelection, canonical}
 use Rattle.resource_tree.specs.Resources.{Resources}
+use Rattle.session_spec.specs.Inputs.{Inputs as SessionInputs}
+use Rattle.session_spec.specs.Opening.{bad_pick}
+use Rattle.session_spec.specs.declared.data.RefusedWish.{RefusedWish}
+use Rattle.whole_run.specs.Replayed.{misfit_of}
+use Rattle.whole_run.specs.Seeded.{OneSeeded}
 use Rattle.paradyn_top.specs.Answers.{output}
-use Rattle.paradyn_top.specs.Due.{asks_instruments, IsRunWith, IsRun, IsRunDue, IsDueFor, IsDue}
+use Rattle.paradyn_top.specs.Due.{texts_of_run, IsOpened, IsRunWith, IsRun, IsRunDue, IsDueFor, IsDue}
 use Rattle.paradyn_top.specs.Found.{resources_of, IsCheck, IsFound}
+use Rattle.paradyn_top.specs.Given.{asks_search, inputs_with}
 use Rattle.paradyn_top.specs.Inputs.{image_of, file_of, MeansConf, IsProgramContent, IsProgram, IsElfFile, IsConfContent, IsConfiguration, AreInputs}
+use Rattle.paradyn_top.specs.Logs.{or_bad_log, IsLog, IsLogContent, MeansLog}
+use Rattle.paradyn_top.specs.Replays.{replayed, IsReplay, IsReplayDue, IsReplayFrom, IsReplayWith}
 use Rattle.paradyn_top.specs.Plans.{metric_named, or_unknown, or_bad_focus, IsSelected, IsPlanned, IsPlanAt, IsPlan}
 use Rattle.paradyn_top.specs.Sights.{Sight, limited, IsContent}
 use Rattle.paradyn_top.specs.declared.configuration.TheConstants.{CONFIGURATION_LIMIT}
 use Rattle.paradyn_top.specs.declared.finding.Found.{Found}
 use Rattle.paradyn_top.specs.declared.inputs.Inputs.{Inputs}
+use Rattle.paradyn_top.specs.declared.logs.Log.{Log}
+use Rattle.paradyn_top.specs.declared.logs.TheConstants.{LOG_LIMIT}
 
 -- the laws of what the top call's steps stand upon
 pub record Laws : Type 0 where
@@ -45,7 +59,7 @@ pub record Laws : Type 0 where
   pub either : ConfOrFault
   pub answer : OneAnswer
   pub selection : OneSelection
-  pub report : OneReport
+  pub seeded : OneSeeded
 
 equal_once : {A : Type 0} (value : Result A Fault) → IsOne (λ r. r ≡ value)
 equal_once value a b e f = e ∙ sym f
@@ -143,10 +157,26 @@ module _ (laws : Laws) where
 
   -- ---- runs
 
-  run_once : (r : RunRequest) (image : Image) (asks : Bool) → IsOne (IsRunWith r image asks)
-  run_once r image true a b e f = e ∙ sym f
-  run_once r image false a b (text, reports, e) (other, reports', f) =
-      e ∙ ap (λ (t : List ℕ). Ok (output t)) (laws.report image r.settings r.seed r.quantum text other reports reports') ∙ sym f
+  opened_once : (pick : Option RefusedWish) (r : RunRequest) (image : Image) (i : SessionInputs) → IsOne (IsOpened pick r image i)
+  opened_once None r image i a b (quanta, seeded, e) (others, seeded', f) =
+      e ∙ ap (λ (l : List Quantum). Ok (texts_of_run r image i l)) (laws.seeded i r.seed r.quantum quanta others seeded seeded') ∙ sym f
+  opened_once (Some wish) r image i a b e f = e ∙ sym f
+
+  run_once : (asks : Bool) (r : RunRequest) (image : Image) (i : SessionInputs) → IsOne (IsRunWith asks r image i)
+  run_once true r image i a b e f = e ∙ sym f
+  run_once false r image i a b e f = opened_once (bad_pick i) r image i a b e f
+
+  -- ---- logs
+
+  replay_once : (asks : Bool) (log : Log) (image : Image) (i : SessionInputs) → IsOne (IsReplayWith asks log image i)
+  replay_once true log image i = equal_once (Err NotYet)
+  replay_once false log image i = equal_once (replayed (bad_pick i) (misfit_of i log.quanta) log image i)
+
+  replay_from_once : (start : Start) (log : Log) (i : Inputs) → IsOne (IsReplayFrom start log i)
+  replay_from_once Warm log i = equal_once (Err NotYet)
+  replay_from_once Cold log i =
+      one_then (IsFound i.image log.settings.harts i.conf) (IsReplay log i.image) (found_once i.image log.settings.harts i.conf)
+      (λ found. replay_once (asks_search found.checked) log i.image (inputs_with i.image found log.settings))
 
   module _ (sees : Sight) (once : (name : List ℕ) → IsOne (sees name)) where
     content_once : (most : ℕ) (too_long : Fault) (name : List ℕ) → IsOne (IsContent sees most too_long name)
@@ -163,16 +193,24 @@ module _ (laws : Laws) where
         (λ image. one_then (IsConfiguration sees conf) (ended image) (one_then (IsConfContent sees conf) MeansConf (content_once CONFIGURATION_LIMIT (BadConf (fault_at 0 0 TooLongConf)) conf) conf_once)
         (λ c. equal_once (Ok (record { image = image; conf = c }))))
 
-    run_due_once : (r : RunRequest) (log : Option (List ℕ)) → IsOne (IsRunDue r log sees)
-    run_due_once r (Some log) = equal_once (Err NotYet)
-    run_due_once r None =
+    run_due_once : (r : RunRequest) → IsOne (IsRunDue r sees)
+    run_due_once r =
         one_then (AreInputs sees r.program r.conf) (λ i. Then (IsFound i.image r.settings.harts i.conf) (IsRun r i.image)) (inputs_once r.program r.conf)
         (λ i. one_then (IsFound i.image r.settings.harts i.conf) (IsRun r i.image) (found_once i.image r.settings.harts i.conf)
-        (λ found. run_once r i.image (asks_instruments found.checked)))
+        (λ found. run_once (asks_search found.checked) r i.image (inputs_with i.image found r.settings)))
+
+    log_once : (name : List ℕ) → IsOne (IsLog sees name)
+    log_once name = one_then (IsLogContent sees name) MeansLog (content_once LOG_LIMIT (BadLog LOG_LIMIT TooLongLog) name) (λ bytes. equal_once (or_bad_log bytes (meaning_of bytes)))
+
+    replay_due_once : (r : ReplayRequest) → IsOne (IsReplayDue r sees)
+    replay_due_once r =
+        one_then (AreInputs sees r.program r.conf) (λ i. Then (IsLog sees r.log) (λ log. IsReplayFrom log.settings.start log i)) (inputs_once r.program r.conf)
+        (λ i. one_then (IsLog sees r.log) (λ log. IsReplayFrom log.settings.start log i) (log_once r.log) (λ log. replay_from_once log.settings.start log i))
 
     due_for_once : (asked : Option Request) → IsOne (IsDueFor asked sees)
     due_for_once None = equal_once (Err Usage)
-    due_for_once (Some (run r)) = run_due_once r r.log
+    due_for_once (Some (run r)) = run_due_once r
+    due_for_once (Some (replay r)) = replay_due_once r
     due_for_once (Some (make_plan p)) =
         one_then (AreInputs sees p.program p.conf) (λ i. Then (IsFound i.image p.harts i.conf) (IsPlan p)) (inputs_once p.program p.conf)
         (λ i. one_then (IsFound i.image p.harts i.conf) (IsPlan p) (found_once i.image p.harts i.conf) (plan_once p))
@@ -180,6 +218,7 @@ module _ (laws : Laws) where
     due_for_once (Some (assemble name)) =
         one_then (IsElfFile sees name) (λ file texts. texts ≡ Ok (output file))
         (one_then (IsProgramContent sees name) (λ bytes file. file ≡ file_of bytes) (content_once MAX_PROGRAM_LEN (BadProgram TooLong) name) (λ bytes. equal_once (file_of bytes))) (λ file. equal_once (Ok (output file)))
+    due_for_once (Some (relog name)) = one_then (IsLog sees name) _ (log_once name) (λ log. equal_once _)
     due_for_once (Some later) = equal_once (Err NotYet)
 
     pub due_once : (words : List (List ℕ)) → IsOne (IsDue words sees)

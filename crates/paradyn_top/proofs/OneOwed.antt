@@ -8,7 +8,7 @@ use Rattle.outside.specs.Causes.{count_up, Rose}
 use Rattle.outside.specs.Outside.{Holding, IsWhole, IsCalm}
 use Rattle.refusals.proofs.Steps.{IsOne}
 use Rattle.refusals.specs.declared.fault.Fault.{Fault}
-use Rattle.refusals.specs.declared.fault.Fault.TheVariants.{Usage, FileFault, BadProgram, BadConf, BadPick, NotYet}
+use Rattle.refusals.specs.declared.fault.Fault.TheVariants.{Usage, FileFault, BadProgram, BadConf, BadPick, BadLog, NotYet}
 use Rattle.paradyn_top.proofs.OneDue.{Laws, due_once}
 use Rattle.paradyn_top.proofs.Rising.{NotFile, rises}
 use Rattle.paradyn_top.specs.Serving.{IsOwed, AreTold}
@@ -26,6 +26,7 @@ naming (FileFault name) = File name
 naming (BadProgram fault) = Other (BadProgram fault) tt
 naming (BadConf fault) = Other (BadConf fault) tt
 naming (BadPick metric focus why) = Other (BadPick metric focus why) tt
+naming (BadLog place why) = Other (BadLog place why) tt
 naming NotYet = Other NotYet tt
 
 same_bytes : (holding : Holding) (x y : List ℕ) → IsSome holding → IsWhole holding x → IsWhole holding y → x ≡ y
@@ -45,6 +46,7 @@ module _ {F : Type 0} (holds : F → List ℕ → Holding) (faults : F → List 
   calm_of (BadProgram fault) other c = c
   calm_of (BadConf fault) other c = c
   calm_of (BadPick metric focus why) other c = c
+  calm_of (BadLog place why) other c = c
   calm_of NotYet other c = c
 
   seen_once : IsCalm faults old new → (name : List ℕ) → IsOne (seen (holds old) (faults old) (faults new) name)

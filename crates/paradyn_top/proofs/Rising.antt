@@ -2,7 +2,7 @@
 use Rattle.std.proofs.Common.{◌≡◌, ℕ, List, length, Option, Some, None, Bool, true, false, cond, Result, Ok, Err, sym, subst}
 use Rattle.std.specs.Prelude.{⊤, nat_lt}
 use Rattle.asm_file.specs.Made.{elf_of}
-use Rattle.command_words.specs.Requests.{Request, RunRequest, PlanRequest, run, make_plan, assemble, list_points, later, request_of}
+use Rattle.command_words.specs.Requests.{Request, RunRequest, ReplayRequest, PlanRequest, run, replay, make_plan, assemble, list_points, relog, later, request_of}
 use Rattle.elf_form.specs.Meaning.{meaning_of}
 use Rattle.elf_form.specs.declared.fault.ElfFault.{ElfFault}
 use Rattle.elf_form.specs.declared.limits.TheConstants.{MAX_PROGRAM_LEN}
@@ -16,26 +16,45 @@ use Rattle.outside.specs.Outside.{Holding}
 use Rattle.pn_types.specs.declared.focus.Focus.{Focus}
 use Rattle.pn_types.specs.declared.image.Image.{Image}
 use Rattle.pn_types.specs.declared.plan.Plan.{Plan}
+use Rattle.pn_types.specs.declared.settings.Settings.{Settings}
+use Rattle.pn_types.specs.declared.settings.Start.{Start}
+use Rattle.pn_types.specs.declared.settings.Start.TheVariants.{Cold, Warm}
+use Rattle.quanta_log.specs.Meaning.{meaning_of as log_of}
+use Rattle.quanta_log.specs.declared.fault.LogFault.{LogFault}
+use Rattle.quanta_log.specs.declared.fault.LogFault.TheVariants as log_fault
+use Rattle.quanta_log.specs.declared.quantum.Quantum.{Quantum}
 use Rattle.refusals.proofs.Steps.{of_either}
 use Rattle.refusals.specs.Kinds.{fault_at}
 use Rattle.refusals.specs.Refusals.{Then}
 use Rattle.refusals.specs.declared.configuration.ConfKind.TheVariants.{TooLong as TooLongConf}
 use Rattle.refusals.specs.declared.fault.Fault.{Fault}
-use Rattle.refusals.specs.declared.fault.Fault.TheVariants.{Usage, FileFault, BadProgram, BadConf, BadPick, NotYet}
+use Rattle.refusals.specs.declared.fault.Fault.TheVariants.{Usage, FileFault, BadProgram, BadConf, BadPick, BadLog, NotYet}
+use Rattle.refusals.specs.declared.log.LogCause.TheVariants.{TooLong as TooLongLog}
 use Rattle.refusals.specs.declared.program.ProgramFault.TheVariants.{TooLong}
 use Rattle.resource_tree.specs.Foci.{canonical}
 use Rattle.resource_tree.specs.Resources.{Resources}
 use Rattle.rv_asm.specs.Assembly.{assembled}
 use Rattle.rv_asm.specs.declared.fault.AsmFault.{AsmFault}
+use Rattle.session_spec.specs.Inputs.{Inputs as SessionInputs}
+use Rattle.session_spec.specs.Opening.{bad_pick}
+use Rattle.session_spec.specs.declared.data.RefusedWish.{RefusedWish}
+use Rattle.whole_run.specs.Replayed.{misfit_of}
+use Rattle.whole_run.specs.declared.misfit.Misfit.{Misfit}
+use Rattle.whole_run.specs.declared.misfit.Misfit.TheVariants as misfit
+use Rattle.paradyn_top.specs.Given.{asks_search, inputs_with}
 use Rattle.paradyn_top.specs.Answers.{output}
-use Rattle.paradyn_top.specs.Due.{asks_instruments, IsRunWith, IsRun, IsRunDue, IsDueFor, IsDue}
+use Rattle.paradyn_top.specs.Due.{IsOpened, IsRunWith, IsRun, IsRunDue, IsDueFor, IsDue}
 use Rattle.paradyn_top.specs.Found.{resources_of, IsCheck, IsFound}
 use Rattle.paradyn_top.specs.Inputs.{begins_elf, or_bad_elf, or_bad_text, image_of, file_of, MeansConf, IsProgramContent, IsProgram, IsElfFile, IsConfContent, IsConfiguration, AreInputs}
+use Rattle.paradyn_top.specs.Logs.{or_bad_log, IsLog, IsLogContent, MeansLog}
+use Rattle.paradyn_top.specs.Replays.{replayed, IsReplay, IsReplayDue, IsReplayFrom, IsReplayWith}
 use Rattle.paradyn_top.specs.Plans.{metric_named, or_unknown, or_bad_focus, IsSelected, IsPlanned, IsPlanAt, IsPlan}
 use Rattle.paradyn_top.specs.Sights.{Sight, seen, limited, IsContent}
 use Rattle.paradyn_top.specs.declared.configuration.TheConstants.{CONFIGURATION_LIMIT}
 use Rattle.paradyn_top.specs.declared.finding.Found.{Found}
 use Rattle.paradyn_top.specs.declared.inputs.Inputs.{Inputs}
+use Rattle.paradyn_top.specs.declared.logs.Log.{Log}
+use Rattle.paradyn_top.specs.declared.logs.TheConstants.{LOG_LIMIT}
 use Rattle.paradyn_top.specs.declared.texts.Texts.{Texts}
 
 -- ---- what names no file as unread
@@ -46,6 +65,7 @@ NotFile (FileFault name) = ⊥
 NotFile (BadProgram fault) = ⊤
 NotFile (BadConf fault) = ⊤
 NotFile (BadPick metric focus why) = ⊤
+NotFile (BadLog place why) = ⊤
 NotFile NotYet = ⊤
 
 abbrev Spares : {A : Type 0} → Result A Fault → Type 0
@@ -94,9 +114,32 @@ plan_spared metric focus (Err (cause.NoConstraint axis)) name e = cc
 plan_spared metric focus (Err (cause.TooManySites n)) name e = cc
 plan_spared metric focus (Err (cause.TooManyStmts at)) name e = cc
 
-run_spared : (r : RunRequest) (image : Image) (asks : Bool) (name : List ℕ) → IsRunWith r image asks (Err (FileFault name)) → ⊥
-run_spared r image true name e = cc
-run_spared r image false name (text, reports, e) = cc
+opened_spared : (pick : Option RefusedWish) (r : RunRequest) (image : Image) (i : SessionInputs) (name : List ℕ) → IsOpened pick r image i (Err (FileFault name)) → ⊥
+opened_spared None r image i name (quanta, seeded, e) = cc
+opened_spared (Some wish) r image i name e = cc
+
+run_spared : (asks : Bool) (r : RunRequest) (image : Image) (i : SessionInputs) (name : List ℕ) → IsRunWith asks r image i (Err (FileFault name)) → ⊥
+run_spared true r image i name e = cc
+run_spared false r image i name e = opened_spared (bad_pick i) r image i name e
+
+log_spared : (bytes : List ℕ) (r : Result (Settings × List Quantum) LogFault) → Spares (or_bad_log bytes r)
+log_spared bytes (Ok log) = tt
+log_spared bytes (Err log_fault.BadHead) = tt
+log_spared bytes (Err (log_fault.Short n)) = tt
+log_spared bytes (Err (log_fault.BadField n)) = tt
+log_spared bytes (Err (log_fault.Trailing n)) = tt
+log_spared bytes (Err log_fault.NoMemory) = tt
+
+replayed_spared : (pick : Option RefusedWish) (m : Option Misfit) (log : Log) (image : Image) (i : SessionInputs) → Spares (replayed pick m log image i)
+replayed_spared (Some wish) m log image i = tt
+replayed_spared None (Some (misfit.NotRunnable number hart)) log image i = tt
+replayed_spared None (Some (misfit.OtherOwns number told owns)) log image i = tt
+replayed_spared None (Some misfit.Unfinished) log image i = tt
+replayed_spared None None log image i = tt
+
+replay_spared : (asks : Bool) (log : Log) (image : Image) (i : SessionInputs) (name : List ℕ) → IsReplayWith asks log image i (Err (FileFault name)) → ⊥
+replay_spared true log image i name e = cc
+replay_spared false log image i name e = spared (replayed (bad_pick i) (misfit_of i log.quanta) log image i) name (replayed_spared (bad_pick i) (misfit_of i log.quanta) log image i) e
 
 -- ---- where a file was read
 
@@ -154,24 +197,42 @@ module _ (holds : List ℕ → Holding) (before now : List ℕ → ℕ) (name : 
   no_usage : due_texts (FileFault name) ≡ due_texts Usage → Rises
   no_usage e = absurd (cc)
 
-  at_run : (r : RunRequest) (log : Option (List ℕ)) → IsRunDue r log sees (Err (FileFault name)) → Rises
-  at_run r (Some log) = not_yet
-  at_run r None =
+  at_run : (r : RunRequest) → IsRunDue r sees (Err (FileFault name)) → Rises
+  at_run r =
       of_either Rises (AreInputs sees r.program r.conf) (λ i. Then (IsFound i.image r.settings.harts i.conf) (IsRun r i.image)) (FileFault name)
       (at_inputs r.program r.conf)
       (λ i. of_either Rises (IsFound i.image r.settings.harts i.conf) (IsRun r i.image) (FileFault name)
       (λ wrong. absurd (check_spared (resources_of i.image r.settings.harts i.conf) i.conf name wrong))
-      (λ found e. absurd (run_spared r i.image (asks_instruments found.checked) name e)))
+      (λ found e. absurd (run_spared (asks_search found.checked) r i.image (inputs_with i.image found r.settings) name e)))
+
+  at_log : (other : List ℕ) → IsLog sees other (Err (FileFault name)) → Rises
+  at_log other =
+      of_either Rises (IsLogContent sees other) MeansLog (FileFault name) (at_content LOG_LIMIT (BadLog LOG_LIMIT TooLongLog) other tt)
+      (λ bytes e. absurd (spared (or_bad_log bytes (log_of bytes)) name (log_spared bytes (log_of bytes)) e))
+
+  at_replay_from : (start : Start) (log : Log) (i : Inputs) → IsReplayFrom start log i (Err (FileFault name)) → Rises
+  at_replay_from Warm log i = not_yet
+  at_replay_from Cold log i =
+      of_either Rises (IsFound i.image log.settings.harts i.conf) (IsReplay log i.image) (FileFault name)
+      (λ wrong. absurd (check_spared (resources_of i.image log.settings.harts i.conf) i.conf name wrong))
+      (λ found e. absurd (replay_spared (asks_search found.checked) log i.image (inputs_with i.image found log.settings) name e))
+
+  at_replay : (r : ReplayRequest) → IsReplayDue r sees (Err (FileFault name)) → Rises
+  at_replay r =
+      of_either Rises (AreInputs sees r.program r.conf) (λ i. Then (IsLog sees r.log) (λ log. IsReplayFrom log.settings.start log i)) (FileFault name) (at_inputs r.program r.conf)
+      (λ i. of_either Rises (IsLog sees r.log) (λ log. IsReplayFrom log.settings.start log i) (FileFault name) (at_log r.log) (λ log. at_replay_from log.settings.start log i))
 
   at_request : (asked : Option Request) → IsDueFor asked sees (Err (FileFault name)) → Rises
   at_request None = no_usage
-  at_request (Some (run r)) = at_run r r.log
+  at_request (Some (run r)) = at_run r
+  at_request (Some (replay r)) = at_replay r
   at_request (Some (make_plan p)) =
       of_either Rises (AreInputs sees p.program p.conf) (λ i. Then (IsFound i.image p.harts i.conf) (IsPlan p)) (FileFault name) (at_inputs p.program p.conf)
       (λ i. of_either Rises (IsFound i.image p.harts i.conf) (IsPlan p) (FileFault name)
       (λ wrong. absurd (check_spared (resources_of i.image p.harts i.conf) i.conf name wrong)) (λ found e. absurd (at_plan p found e)))
   at_request (Some (list_points other)) = of_either Rises (IsProgram sees other) _ (FileFault name) (at_program other) (λ image e. absurd (cc))
   at_request (Some (assemble other)) = of_either Rises (IsElfFile sees other) (λ file texts. texts ≡ Ok (output file)) (FileFault name) (at_text other) (λ file e. absurd (cc))
+  at_request (Some (relog other)) = of_either Rises (IsLog sees other) _ (FileFault name) (at_log other) (λ log e. absurd (cc))
   at_request (Some later) = not_yet
 
   pub rises : (words : List (List ℕ)) → IsDue words sees (Err (FileFault name)) → Rises

@@ -11,8 +11,11 @@ use Rattle.refusals.specs.Refusals.{Refuses}
 use Rattle.refusals.specs.declared.fault.Fault.{Fault}
 use Rattle.refusals.specs.declared.refusal.Refusal.{Refusal}
 use Rattle.refusals.specs.declared.refusal.Refusal.TheVariants as refusal
-use Rattle.paradyn_top.specs.Inputs.{IsProgram, IsConfiguration}
+use Rattle.paradyn_top.specs.Inputs.{IsProgram, IsConfiguration, AreInputs}
+use Rattle.paradyn_top.specs.Logs.{IsLog}
 use Rattle.paradyn_top.specs.Sights.{Sight, seen, IsContent}
+use Rattle.paradyn_top.specs.declared.inputs.Inputs.{Inputs}
+use Rattle.paradyn_top.specs.declared.logs.Log.{Log}
 
 -- a file that is longer than so many bytes has some bytes
 pub some_longer : (holding : Holding) (most : ℕ) → IsLonger holding most → (bytes : List ℕ) × IsWhole holding bytes × (most < length bytes)
@@ -41,6 +44,17 @@ program_again holds before then now name image (Ok bytes, (Ok whole, h, short), 
 program_again holds before then now name image (Ok bytes, (Err fault, h, short), is) = absurd (cc)
 program_again holds before then now name image (Err fault, h, is) = absurd (cc)
 
+-- and so does a configuration
+configuration_again : (holds : List ℕ → Holding) (before then now : List ℕ → ℕ) (name : List ℕ) (conf : Conf) → IsConfiguration (seen holds before then) name (Ok conf) → IsConfiguration (seen holds before now) name (Ok conf)
+configuration_again holds before then now name conf (Ok text, (Ok whole, h, short), means) = (Ok text, (Ok whole, h, short), means)
+configuration_again holds before then now name conf (Ok text, (Err fault, h, short), means) = absurd (cc)
+configuration_again holds before then now name conf (Err fault, h, is) = absurd (cc)
+
+pub inputs_again : (holds : List ℕ → Holding) (before then now : List ℕ → ℕ) (program conf : List ℕ) (i : Inputs) → AreInputs (seen holds before then) program conf (Ok i) → AreInputs (seen holds before now) program conf (Ok i)
+inputs_again holds before then now program conf i (Ok image, p, (Ok c, q, is)) = (Ok image, program_again holds before then now program image p, (Ok c, configuration_again holds before then now conf c q, is))
+inputs_again holds before then now program conf i (Ok image, p, (Err fault, q, is)) = absurd (cc)
+inputs_again holds before then now program conf i (Err fault, p, is) = absurd (cc)
+
 -- a file whose holding and count are those of before
 pub seen_from : (holds later : List ℕ → Holding) (before then now : List ℕ → ℕ) (name : List ℕ) → later name ≡ holds name → then name ≡ before name → (r : Result (List ℕ) Fault) → seen later then now name r → seen holds before now name r
 seen_from holds later before then now name same count (Ok bytes) h = subst (λ x. IsWhole x bytes) same h
@@ -48,6 +62,9 @@ seen_from holds later before then now name same count (Err fault) h = (h.0, subs
 
 pub configuration_from : (sees also : Sight) (name : List ℕ) → ((r : Result (List ℕ) Fault) → sees name r → also name r) → (conf : Result Conf Fault) → IsConfiguration sees name conf → IsConfiguration also name conf
 configuration_from sees also name more conf (content, (bytes, h, short), means) = (content, (bytes, more bytes h, short), means)
+
+pub log_from : (sees also : Sight) (name : List ℕ) → ((r : Result (List ℕ) Fault) → sees name r → also name r) → (log : Result Log Fault) → IsLog sees name log → IsLog also name log
+log_from sees also name more log (content, (bytes, h, short), means) = (content, (bytes, more bytes h, short), means)
 
 pub refuses_as : (P Q : Fault → Type 0) (e : Refusal) → ((fault : Fault) → P fault → Q fault) → Refuses e P → Refuses e Q
 refuses_as P Q (refusal.Fault fault) more h = more fault h

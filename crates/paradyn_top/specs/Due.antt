@@ -1,43 +1,49 @@
 -- What the top call owes for words and files.
-use Rattle.std.specs.Prelude.{◌≡◌, ℕ, ◌||◌, nat_lt, is_some, Bool, true, false, List, length, Option, None, Some, Ok, Err}
+use Rattle.std.specs.Prelude.{◌≡◌, ℕ, is_some, Bool, true, false, List, Option, None, Some, Ok, Err}
 use Rattle.code_points.specs.Points.{points_of}
 use Rattle.code_points.specs.Procedures.{procedures_of, skipped_of}
-use Rattle.command_words.specs.Requests.{Request, RunRequest, PlanRequest, run, make_plan, assemble, list_points, later, request_of}
-use Rattle.mdl_check.specs.declared.checked.Checked.{Checked}
-use Rattle.plain_report.specs.Reports.{IsReport}
+use Rattle.command_words.specs.Requests.{Request, RunRequest, PlanRequest, run, replay, make_plan, assemble, list_points, relog, later, request_of}
 use Rattle.pn_types.specs.declared.image.Image.{Image}
 use Rattle.refusals.specs.Refusals.{Step, Then}
+use Rattle.quanta_log.specs.declared.quantum.Quantum.{Quantum}
 use Rattle.refusals.specs.declared.fault.Fault.TheVariants.{Usage, NotYet}
 use Rattle.report.specs.Points.{points_text}
+use Rattle.session_spec.specs.Inputs.{Inputs}
+use Rattle.session_spec.specs.Opening.{bad_pick}
+use Rattle.session_spec.specs.declared.data.RefusedWish.{RefusedWish}
+use Rattle.whole_run.specs.Recorded.{log_of, report_of}
+use Rattle.whole_run.specs.Seeded.{IsSeeded}
 use Rattle.paradyn_top.specs.Answers.{output}
 use Rattle.paradyn_top.specs.Found.{IsFound}
+use Rattle.paradyn_top.specs.Given.{asks_search, inputs_with, pick_fault}
 use Rattle.paradyn_top.specs.Inputs.{IsProgram, IsElfFile, AreInputs}
 use Rattle.paradyn_top.specs.Plans.{IsPlan}
+use Rattle.paradyn_top.specs.Replays.{IsRelogDue, IsReplayDue}
 use Rattle.paradyn_top.specs.Sights.{Sight}
 use Rattle.paradyn_top.specs.declared.finding.Found.{Found}
 use Rattle.paradyn_top.specs.declared.texts.Texts.{Texts}
 
 -- ---- run
 
--- the configuration asks for what needs instruments: a wish, a search or a phase
-abbrev pub asks_instruments : Checked → Bool
-asks_instruments c = nat_lt 0 (length c.wishes) || is_some c.search || nat_lt 0 (length c.phases)
+-- the report of these quanta, and their log if one is asked for
+abbrev pub texts_of_run : RunRequest → Image → Inputs → List Quantum → Texts
+texts_of_run r image i quanta = record { out = report_of i quanta (skipped_of image); log = log_of (is_some r.log) i quanta }
 
--- the report of a run of the image; what needs instruments isn't supported yet
-abbrev pub IsRunWith : RunRequest → Image → Bool → Step Texts
-IsRunWith r image true texts = texts ≡ Err NotYet
-IsRunWith r image false texts = (text : List ℕ) × IsReport image r.settings r.seed r.quantum text × (texts ≡ Ok (output text))
+-- those of the whole list of quanta in the order of the seed; or the first wish at tick 0 that is refused
+abbrev pub IsOpened : Option RefusedWish → RunRequest → Image → Inputs → Step Texts
+IsOpened None r image i texts = (quanta : List Quantum) × IsSeeded i r.seed r.quantum quanta × (texts ≡ Ok (texts_of_run r image i quanta))
+IsOpened (Some wish) r image i texts = texts ≡ Err (pick_fault i wish)
 
+abbrev pub IsRunWith : Bool → RunRequest → Image → Inputs → Step Texts
+IsRunWith true r image i texts = texts ≡ Err NotYet
+IsRunWith false r image i texts = IsOpened (bad_pick i) r image i texts
+
+-- a run of the image with what was found of it
 abbrev pub IsRun : RunRequest → Image → Found → Step Texts
-IsRun r image found = IsRunWith r image (asks_instruments found.checked)
+IsRun r image found = IsRunWith (asks_search found.checked) r image (inputs_with image found r.settings)
 
-abbrev pub IsRunOf : RunRequest → Sight → Step Texts
-IsRunOf r sees = Then (AreInputs sees r.program r.conf) (λ i. Then (IsFound i.image r.settings.harts i.conf) (IsRun r i.image))
-
--- no log is written yet
-abbrev pub IsRunDue : RunRequest → Option (List ℕ) → Sight → Step Texts
-IsRunDue r (Some log) sees texts = texts ≡ Err NotYet
-IsRunDue r None sees texts = IsRunOf r sees texts
+abbrev pub IsRunDue : RunRequest → Sight → Step Texts
+IsRunDue r sees = Then (AreInputs sees r.program r.conf) (λ i. Then (IsFound i.image r.settings.harts i.conf) (IsRun r i.image))
 
 -- ---- the other commands
 
@@ -57,10 +63,12 @@ IsAssembled name sees = Then (IsElfFile sees name) (λ file texts. texts ≡ Ok 
 
 abbrev pub IsDueFor : Option Request → Sight → Step Texts
 IsDueFor None sees texts = texts ≡ Err Usage
-IsDueFor (Some (run r)) sees texts = IsRunDue r r.log sees texts
+IsDueFor (Some (run r)) sees texts = IsRunDue r sees texts
+IsDueFor (Some (replay r)) sees texts = IsReplayDue r sees texts
 IsDueFor (Some (make_plan p)) sees texts = IsPlanDue p sees texts
 IsDueFor (Some (list_points name)) sees texts = ArePoints name sees texts
 IsDueFor (Some (assemble name)) sees texts = IsAssembled name sees texts
+IsDueFor (Some (relog name)) sees texts = IsRelogDue name sees texts
 IsDueFor (Some later) sees texts = texts ≡ Err NotYet
 
 -- What is due for words and what was seen of files: the texts that were asked for, or the first fault.

@@ -2,7 +2,10 @@ pub mod Answers
 pub mod Sights
 pub mod Inputs
 pub mod Found
+pub mod Given
 pub mod Plans
+pub mod Logs
+pub mod Replays
 pub mod Due
 pub mod Delivery
 pub mod Serving

@@ -9,6 +9,7 @@ ghost use Rattle.refusals.specs.Refusals.{Comes};
 
 use crate::listing::{list_points, write_elf};
 use crate::planning::show_plan;
+use crate::replaying::{relog, replay};
 use crate::running::run;
 use crate::texts::Texts;
 use command_words::{Request, WordFault, read_request};
@@ -28,9 +29,11 @@ fn answer_request<F: Files>(
 {
     match request {
         Request::Run(request) => run(alloc, request, files),
+        Request::Replay(request) => replay(alloc, request, files),
         Request::Plan(request) => show_plan(alloc, request, files),
         Request::Points(program) => list_points(alloc, program, files),
         Request::Asm(text) => write_elf(alloc, text, files),
+        Request::Relog(log) => relog(alloc, log, files),
         Request::Later => Err(Refusal::Fault(Fault::NotYet)),
     }
 }

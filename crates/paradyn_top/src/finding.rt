@@ -12,6 +12,7 @@ ghost use Rattle.mdl_check.specs.Spots.{spots};
 ghost use Rattle.mdl_parse.specs.Shipped.{shipped_conf};
 ghost use Rattle.mdl_plan.specs.Fitting.{HasLowObjects};
 ghost use Rattle.paradyn_top.specs.Found.{resources_of, IsFound, IsCheck};
+ghost use Rattle.paradyn_top.specs.Given.{IsUnscratched, CanRun};
 ghost use Rattle.pn_types.specs.Images.{IsImage};
 ghost use Rattle.refusals.specs.Refusals.{Comes};
 ghost use Rattle.resource_tree.specs.Names.{IsNamed};
@@ -84,6 +85,7 @@ pub struct Found {
 pub(crate) fn find(alloc: Global, image: &Image, harts: u32, conf: &Conf) -> Result<Found, Refusal>
     requires image { IsImage image.now }
     requires modules { AreModulesGood image.now }
+    requires unscratched { IsUnscratched image.now }
     requires harts { harts ≤ MAX_HARTS }
     requires few { length conf.now.items ≤ 1048576 }
     requires small { AllByRecursion HasSmall conf.now.items }
@@ -97,6 +99,8 @@ pub(crate) fn find(alloc: Global, image: &Image, harts: u32, conf: &Conf) -> Res
     ensures sound { IfOk result (λ found. IsSound found.checked) }
     ensures low { IfOk result (λ found. HasLowObjects found.tree) }
     ensures ascending { IfOk result (λ found. IsStrictlyIncreasing (map (λ p. p.at) found.points)) }
+    // So a session takes it.
+    ensures runs { IfOk result (CanRun image.now harts) }
 {
     let (procs, _) = procedures(alloc, image)?;
     let points = points(alloc, image, &procs)?;

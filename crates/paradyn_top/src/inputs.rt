@@ -4,6 +4,7 @@ ghost use Rattle.std.specs.Prelude.{◌≡◌, ◌≤◌, IfOk, length};
 ghost use Rattle.std.specs.List.{AllByRecursion};
 ghost use Rattle.code_points.specs.Procedures.{AreModulesGood};
 ghost use Rattle.mdl_ast.specs.Small.{HasSmall};
+ghost use Rattle.paradyn_top.specs.Given.{IsUnscratched};
 ghost use Rattle.paradyn_top.specs.Inputs.{IsProgramContent, IsProgram, IsElfFile, IsConfiguration, AreInputs};
 ghost use Rattle.paradyn_top.specs.Sights.{seen, Looks};
 ghost use Rattle.pn_types.specs.Images.{IsImage};
@@ -38,6 +39,7 @@ pub(crate) fn read_program<F: Files>(
     ensures program { Comes result (IsProgram (seen (F.holds files.old) (F.faults files.old) (F.faults files.new)) name.now) }
     ensures image { IfOk result IsImage }
     ensures modules { IfOk result AreModulesGood }
+    ensures unscratched { IfOk result IsUnscratched }
     ensures looks { Looks F.holds F.faults files.old files.new result }
 {
     let bytes = read_program_file(alloc, files, name)?;
@@ -94,6 +96,7 @@ pub(crate) fn read_inputs<F: Files>(
     ensures inputs { Comes result (AreInputs (seen (F.holds files.old) (F.faults files.old) (F.faults files.new)) program.now conf.now) }
     ensures image { IfOk result (λ inputs. IsImage inputs.image) }
     ensures modules { IfOk result (λ inputs. AreModulesGood inputs.image) }
+    ensures unscratched { IfOk result (λ inputs. IsUnscratched inputs.image) }
     ensures few { IfOk result (λ inputs. length inputs.conf.items ≤ 1048576) }
     ensures small { IfOk result (λ inputs. AllByRecursion HasSmall inputs.conf.items) }
     ensures looks { Looks F.holds F.faults files.old files.new result }

@@ -5,8 +5,8 @@ ghost use Rattle.paradyn_top.specs.Serving.{OneOwed};
 use mdl_check::one_answer;
 use mdl_parse::one_meaning;
 use outside::Files;
-use plain_report::one_report;
 use resource_tree::one_reading;
+use whole_run::one_seeded;
 
 /// For words, and files whose content is told, one answer is owed: the texts that were asked for, or one fault.
 pub fn one_owed<F: Files>()
@@ -15,5 +15,5 @@ pub fn one_owed<F: Files>()
     one_meaning();
     one_answer();
     one_reading();
-    one_report();
+    one_seeded();
 }

@@ -4,6 +4,7 @@ ghost use Rattle.std.specs.Prelude.{◌≡◌, ◌≤◌, IfOk, length};
 ghost use Rattle.asm_file.specs.Made.{elf_of};
 ghost use Rattle.code_points.specs.Procedures.{AreModulesGood};
 ghost use Rattle.elf_form.specs.Meaning.{meaning_of};
+ghost use Rattle.paradyn_top.specs.Given.{IsUnscratched};
 ghost use Rattle.paradyn_top.specs.Inputs.{begins_elf, or_bad_elf, or_bad_text, image_of, file_of};
 ghost use Rattle.pn_types.specs.Images.{IsImage};
 ghost use Rattle.refusals.specs.Refusals.{Comes};
@@ -36,6 +37,7 @@ fn load_elf(alloc: Global, bytes: &[u8]) -> Result<Image, Refusal>
     ensures loads { Comes result (λ image. image ≡ or_bad_elf (meaning_of bytes.now)) }
     ensures image { IfOk result IsImage }
     ensures modules { IfOk result AreModulesGood }
+    ensures unscratched { IfOk result IsUnscratched }
 {
     match elf_load::load(alloc, bytes) {
         Ok(image) => Ok(image),
@@ -50,6 +52,7 @@ fn load_text(alloc: Global, bytes: &[u8]) -> Result<Image, Refusal>
     ensures loads { Comes result (λ image. image ≡ or_bad_text (assembled bytes.now)) }
     ensures image { IfOk result IsImage }
     ensures modules { IfOk result AreModulesGood }
+    ensures unscratched { IfOk result IsUnscratched }
 {
     match assemble(alloc, bytes) {
         Ok(image) => Ok(image),
@@ -64,6 +67,7 @@ pub(crate) fn load(alloc: Global, bytes: &[u8]) -> Result<Image, Refusal>
     ensures loads { Comes result (λ image. image ≡ image_of bytes.now) }
     ensures image { IfOk result IsImage }
     ensures modules { IfOk result AreModulesGood }
+    ensures unscratched { IfOk result IsUnscratched }
 {
     if begins_elf(bytes) {
         load_elf(alloc, bytes)

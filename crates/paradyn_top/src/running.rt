@@ -1,70 +1,116 @@
 //! The command `run`.
 
-ghost use Rattle.std.specs.Prelude.{◌≡◌, option_map};
+ghost use Rattle.std.specs.Prelude.{◌≡◌, ◌≤◌, false, is_some, IfOk};
+ghost use Rattle.code_points.specs.Procedures.{skipped_of};
 ghost use Rattle.command_words.specs.Asked.{asked_run};
 ghost use Rattle.command_words.specs.Requests.{HasRanges, run};
-ghost use Rattle.paradyn_top.specs.Due.{asks_instruments, IsRun, IsRunOf, IsRunDue};
+ghost use Rattle.paradyn_top.specs.Due.{IsRun, IsRunDue, IsRunWith};
+ghost use Rattle.paradyn_top.specs.Given.{asks_search, inputs_with, CanRun};
 ghost use Rattle.paradyn_top.specs.Sights.{seen, Looks};
 ghost use Rattle.pn_types.specs.Images.{IsImage};
+ghost use Rattle.pn_types.specs.Settings.{AreInRange};
 ghost use Rattle.refusals.specs.Refusals.{Comes};
+ghost use Rattle.session.specs.Given.{AreGiven};
 
 use crate::finding::{Found, find};
 use crate::inputs::read_inputs;
 use crate::texts::Texts;
+use code_points::procedures;
 use command_words::RunRequest;
 use mdl_check::Checked;
 use outside::Files;
-use plain_report::report_of_run;
-use pn_types::Image;
+use pn_types::{Image, MAX_QUANTUM, NoMemory, Seq, Settings};
 use refusals::{Fault, Refusal};
+use report::RefusedPart;
+use session::{Inputs, StartFault};
 use std::alloc::Global;
+use whole_run::{Course, Recorded, record_run};
 
-/// Whether the configuration asks for what needs instruments.
-fn asks_instruments(checked: &Checked) -> bool
-    ensures { result ≡ asks_instruments checked.now }
+/// Whether the configuration asks for what isn't supported yet: a search or a phase.
+pub(crate) fn asks_search(checked: &Checked) -> bool
+    ensures { result ≡ asks_search checked.now }
 {
-    !checked.wishes.as_slice().is_empty()
-        || checked.search.is_some()
-        || !checked.phases.as_slice().is_empty()
+    checked.search.is_some() || !checked.phases.as_slice().is_empty()
 }
 
-/// The report of a run of what was found.
+/// What is asked for of a run of the image.
+fn course(alloc: Global, request: &RunRequest<'_>, image: &Image) -> Result<Course, NoMemory>
+    requires { IsImage image.now }
+    ensures { IfOk result (λ course. course ≡ record { seed = request.now.seed; turns = request.now.quantum; skipped = skipped_of image.now; logged = is_some (asked_run request.now).log }) }
+{
+    let (_, skipped) = procedures(alloc, image)?;
+    Ok(Course {
+        seed: request.seed,
+        turns: request.quantum,
+        skipped,
+        logged: request.log.is_some(),
+    })
+}
+
+/// The texts of what is left of a run.
+fn texts_of(recorded: Recorded) -> Texts
+    ensures { result ≡ record { out = recorded.report.items; log = recorded.log.items } }
+{
+    Texts {
+        out: Seq::from_vec(recorded.report),
+        log: Seq::from_vec(recorded.log),
+    }
+}
+
+/// The refusal of a wish at tick 0.
+pub(crate) fn bad_pick(refused: RefusedPart) -> Refusal
+    ensures { result ≡ Refusal.Fault (Fault.BadPick refused.metric refused.focus refused.cause) }
+{
+    Refusal::Fault(Fault::BadPick(refused.metric, refused.focus, refused.cause))
+}
+
+/// What a session is given: an image, what was found of it, and settings.
+pub(crate) fn session_inputs(image: Image, found: Found, settings: Settings) -> Inputs
+    ensures { result ≡ inputs_with image found settings }
+{
+    Inputs {
+        image,
+        checked: found.checked,
+        tree: found.tree,
+        procs: found.procs,
+        points: found.points,
+        settings,
+    }
+}
+
+/// What is due of a run with these inputs.
+fn run_inputs(alloc: Global, request: &RunRequest<'_>, inputs: Inputs) -> Result<Texts, Refusal>
+    requires given { AreGiven inputs }
+    requires quantum { (1 ≤ request.now.quantum) × (request.now.quantum ≤ MAX_QUANTUM) }
+    ensures { Comes result (IsRunWith false (asked_run request.now) inputs.image inputs) }
+{
+    let course = course(alloc, request, &inputs.image)?;
+    match record_run(alloc, inputs, &course) {
+        Ok(recorded) => Ok(texts_of(recorded)),
+        Err(StartFault::NoMemory) => Err(Refusal::NoMemory),
+        Err(StartFault::BadPick(refused)) => Err(bad_pick(refused)),
+    }
+}
+
+/// What is due of a run of the image with what was found of it.
 fn run_found(
     alloc: Global,
     request: &RunRequest<'_>,
-    image: &Image,
-    found: &Found,
+    image: Image,
+    found: Found,
 ) -> Result<Texts, Refusal>
     requires ranges { HasRanges (run (asked_run request.now)) }
-    requires image { IsImage image.now }
-    ensures { Comes result (IsRun (asked_run request.now) image.now found.now) }
+    requires runs { CanRun image request.now.settings.harts found }
+    ensures { Comes result (IsRun (asked_run request.now) image found) }
 {
-    if asks_instruments(&found.checked) {
+    if asks_search(&found.checked) {
         return Err(Refusal::Fault(Fault::NotYet));
     }
-    let text = report_of_run(
+    run_inputs(
         alloc,
-        image,
-        &request.settings,
-        request.seed,
-        request.quantum,
-    )?;
-    Ok(Texts::output(alloc, text))
-}
-
-/// The report of a run of the files.
-fn run_files<F: Files>(
-    alloc: Global,
-    request: &RunRequest<'_>,
-    files: &mut F,
-) -> Result<Texts, Refusal>
-    requires ranges { HasRanges (run (asked_run request.now)) }
-    ensures due { Comes result (IsRunOf (asked_run request.now) (seen (F.holds files.old) (F.faults files.old) (F.faults files.new))) }
-    ensures looks { Looks F.holds F.faults files.old files.new result }
-{
-    let inputs = read_inputs(alloc, files, request.program, request.conf)?;
-    let found = find(alloc, &inputs.image, request.settings.harts, &inputs.conf)?;
-    run_found(alloc, request, &inputs.image, &found)
+        request,
+        session_inputs(image, found, request.settings),
+    )
 }
 
 /// What is due for `run`.
@@ -74,11 +120,10 @@ pub(crate) fn run<F: Files>(
     files: &mut F,
 ) -> Result<Texts, Refusal>
     requires ranges { HasRanges (run (asked_run request.now)) }
-    ensures due { Comes result (IsRunDue (asked_run request.now) (option_map (λ s. s.now) request.now.log) (seen (F.holds files.old) (F.faults files.old) (F.faults files.new))) }
+    ensures due { Comes result (IsRunDue (asked_run request.now) (seen (F.holds files.old) (F.faults files.old) (F.faults files.new))) }
     ensures looks { Looks F.holds F.faults files.old files.new result }
 {
-    match request.log {
-        Some(_) => Err(Refusal::Fault(Fault::NotYet)),
-        None => run_files(alloc, request, files),
-    }
+    let inputs = read_inputs(alloc, files, request.program, request.conf)?;
+    let found = find(alloc, &inputs.image, request.settings.harts, &inputs.conf)?;
+    run_found(alloc, request, inputs.image, found)
 }

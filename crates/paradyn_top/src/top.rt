@@ -45,15 +45,18 @@ fn reply_to<F: Files>(alloc: Global, words: &[String], files: &mut F) -> Result<
 /// All that the program does: it takes the words of the command line without the program's name, reads the files that
 /// they name, and writes to the output and the log. It answers the program's status:
 ///
-/// - 0: the output gained what was asked for: the report of the program's whole run, the plan of a metric, the program's
-///   points, or the ELF file of an assembly text.
+/// - 0: the output gained what was asked for: the report of the program's whole run, or of a run along the quanta of a log, the plan of
+///   a metric, the program's points, the ELF file of an assembly text, or a log as it is written now. The log of a run gained its
+///   quanta where one was asked for.
 /// - 2: the words are no command, and the output gained the line of that fault.
 /// - 3: a file could not be read, and the output gained a line with its name.
 /// - 4: the program is faulty, and the output gained the line of that fault.
 /// - 5: the configuration is faulty, and the output gained the line of that fault.
-/// - 6: the metric can't be measured at the focus, and the output gained the line of that fault.
+/// - 6: a metric can't be measured at a focus, the plan's or one of the configuration at tick 0, and the output gained the line of
+///   that fault.
 /// - 7: a sink failed; each sink has a prefix of what was due, and the log came first.
 /// - 8: memory was wanting; both sinks are as before.
+/// - 9: the log is faulty, or its quanta aren't those of a whole run, and the output gained the line of that fault.
 /// - 10: the command, the program or the configuration isn't supported yet, and the output gained the line of that fault.
 pub fn serve<F: Files, K: Sink, L: Sink>(
     alloc: Global,

@@ -7,9 +7,11 @@ use Rattle.elf_form.specs.declared.fault.ElfFault.TheVariants as elf
 use Rattle.rv_asm.specs.declared.fault.AsmFault.{AsmFault}
 use Rattle.rv_asm.specs.declared.fault.AsmFault.TheVariants as asm
 use Rattle.refusals.specs.declared.fault.Fault.{Fault}
-use Rattle.refusals.specs.declared.fault.Fault.TheVariants.{Usage, FileFault, BadProgram, BadConf, BadPick, NotYet}
+use Rattle.refusals.specs.declared.fault.Fault.TheVariants.{Usage, FileFault, BadProgram, BadConf, BadPick, BadLog, NotYet}
 use Rattle.refusals.specs.Kinds.{kind_text}
 use Rattle.refusals.specs.declared.configuration.ConfFault.{ConfFault}
+use Rattle.refusals.specs.declared.log.LogCause.{LogCause}
+use Rattle.refusals.specs.declared.log.LogCause.TheVariants as log
 use Rattle.refusals.specs.declared.program.ProgramFault.{ProgramFault}
 use Rattle.refusals.specs.declared.program.ProgramFault.TheVariants.{Elf, Asm, TooLong}
 
@@ -51,6 +53,17 @@ program_text (Elf fault) = elf_text fault
 program_text (Asm fault) = asm_text fault
 program_text TooLong = codes "too long"
 
+-- what is wrong with a log
+abbrev pub log_text : LogCause → List ℕ
+log_text log.BadHead = codes "bad head"
+log_text log.Short = codes "short"
+log_text log.BadField = codes "bad field"
+log_text log.Trailing = codes "trailing"
+log_text log.TooLong = codes "too long"
+log_text (log.NotRunnable hart) = codes "hart " ++ decimal hart ++ codes " not runnable"
+log_text (log.OtherOwns of_log of_run) = codes "owns " ++ decimal of_log ++ codes " not " ++ decimal of_run
+log_text log.Unfinished = codes "unfinished"
+
 -- what is wrong with a configuration, and where
 abbrev pub conf_text : ConfFault → List ℕ
 conf_text f = codes "line " ++ decimal f.line ++ codes " column " ++ decimal f.col ++ codes ": " ++ kind_text f.kind
@@ -65,6 +78,7 @@ fault_line (FileFault name) = codes "paradyn: cannot read " ++ name ++ codes "\n
 fault_line (BadProgram fault) = codes "paradyn: bad program: " ++ program_text fault ++ codes "\n"
 fault_line (BadConf fault) = codes "paradyn: bad configuration: " ++ conf_text fault ++ codes "\n"
 fault_line (BadPick metric focus cause) = codes "paradyn: cannot measure " ++ (pick_text metric focus ++ (codes ": " ++ (cause_text cause ++ codes "\n")))
+fault_line (BadLog place cause) = codes "paradyn: bad log at " ++ decimal place ++ codes ": " ++ log_text cause ++ codes "\n"
 fault_line NotYet = codes "paradyn: not yet\n"
 
 abbrev pub fault_status : Fault → ℕ
@@ -73,4 +87,5 @@ fault_status (FileFault name) = 3
 fault_status (BadProgram fault) = 4
 fault_status (BadConf fault) = 5
 fault_status (BadPick metric focus cause) = 6
+fault_status (BadLog place cause) = 9
 fault_status NotYet = 10

@@ -1,3 +1,4 @@
 pub mod Kinds
 pub mod Faults
+pub mod Logs
 pub mod Refusals

@@ -2,6 +2,7 @@ ghost use Rattle.std.specs.Prelude.{◌≡◌};
 ghost use Rattle.refusals.specs.Faults.{fault_status};
 
 use crate::configuration::ConfFault;
+use crate::log::LogCause;
 use crate::program::ProgramFault;
 use pn_types::{PickCause, Text};
 
@@ -18,6 +19,8 @@ pub enum Fault {
     BadConf(ConfFault),
     /// The metric of this name can't be measured at the focus of this text.
     BadPick(Text, Text, PickCause),
+    /// The log is faulty at this place, in bytes from its front.
+    BadLog(u64, LogCause),
     /// A part of the input isn't supported yet.
     NotYet,
 }
@@ -33,6 +36,7 @@ impl Fault {
             Fault::BadProgram(_) => 4,
             Fault::BadConf(_) => 5,
             Fault::BadPick(_, _, _) => 6,
+            Fault::BadLog(_, _) => 9,
             Fault::NotYet => 10,
         }
     }

@@ -4,11 +4,13 @@
 mod configuration;
 mod fault;
 mod lines;
+mod log;
 mod program;
 mod refusal;
 
 pub use configuration::{ConfFault, ConfKind, check_kind, syntax_kind};
 pub use fault::Fault;
 pub use lines::faults_text;
+pub use log::LogCause;
 pub use program::ProgramFault;
-pub use refusal::Refusal;
+pub use refusal::{Refusal, bad_log};

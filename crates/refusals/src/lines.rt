@@ -3,6 +3,7 @@ ghost use Rattle.refusals.specs.Faults.{conf_text, pick_text, fault_line};
 
 use crate::configuration::ConfFault;
 use crate::fault::Fault;
+use crate::log::{LogCause, add_log};
 use crate::program::{ProgramFault, add_number, add_program};
 use pn_types::{NoMemory, PickCause, Text};
 use std::alloc::Global;
@@ -62,6 +63,17 @@ fn bad_pick(
     Ok(line)
 }
 
+fn faulty_log(alloc: Global, place: u64, cause: LogCause) -> Result<Vec<u8>, NoMemory>
+    ensures { IfOk result (λ text. text.items ≡ fault_line (Fault.BadLog place cause)) }
+{
+    let mut line = Vec::new(alloc);
+    add_number(alloc, &mut line, b"paradyn: bad log at ", place as u128)?;
+    line.extend_from_slice(b": ")?;
+    add_log(alloc, &mut line, cause)?;
+    line.extend_from_slice(b"\n")?;
+    Ok(line)
+}
+
 /// The line of a fault.
 pub fn faults_text(alloc: Global, fault: &Fault) -> Result<Vec<u8>, NoMemory>
     ensures { IfOk result (λ text. text.items ≡ fault_line fault.now) }
@@ -72,6 +84,7 @@ pub fn faults_text(alloc: Global, fault: &Fault) -> Result<Vec<u8>, NoMemory>
         Fault::BadProgram(fault) => Ok(bad_program(alloc, *fault)?),
         Fault::BadConf(fault) => Ok(bad_configuration(alloc, *fault)?),
         Fault::BadPick(metric, focus, cause) => Ok(bad_pick(alloc, metric, focus, *cause)?),
+        Fault::BadLog(place, cause) => Ok(faulty_log(alloc, *place, *cause)?),
         Fault::NotYet => Ok(b"paradyn: not yet\n".to_vec(alloc)?),
     }
 }

@@ -1,5 +1,10 @@
+ghost use Rattle.std.specs.Prelude.{◌≡◌, ◌≢◌};
+ghost use Rattle.refusals.specs.Logs.{log_fault_at};
+
 use crate::fault::Fault;
+use crate::log::LogCause;
 use pn_types::NoMemory;
+use quanta_log::LogFault;
 
 /// Why a step was refused.
 #[derive(Debug, Drop)]
@@ -19,4 +24,19 @@ impl From<NoMemory> for Refusal {
     fn from(_: NoMemory) -> Self {
         Refusal::NoMemory
     }
+}
+
+/// The refusal of bytes that are no log, or for want of memory.
+pub fn bad_log(fault: LogFault) -> Refusal
+    ensures memory { fault ≡ LogFault.NoMemory → result ≡ Refusal.NoMemory }
+    ensures fault { fault ≢ LogFault.NoMemory → result ≡ Refusal.Fault (log_fault_at fault) }
+{
+    let (place, cause) = match fault {
+        LogFault::BadHead => (0, LogCause::BadHead),
+        LogFault::Short(place) => (place, LogCause::Short),
+        LogFault::BadField(place) => (place, LogCause::BadField),
+        LogFault::Trailing(place) => (place, LogCause::Trailing),
+        LogFault::NoMemory => return Refusal::NoMemory,
+    };
+    Refusal::Fault(Fault::BadLog(place, cause))
 }

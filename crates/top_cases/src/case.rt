@@ -1,4 +1,5 @@
 use crate::given::Given;
+use hex::encode;
 use outside::{MemFiles, MemSink, StdSink, write_all};
 use paradyn_top::{Texts, Words, deliver, run_program};
 use pn_types::{NoMemory, Seq};
@@ -117,6 +118,9 @@ impl Case {
         println!(rt; "{exit:?} out {count} log {logged}")?;
         let mut printed = StdSink::new(rt);
         let _ = write_all(&mut printed, out.bytes());
-        println!(rt; "")
+        if logged == 0 {
+            return println!(rt; "");
+        }
+        println!(rt; "log {}\n", encode(alloc, log.bytes())?.as_str())
     }
 }

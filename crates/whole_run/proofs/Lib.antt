@@ -1,3 +1,5 @@
 pub mod Ordered
 pub mod OneSeeded
 pub mod Logged
+pub mod Fitting
+pub mod Following

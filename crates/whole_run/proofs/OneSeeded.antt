@@ -11,7 +11,7 @@ use Rattle.machine.specs.Turns.{is_runnable}
 use Rattle.session_spec.specs.Inputs.{Inputs}
 use Rattle.session_spec.specs.States.{State}
 use Rattle.session_spec.specs.Work.{Halted, IsWhole, first_state, quantum_of, tend, work, work_from}
-use Rattle.whole_run.specs.Seeded.{AreInOrder, IsSeeded, OneSeeded}
+use Rattle.whole_run.specs.Seeded.{AreInOrder, OneSeeded}
 
 -- behind these quanta no hart can go on, or there are so many
 abbrev Ends : Inputs → ℕ → State → List Quantum → Type 0

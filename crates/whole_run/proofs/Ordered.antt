@@ -13,7 +13,7 @@ use Rattle.quanta_log.specs.declared.quantum.Quantum.{Quantum}
 use Rattle.machine.specs.Turns.{is_runnable}
 use Rattle.session_spec.specs.Inputs.{Inputs}
 use Rattle.session_spec.specs.States.{State}
-use Rattle.session_spec.specs.Work.{AreAllowed, Halted, IsWhole, closed, first_state, quantum_of, tend, work, work_from}
+use Rattle.session_spec.specs.Work.{AreAllowed, Halted, closed, first_state, quantum_of, tend, work, work_from}
 use Rattle.session.specs.Sessions.{SessionData, state_of}
 use Rattle.whole_run.specs.Seeded.{AreInOrder, IsSeeded}
 

@@ -1,2 +1,3 @@
 pub mod Seeded
 pub mod Recorded
+pub mod Replayed

@@ -2,9 +2,13 @@
 #![tactic(auto)]
 
 mod laws;
+mod misfit;
 mod order;
 mod recorded;
+mod replay;
 
-pub use laws::one_seeded;
+pub use laws::{one_seeded, whole_quanta_fit};
+pub use misfit::{Misfit, ReplayFault};
 pub use order::take_quanta;
 pub use recorded::{Course, Recorded, record_run};
+pub use replay::replay_run;

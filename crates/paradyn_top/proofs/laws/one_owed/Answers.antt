@@ -10,6 +10,6 @@ returns g c old new words a b told owed other =
       either = c.one_meaning.ensures.either;
       answer = c.one_answer.ensures;
       selection = c.one_reading.ensures.selection;
-      report = c.one_report.ensures;
+      seeded = c.one_seeded.ensures;
     })
     words a b owed other

@@ -1,8 +1,7 @@
-use Rattle.std.proofs.Common.{◌≡◌, ◌+◌, ◌∙◌, ◌++◌, ◌∷◌, [], ap, sym}
+use Rattle.std.proofs.Common.{◌≡◌, ◌∙◌, ◌++◌, ◌∷◌, [], ap, sym}
 use Rattle.std.specs.Prelude.{true}
 use Rattle.machine.specs.Turns.{is_runnable}
 use Rattle.session_spec.specs.States.{State}
-use Rattle.turn_order.specs.Orders.{ready_of}
 use Rattle.whole_run.proofs.Ordered.{going, may_go, ready_more, ready_past, stuck}
 use Rattle.whole_run.proofs.order.fill.Goals.{then-runnable+in_ok-push, else-runnable}
 use Rattle.whole_run.proofs.order.fill.Goals as goal

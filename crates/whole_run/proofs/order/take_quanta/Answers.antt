@@ -1,4 +1,4 @@
-use Rattle.std.proofs.Common.{◌≡◌, ◌+◌, ◌<◌, ◌≤◌, ◌∙◌, None, Some, ap, arith, subst, sym}
+use Rattle.std.proofs.Common.{◌≡◌, ◌+◌, ◌<◌, ◌∙◌, None, Some, ap, arith, subst, sym}
 use Rattle.pn_types.specs.declared.limits.TheConstants.{MAX_QUANTA}
 use Rattle.session_spec.specs.Inputs.{Inputs}
 use Rattle.turn_order.specs.Orders.{order_after, picked}

@@ -1,4 +1,4 @@
-use Rattle.std.proofs.Common.{◌≡◌, List, subst, sym}
+use Rattle.std.proofs.Common.{List, subst, sym}
 use Rattle.pn_types.specs.declared.settings.Settings.{Settings}
 use Rattle.quanta_log.specs.declared.quantum.Quantum.{Quantum}
 use Rattle.quanta_log.specs.declared.version.Version.TheVariants.{Two}

@@ -1,0 +1,7 @@
+use Rattle.std.proofs.Common.{refl, subst, sym}
+use Rattle.session.specs.Given.{AreGiven}
+use Rattle.session_spec.specs.Inputs.{Inputs}
+use Rattle.paradyn_top.proofs.replaying.replay_found.Goals as goal
+
+pub replay_inputs-requires-clause-given : goal.replay_inputs-requires-clause-given
+replay_inputs-requires-clause-given c = subst (λ (i : Inputs). AreGiven i) (sym c.session_inputs.ensures) (c.requires.runs c.args.log.now.settings c.requires.spelled.settings refl)

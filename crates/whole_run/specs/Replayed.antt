@@ -1,0 +1,70 @@
+-- A run along quanta that are told, as those of a log.
+use Rattle.std.specs.Prelude.{◌≡◌, ℕ, ◌+◌, ◌<◌, ◌≤◌, ◌==◌, ◌&&◌, nat_lt, not, if◌then◌else◌, Bool, Option, Some, None, List, [], ◌∷◌, length}
+use Rattle.std.specs.List.{AllByRecursion, list_any, range_with_len}
+use Rattle.pn_types.specs.declared.limits.TheConstants.{MAX_QUANTA}
+use Rattle.quanta_log.specs.Spelling.{IsQuantum}
+use Rattle.quanta_log.specs.declared.quantum.Quantum.{Quantum}
+use Rattle.machine.specs.Turns.{is_runnable}
+use Rattle.session_spec.specs.Inputs.{Inputs}
+use Rattle.session_spec.specs.Opening.{bad_pick}
+use Rattle.session_spec.specs.States.{Kept, State}
+use Rattle.session_spec.specs.Work.{IsWhole, first_state, quantum_of, tend, work}
+use Rattle.session_spec.specs.declared.data.RefusedWish.{RefusedWish}
+use Rattle.session.specs.Parts.{refused_part}
+use Rattle.whole_run.specs.declared.misfit.Misfit.{Misfit}
+use Rattle.whole_run.specs.declared.misfit.Misfit.TheVariants.{NotRunnable, OtherOwns, Unfinished}
+use Rattle.whole_run.specs.declared.misfit.ReplayFault.{ReplayFault}
+use Rattle.whole_run.specs.declared.misfit.ReplayFault.TheVariants as fault
+
+-- how many ticks the turns of a quantum have
+abbrev pub owns_of : Inputs → Kept → Quantum → ℕ
+owns_of i k q = (quantum_of i q.worker q.hart q.turns k).owns
+
+-- why quantum number n isn't the run's, if it isn't: its hart can't go on, or its turns have another number of ticks
+abbrev pub misfit_at : Inputs → ℕ → Kept → Quantum → Option Misfit
+misfit_at i n k q =
+    if not (is_runnable k.machine.core q.hart) then Some (NotRunnable n q.hart)
+    else if q.owns == owns_of i k q then None
+    else Some (OtherOwns n q.owns (owns_of i k q))
+
+-- the first of quanta that isn't the run's, where the first of them has number n
+abbrev pub misfit_from : Inputs → ℕ → State → List Quantum → Option Misfit
+misfit_from i n s [] = None
+misfit_from i n s (q ∷ quanta) = elim (misfit_at i n s.kept q) [
+  | Some misfit ↦ Some misfit
+  | None ↦ misfit_from i (n + 1) (tend i q.hart q.turns s) quanta
+]
+
+-- a hart could go on behind the quanta
+abbrev pub goes_on : Inputs → List Quantum → Bool
+goes_on i quanta = nat_lt (length quanta) MAX_QUANTA && list_any (is_runnable (work i quanta).kept.machine.core) (range_with_len 0 i.settings.harts)
+
+-- Why the quanta are no whole run, if they aren't one: the first that isn't the run's, or that they end before the run does.
+unfoldable pub misfit_of : Inputs → List Quantum → Option Misfit
+misfit_of i quanta = elim (misfit_from i 0 (first_state i) quanta) [
+  | Some misfit ↦ Some misfit
+  | None ↦ if goes_on i quanta then Some Unfinished else None
+]
+
+-- quanta in range fit exactly where they are a whole run
+abbrev pub WholeFit : Type 0
+WholeFit = (i : Inputs) (quanta : List Quantum) → AllByRecursion (IsQuantum i.settings.harts) quanta → length quanta ≤ MAX_QUANTA →
+    (misfit_of i quanta ≡ None → IsWhole i quanta) × (IsWhole i quanta → misfit_of i quanta ≡ None)
+
+-- the number of the quantum is one of so many
+abbrev pub IsWithin : ℕ → Misfit → Type 0
+IsWithin count (NotRunnable number hart) = number < count
+IsWithin count (OtherOwns number told owns) = number < count
+IsWithin count Unfinished = Unit {0}
+
+-- they are none for this reason, where it isn't want of memory
+abbrev pub IsMisfit : Inputs → List Quantum → ReplayFault → Type 0
+IsMisfit i quanta fault.NoMemory = Unit {0}
+IsMisfit i quanta (fault.BadPick refused) = ⊥
+IsMisfit i quanta (fault.Misfit misfit) = (misfit_of i quanta ≡ Some misfit) × IsWithin (length quanta) misfit
+
+-- why there is no report, where it isn't for want of memory
+abbrev pub IsReplayFault : Inputs → List Quantum → ReplayFault → Type 0
+IsReplayFault i quanta fault.NoMemory = Unit {0}
+IsReplayFault i quanta (fault.BadPick refused) = (wish : RefusedWish) × (bad_pick i ≡ Some wish) × (refused ≡ refused_part i wish)
+IsReplayFault i quanta (fault.Misfit misfit) = (bad_pick i ≡ None) × (misfit_of i quanta ≡ Some misfit) × IsWithin (length quanta) misfit

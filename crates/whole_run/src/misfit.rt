@@ -1,0 +1,36 @@
+use pn_types::NoMemory;
+use report::RefusedPart;
+use session::StartFault;
+
+/// Why quanta that are told are no whole run. Quanta are numbered from 0.
+#[derive(Clone, Copy, Debug, PartialEq, Eq, Drop)]
+pub enum Misfit {
+    /// At the quantum of this number this hart can't go on.
+    NotRunnable(u64, u32),
+    /// The quantum of this number is told to have so many ticks, and has so many.
+    OtherOwns(u64, u32, u32),
+    /// They end before the run does.
+    Unfinished,
+}
+
+/// Why a run along quanta that are told has no report.
+#[derive(Debug, Drop)]
+pub enum ReplayFault {
+    /// Memory is wanting.
+    NoMemory,
+    /// A wish of the opening is refused, the first such. It is told as a report tells it.
+    BadPick(RefusedPart),
+    /// The quanta are no whole run.
+    Misfit(Misfit),
+}
+
+impl From<NoMemory> for ReplayFault {
+    ghost use Rattle.std.specs.Prelude.{◌≡◌};
+    ghost use Rattle.whole_run.specs.declared.misfit.ReplayFault.TheVariants.{NoMemory};
+
+    ghost from_gives = { λ _ fault. fault ≡ NoMemory };
+
+    fn from(_fault: NoMemory) -> ReplayFault {
+        ReplayFault::NoMemory
+    }
+}
