@@ -1,8 +1,10 @@
-ghost use Rattle.std.specs.Prelude.{◌≡◌};
+ghost use Rattle.std.specs.Prelude.{◌≡◌, Some};
+ghost use Rattle.std.specs.Option.{option_copied};
 ghost use Rattle.tramp_spec.specs.Marks.{inside_after, is_jump, is_own};
-ghost use Rattle.code_store.specs.Operations.{IsOperationOf};
+ghost use Rattle.code_store.specs.Operations.{IsOperationOf, IsOwnOf};
 
 use crate::operation::Operation;
+use rv_exec::Flat;
 use rv_word::{Instr, decode};
 use std::marker::Model;
 use tramp_spec::{Mark, MarkedWord};
@@ -12,9 +14,8 @@ use tramp_spec::{Mark, MarkedWord};
 #[derive(Drop)]
 pub struct Slot {
     operation: Operation,
-    marked: MarkedWord,
-    /// The word is a tick of the program.
-    is_tick: bool,
+    word: u32,
+    mark: Mark,
     /// A hart that is inside stays so behind the word.
     keeps_inside: bool,
     /// A hart is inside behind the word.
@@ -23,15 +24,15 @@ pub struct Slot {
 
 impl Model for Slot {
     ghost use Rattle.std.specs.Prelude.{◌≡◌};
-    ghost use Rattle.tramp_spec.specs.Marks.{is_own};
+    ghost use Rattle.rv_word.specs.Table.{decode_of};
     ghost use Rattle.tramp_spec.specs.declared.mark.MarkedWord.{MarkedWord};
-    ghost use Rattle.code_store.specs.Operations.{IsOperationOf, enters_by, keeps_by};
+    ghost use Rattle.code_store.specs.Operations.{IsOperationBy, enters_by, keeps_by};
 
     ghost Value = { MarkedWord };
 
-    ghost view = { λ s. s.marked };
+    ghost view = { λ s. record { word = s.word; mark = s.mark } };
 
-    ghost invariant = { λ s. IsOperationOf s.marked s.operation × (s.is_tick ≡ is_own s.marked.mark) × (s.keeps_inside ≡ keeps_by s.marked.mark s.marked.word) × (s.enters ≡ enters_by s.marked.mark) };
+    ghost invariant = { λ s. IsOperationBy s.mark (decode_of s.word) s.operation × (s.keeps_inside ≡ keeps_by s.mark s.word) × (s.enters ≡ enters_by s.mark) };
 }
 
 /// Whether a word is a jump: jal or jalr.
@@ -48,8 +49,8 @@ impl Slot {
     {
         Slot {
             operation: Operation::new(marked),
-            marked,
-            is_tick: marked.mark == Mark::Own,
+            word: marked.word,
+            mark: marked.mark,
             keeps_inside: match marked.mark {
                 Mark::Own => !is_jump(marked.word),
                 Mark::Enter | Mark::Tool => true,
@@ -64,7 +65,10 @@ impl Slot {
     pub fn marked(&self) -> MarkedWord
         ensures { result ≡ self.now }
     {
-        self.marked
+        MarkedWord {
+            word: self.word,
+            mark: self.mark,
+        }
     }
 
     /// What the word does.
@@ -75,12 +79,20 @@ impl Slot {
         &self.operation
     }
 
+    /// What the word does, if it is one of the program.
+    #[inline(always)]
+    pub fn own(&self) -> Option<&Flat>
+        ensures { IsOwnOf (Some self.now) (option_copied result) }
+    {
+        self.operation.own()
+    }
+
     /// Whether the word is a tick of the program.
     #[inline(always)]
     pub fn is_tick(&self) -> bool
         ensures { result ≡ is_own self.now.mark }
     {
-        self.is_tick
+        self.own().is_some()
     }
 
     /// Whether a hart that goes on is inside behind the word.

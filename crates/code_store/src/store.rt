@@ -1,4 +1,4 @@
-ghost use Rattle.std.specs.Prelude.{◌≡◌, ◌+◌, ◌-◌, ◌*◌, ◌/◌, ◌<◌, ◌≤◌, ◌^◌, ◌||◌, IfOk, IsTrue, length};
+ghost use Rattle.std.specs.Prelude.{◌≡◌, false, ◌+◌, ◌-◌, ◌*◌, ◌/◌, ◌<◌, ◌≤◌, ◌^◌, ◌||◌, IfOk, IsTrue, length};
 ghost use Rattle.std.specs.FinMap.{get, insert, remove};
 ghost use Rattle.std.specs.List.{AllByRecursion};
 ghost use Rattle.std.specs.Option.{option_copied};
@@ -6,6 +6,7 @@ ghost use Rattle.pn_types.specs.Images.{IsImage};
 ghost use Rattle.rv_word.specs.Plain.{program_word};
 ghost use Rattle.tramp_spec.specs.Codes.{fetched_at, is_text_word, is_tool_word, put_words, tool_at};
 ghost use Rattle.code_store.specs.Owners.{owners_with, owners_without};
+ghost use Rattle.code_store.specs.Operations.{IsOwnOf};
 ghost use Rattle.code_store.specs.Stores.{first_code, IsInToolText};
 
 use crate::building::{blank_slots, blank_uses, have_32_bits, own_slots, words};
@@ -13,6 +14,7 @@ use crate::slot::Slot;
 use crate::span::{Span, place_of};
 use crate::word_use::WordUse;
 use pn_types::{Image, NoMemory, TOOL_TEXT_LEN};
+use rv_exec::Flat;
 use std::alloc::Global;
 use std::marker::Model;
 use tramp_spec::{Block, MarkedWord};
@@ -100,6 +102,17 @@ impl Store {
     {
         let span = if inside { &self.tool } else { &self.text };
         span.get(pc)
+    }
+
+    /// What the word does that a hart outside fetches, if it is one of the program.
+    #[inline(always)]
+    pub fn own(&self, pc: u64) -> Option<&Flat>
+        ensures { IsOwnOf (fetched_at self.now.program self.now.code pc false) (option_copied result) }
+    {
+        match self.slot(pc, false) {
+            Some(slot) => slot.own(),
+            None => None,
+        }
     }
 
     /// The first address of the tool text.

@@ -24,7 +24,7 @@ use Rattle.machine.proofs.Reaching.{reaches_more}
 
 -- ---- more turns
 
-leads_on : (s : StoredCode) (budget h k n : ℕ) (x y z : Solo) → Leads s budget h k x y → Leads s budget h n y z → Leads s budget h (k + n) x z
+pub leads_on : (s : StoredCode) (budget h k n : ℕ) (x y z : Solo) → Leads s budget h k x y → Leads s budget h n y z → Leads s budget h (k + n) x z
 leads_on s budget h zero n x y z l m = let e : n ≡ 0 + n = omega arith in subst (λ i. Leads s budget h i x z) e (subst (λ v. Leads s budget h n v z) l m)
 leads_on s budget h (suc k) n x y z l m = let e : suc (k + n) ≡ suc k + n = omega arith in subst (λ i. Leads s budget h i x z) e (l.0, leads_on s budget h k n (turned_alone s h x) y z l.1 m)
 

@@ -56,3 +56,4 @@ pub mod Calls
 pub mod Inside
 pub mod SlotLists
 pub mod LinkedSites
+pub mod Stretches

@@ -20,6 +20,7 @@ pub mod Codes
 pub mod Views
 pub mod Performing
 pub mod Alone
+pub mod Stretches
 pub mod LoopCounted
 pub mod Links
 pub mod ThreeCounters

@@ -12,6 +12,7 @@ mod performing;
 mod quantum;
 mod settling;
 mod slots;
+mod stretch;
 mod turning;
 
 pub use instruments::Sample;

@@ -6,7 +6,8 @@ ghost use Rattle.tramp_spec.specs.Banks.{bank_at, bank_len, is_in_bank, set_bank
 ghost use Rattle.code_store.specs.Operations.{bank_loaded, bank_stored};
 ghost use Rattle.machine.specs.Performing.{Performs, bench_from, stood_after};
 
-use code_store::{Operation, Slot};
+use crate::stretch::run_words;
+use code_store::{Operation, Slot, Store};
 use pn_types::HartNo;
 use rv_exec::{Output, Regs, Reservations};
 use rv_mem::Mem;
@@ -97,9 +98,10 @@ fn store(value: u64, at: u64, pc: &mut u64, stop: &mut Option<Cause>, bank: &mut
 /// Performs a slot's word at pc, by a hart that isn't stopped. It leaves the next pc, or the cause for which the hart stops, and
 /// says whether the hart goes on. A stop changes nothing else. It takes no memory.
 #[inline(always)]
-#[tactic(auto, using(crate::proofs::Performed::run_fits, crate::proofs::Performed::load_fits, crate::proofs::Performed::store_fits, crate::proofs::Performed::access_fits))]
+#[tactic(auto, using(crate::proofs::Performed::run_fits, crate::proofs::Performed::compute_fits, crate::proofs::Performed::load_fits, crate::proofs::Performed::store_fits, crate::proofs::Performed::access_fits))]
 pub fn perform(
     slot: &Slot,
+    code: &Store,
     hart: HartNo,
     ticks: u64,
     pc: &mut u64,
@@ -119,7 +121,10 @@ pub fn perform(
     ensures performed { Performs slot.now hart ticks pc.old regs.old bank.old (prog_of mem.old resv.old out.old) stop.new pc.new regs.new bank.new (prog_of mem.new resv.new out.new) }
 {
     match slot.operation() {
-        Operation::Run(flat) => flat.run(hart, pc, stop, regs, mem, resv, out),
+        Operation::Run(flat) | Operation::Compute(flat) => {
+            run_words(flat, 1, hart, pc, stop, regs, code, mem, resv, out);
+            stop.is_none()
+        }
         Operation::LoadBank { rd, rs1, offset } => {
             let at = regs.get(*rs1).wrapping_add(*offset);
             load(*rd, at, ticks, pc, stop, regs, bank)

@@ -1,15 +1,16 @@
 //! Turns of one hart.
 
-ghost use Rattle.std.specs.Prelude.{◌≡◌, ◌+◌, ◌<◌, ◌≤◌, ◌^◌, true, None, is_none, length};
+ghost use Rattle.std.specs.Prelude.{◌≡◌, ◌+◌, ◌<◌, ◌≤◌, ◌^◌, ◌&&◌, ◌||◌, nat_lt, IsTrue, true, None, is_none, length};
 ghost use Rattle.rv_word.specs.Exec.{prog_of};
 ghost use Rattle.tramp_spec.specs.Banks.{bank_len};
 ghost use Rattle.tramp_spec.specs.Codes.{fetched_at, is_tool_word};
 ghost use Rattle.tramp_spec.specs.Harts.{is_tick};
-ghost use Rattle.machine.specs.Alone.{ArePlaced, TakesAlone, alone_of, turned_alone};
+ghost use Rattle.machine.specs.Alone.{ArePlaced, Leads, TakesAlone, alone_of, may_alone, turned_alone};
 ghost use Rattle.machine.specs.Performing.{solo_of};
 
 use crate::hart::{HartState, home};
 use crate::performing::perform;
+use crate::stretch::run_words;
 use code_store::Store;
 use pn_types::HartNo;
 use rv_exec::{Output, Regs, Reservations};
@@ -22,6 +23,16 @@ pub struct Progress {
     pub pc: u64,
     pub ticks: u64,
     pub inside: bool,
+}
+
+impl Progress {
+    /// Whether a hart can take a turn that is so far, and stopped for this cause or isn't stopped.
+    #[inline(always)]
+    fn may_turn(self, stop: Option<Cause>, budget: u64) -> bool
+        ensures { result ≡ is_none stop && (self.inside || nat_lt self.ticks budget) }
+    {
+        stop.is_none() && (self.inside || self.ticks < budget)
+    }
 }
 
 /// One turn of a hart that isn't stopped. It says whether the hart goes on, and takes no memory.
@@ -59,6 +70,7 @@ fn take_turn(
     };
     let goes = perform(
         slot,
+        store,
         number,
         ticks,
         &mut progress.pc,
@@ -77,6 +89,54 @@ fn take_turn(
         progress.inside = false;
     }
     goes
+}
+
+/// A turn of a hart that can take one, or several by words of the program, at most `most`. It answers how many, and takes no memory.
+#[inline(always)]
+fn take_some(
+    progress: &mut Progress,
+    stop: &mut Option<Cause>,
+    regs: &mut Regs,
+    bank: &mut Vec<u64>,
+    number: HartNo,
+    most: u32,
+    budget: u64,
+    store: &Store,
+    mem: &mut Mem,
+    resv: &mut Reservations,
+    out: &mut Output,
+) -> u32
+    requires number { number < length resv.old }
+    requires bank { length bank.old.items ≡ bank_len }
+    requires most { 1 ≤ most }
+    requires may { IsTrue (may_alone budget (alone_of progress.old stop.old regs.old bank.old.items (prog_of mem.old resv.old out.old))) }
+    requires placed { ArePlaced store.now budget number (alone_of progress.old stop.old regs.old bank.old.items (prog_of mem.old resv.old out.old)) }
+    ensures leads { Leads store.now budget number result (alone_of progress.old stop.old regs.old bank.old.items (prog_of mem.old resv.old out.old)) (alone_of progress.new stop.new regs.new bank.new.items (prog_of mem.new resv.new out.new)) }
+    ensures bound { (1 ≤ result) × (result ≤ most) }
+    ensures room { length bank.new.items ≡ length bank.old.items }
+    ensures harts { length resv.new ≡ length resv.old }
+{
+    if !progress.inside {
+        if let Some(flat) = store.own(progress.pc) {
+            let most = (budget - progress.ticks).min(most as u64) as u32;
+            let turns = run_words(
+                flat,
+                most,
+                number,
+                &mut progress.pc,
+                stop,
+                regs,
+                store,
+                mem,
+                resv,
+                out,
+            );
+            progress.ticks += turns as u64;
+            return turns;
+        }
+    }
+    take_turn(progress, stop, regs, bank, number, store, mem, resv, out);
+    1
 }
 
 impl HartState {
@@ -120,31 +180,24 @@ impl HartState {
         ensures ticks { (self.old.ticks ≤ self.new.ticks) × (self.new.ticks ≤ self.old.ticks + result) }
         ensures harts { length resv.new ≡ length resv.old }
     {
-        if self.stop.is_some() {
-            return 0;
-        }
         let mut progress = self.progress();
-        for turns in 0..most {
-            if !progress.inside && progress.ticks >= budget {
-                self.set_progress(progress);
-                return turns;
-            }
-            if !take_turn(
+        let mut turns = 0;
+        while turns < most && progress.may_turn(self.stop, budget) {
+            turns += take_some(
                 &mut progress,
                 &mut self.stop,
                 &mut self.regs,
                 &mut self.bank,
                 number,
+                most - turns,
+                budget,
                 store,
                 mem,
                 resv,
                 out,
-            ) {
-                self.set_progress(progress);
-                return turns + 1;
-            }
+            );
         }
         self.set_progress(progress);
-        most
+        turns
     }
 }
