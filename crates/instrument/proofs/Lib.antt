@@ -33,6 +33,7 @@ pub mod Spacing
 pub mod Holdings
 pub mod Fitted
 pub mod Slotted
+pub mod Listed
 pub mod Texts
 pub mod Sites
 pub mod RoomsTaken

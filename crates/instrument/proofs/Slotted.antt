@@ -7,6 +7,7 @@ use Rattle.machine.specs.Cores.{In}
 use Rattle.machine.proofs.Lists.{in_map}
 use Rattle.pn_types.specs.declared.limits.TheConstants.{BANK_LEN, FIRST_SLOT}
 use Rattle.instrument.specs.Admission.{slot_count}
+use Rattle.instrument.specs.Listed.{AreInOrder}
 use Rattle.instrument.specs.Placements.{with_state}
 use Rattle.instrument.specs.Spaces.{slots_of, IsRow, AreSlotsOf, IsRoster}
 use Rattle.instrument.specs.declared.number.State.{State}
@@ -40,6 +41,7 @@ roster_new space instruments len capacity e f g = record {
     taken = space_new slots_of first_slot (bank_len - first_slot);
     rows = λ i h. absurd h;
   }));
+  order = subst AreInOrder (sym f) tt;
   memory = omega (arith, g);
 }
 

@@ -2,6 +2,7 @@ pub mod Books
 pub mod Agendas
 pub mod Ledgers
 pub mod Spaces
+pub mod Listed
 pub mod Rosters
 pub mod ToolTexts
 pub mod Shown

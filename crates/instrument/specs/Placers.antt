@@ -3,6 +3,7 @@
 use Rattle.std.specs.Prelude.{◌≡◌, ℕ, ◌+◌, ◌-◌, ◌*◌, ◌<◌, ◌≤◌, ◌^◌, false, List, [], length}
 use Rattle.machine.specs.Cores.{In}
 use Rattle.pn_types.specs.declared.image.Image.{Image}
+use Rattle.instrument.specs.Listed.{AreNumberedBelow}
 use Rattle.instrument.specs.Needs.{Need, sites_in}
 use Rattle.instrument.specs.Placements.{Placements, no_placements}
 use Rattle.instrument.specs.Rosters.{RosterData}
@@ -41,3 +42,4 @@ AreAdmitted count rooms = (x : Room) → In x rooms → x.base ≡ false → x.o
 pub record IsPlacer (text : ToolTextData) (roster : RosterData) (count : ℕ) (ready : List Need) : Type 0 where
   pub memory : HasMemory text roster count (sites_in ready) (length ready)
   pub admitted : AreAdmitted count text.book.rooms
+  pub listed : AreNumberedBelow count roster.instruments

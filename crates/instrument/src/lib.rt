@@ -9,6 +9,7 @@ mod buffers;
 mod costs;
 mod entry;
 mod event;
+mod finding;
 mod freeing;
 mod giving;
 mod instrument;

@@ -5,11 +5,13 @@ ghost use Rattle.std.specs.Option.{option_copied, option_map};
 ghost use Rattle.tramp_spec.specs.Slots.{places_of};
 ghost use Rattle.instrument.specs.Admission.{slot_count};
 ghost use Rattle.instrument.specs.Fits.{slots_for};
+ghost use Rattle.instrument.specs.Listed.{AreNumberedBelow};
 ghost use Rattle.instrument.specs.Placements as placements;
 ghost use Rattle.instrument.specs.Rosters as rosters;
 ghost use Rattle.instrument.specs.Spaces.{IsRow, slots_of};
 
 use crate::costs::{self, takes_for};
+use crate::finding::{find_instrument, set_state};
 use crate::instrument::Instrument;
 use crate::number::{InstrumentNo, State};
 use crate::room::Room;
@@ -18,38 +20,6 @@ use pn_types::{BANK_LEN, FIRST_SLOT, NoMemory, Placed};
 use std::alloc::{AllocError, Global};
 use std::marker::Model;
 use tool_space::Space;
-
-/// The instrument of a number.
-fn find_instrument(instruments: &[Instrument], number: InstrumentNo) -> Option<&Instrument>
-    ensures { option_copied result ≡ find (λ i. i.no == number.n) instruments.now }
-{
-    for instrument in instruments {
-        if instrument.no == number.n {
-            return Some(instrument);
-        }
-    }
-    None
-}
-
-/// The state of an instrument once the one of a number is in a state.
-fn state_after(instrument: &Instrument, number: InstrumentNo, state: State) -> State
-    ensures { result ≡ (placements.with_state number.n state instrument.now).state }
-{
-    if instrument.no == number.n {
-        state
-    } else {
-        instrument.state
-    }
-}
-
-/// The instrument of a number is in a state from now on.
-fn set_state(instruments: &mut [Instrument], number: InstrumentNo, state: State)
-    ensures { instruments.new ≡ map (placements.with_state number.n state) instruments.old }
-{
-    for place in 0..instruments.len() {
-        instruments[place].state = state_after(&instruments[place], number, state);
-    }
-}
 
 /// Leaves out the instruments that are gone.
 fn keep_here(instruments: &mut Vec<Instrument>, rooms: &[Room])
@@ -63,6 +33,7 @@ fn keep_here(instruments: &mut Vec<Instrument>, rooms: &[Room])
 /// The instruments that aren't gone, and the slots beside theirs.
 #[derive(Drop)]
 pub struct Roster {
+    // In the order of their numbers.
     instruments: Vec<Instrument>,
     // Which slots are free.
     slots: Space,
@@ -179,12 +150,13 @@ impl Roster {
         Some(slot as u32)
     }
 
-    /// Puts an instrument behind the others, which has the lowest slots that are free.
+    /// Puts an instrument behind the others, which has a number above theirs and the lowest slots that are free.
     pub fn add(&mut self, instrument: Instrument)
         requires room { 0 < self.old.room }
         requires takes { 0 < self.old.takes }
         requires few { slot_count instrument.placed.vars < 2 ^ 32 }
         requires row { IsRow instrument }
+        requires number { AreNumberedBelow instrument.no self.old.instruments }
         requires free { slots_for (flat_map (λ i. places_of i.placed) self.old.instruments) (slot_count instrument.placed.vars) ≡ Some (slots_of instrument).at }
         ensures instruments { self.new.instruments ≡ self.old.instruments ++ instrument ∷ [] }
         ensures room { self.old.room ≡ self.new.room + 1 }

@@ -7,11 +7,13 @@ use Rattle.tramp_spec.specs.Slots.{places_of}
 use Rattle.instrument.specs.Admission.{slot_count, slots_from}
 use Rattle.instrument.specs.Books.{Book}
 use Rattle.instrument.specs.Fits.{slots_for}
+use Rattle.instrument.specs.Listed.{AreNumberedBelow}
 use Rattle.instrument.specs.Needs.{Need, need_of, sites_in}
 use Rattle.instrument.specs.Placers.{PlacerData, AreAdmitted, HasMemory}
 use Rattle.instrument.specs.Spaces.{IsRow, slots_of}
 use Rattle.instrument.specs.declared.instrument.Instrument.{Instrument}
 use Rattle.instrument.proofs.Added.{row_from, first_from}
+use Rattle.instrument.proofs.Listed.{below_added}
 use Rattle.instrument.proofs.Memoryless.{refused_memoryless}
 use Rattle.instrument.proofs.Owners.{sites_none, admitted_placed}
 use Rattle.instrument.proofs.Ready.{placer_less, placer_used, kits_memory, is_found}
@@ -19,6 +21,11 @@ use Rattle.instrument.proofs.placer.Placer.admit.Goals as goal
 
 pub add-requires-clause-row : goal.add-requires-clause-row
 add-requires-clause-row c = subst IsRow (sym c.in_ok-instrument.ensures.instrument) (row_from c.in-Some.first c.args.plan.now.vars)
+
+pub add-requires-clause-number : goal.add-requires-clause-number
+add-requires-clause-number c =
+    let listed = subst (λ (is : List Instrument). AreNumberedBelow c.self.inside.count is) (sym (c.free_slots.ensures.instruments ∙ c.kit_for-kit.ensures.instruments)) c.self.invariant.listed in
+    subst (λ (i : Instrument). AreNumberedBelow i.no c.free_slots.new.self.instruments) (sym c.in_ok-instrument.ensures.instrument) listed
 
 pub add-requires-clause-free : goal.add-requires-clause-free
 add-requires-clause-free c =
@@ -46,7 +53,7 @@ pub invariant_of-self-in_default : goal.invariant_of-self-in_default
 invariant_of-self-in_default c =
     let k = placer_less c.self.inside.text c.self.inside.roster c.self.inside.count (need_of c.args.plan.now) c.self.inside.kits.items c.take_kit-kit.new.kits.items c.self.invariant c.take_kit-kit.ensures.kits in
     let e = c.kit_for-kit.ensures in
-    record { memory = e.kept _ _ k.memory; admitted = subst (λ (b : Book). AreAdmitted c.self.inside.count b.rooms) (sym e.book) k.admitted }
+    record { memory = e.kept _ _ k.memory; admitted = subst (λ (b : Book). AreAdmitted c.self.inside.count b.rooms) (sym e.book) k.admitted; listed = subst (λ (is : List Instrument). AreNumberedBelow c.self.inside.count is) (sym e.instruments) k.listed }
 
 pub returns-in_default-clause-memory : goal.returns-in_default-clause-memory
 returns-in_default-clause-memory c = λ h e.
@@ -60,6 +67,7 @@ invariant_of-self-in_default-free_slots c =
     let s = c.free_slots.ensures in
     placer_used c.kit_for-kit.new.text c.kit_for-kit.new.text c.kit_for-kit.new.roster c.free_slots.new.self c.self.inside.count c.self.inside.count (length c.args.plan.now.sites) c.deref.result.now c.take_kit-kit.new.kits.items
     c.in-Ok.ensures.memory c.deref.ensures.value (subst (λ (b : Book). AreAdmitted c.self.inside.count b.rooms) (sym e.book) c.self.invariant.admitted)
+    (subst (λ (is : List Instrument). AreNumberedBelow c.self.inside.count is) (sym (s.instruments ∙ e.instruments)) c.self.invariant.listed)
     (omega arith) (omega arith) (omega arith) (omega (arith, s.room)) (omega (arith, s.takes)) (omega arith)
 
 pub place-requires-clause-new : goal.place-requires-clause-new
@@ -72,6 +80,7 @@ invariant_of-self-in_err-instrument c =
     let p = c.place.ensures in
     placer_used c.kit_for-kit.new.text c.place.new.text c.kit_for-kit.new.roster c.free_slots.new.self c.self.inside.count c.self.inside.count (length c.args.plan.now.sites) c.deref.result.now c.take_kit-kit.new.kits.items
     c.in-Ok.ensures.memory c.deref.ensures.value (subst (λ (b : Book). AreAdmitted c.self.inside.count b.rooms) (sym (c.in_err-instrument.ensures.unchanged ∙ e.book)) c.self.invariant.admitted)
+    (subst (λ (is : List Instrument). AreNumberedBelow c.self.inside.count is) (sym (s.instruments ∙ e.instruments)) c.self.invariant.listed)
     (omega (arith, p.rooms_left)) (omega (arith, p.takes_left)) (omega (arith, p.entries_left)) (omega (arith, s.room)) (omega (arith, s.takes)) (omega arith)
 
 pub returns-in_err-instrument-clause-memory : goal.returns-in_err-instrument-clause-memory
@@ -84,6 +93,8 @@ invariant_of-self-2 c =
     let p = c.place.ensures in
     let a = c.add.ensures in
     let before = subst (λ (b : Book). AreAdmitted c.self.inside.count b.rooms) (sym e.book) c.self.invariant.admitted in
+    let listed = subst (λ (is : List Instrument). AreNumberedBelow c.self.inside.count is) (sym (s.instruments ∙ e.instruments)) c.self.invariant.listed in
     placer_used c.kit_for-kit.new.text c.place.new.text c.kit_for-kit.new.roster c.add.new.self c.self.inside.count (c.self.inside.count + 1) (length c.args.plan.now.sites) c.deref.result.now c.take_kit-kit.new.kits.items
     c.in-Ok.ensures.memory c.deref.ensures.value (admitted_placed c.kit_for-kit.new.text.program c.self.inside.count _ c.args.plan.now.sites c.kit_for-kit.new.text.book c.place.new.text.book before c.in_ok-instrument.ensures.ok)
+    (subst (λ (is : List Instrument). AreNumberedBelow (c.self.inside.count + 1) is) (sym a.instruments) (below_added c.self.inside.count c.free_slots.new.self.instruments c.in_ok-instrument.instrument listed (ap (λ (i : Instrument). i.no) c.in_ok-instrument.ensures.instrument)))
     (omega (arith, p.rooms_left)) (omega (arith, p.takes_left)) (omega (arith, p.entries_left)) (omega (arith, s.room, a.room)) (omega (arith, s.takes, a.takes)) (omega arith)

@@ -1,8 +1,12 @@
-use Rattle.std.proofs.Common.{◌∙◌, ap, arith, filter, subst, sym}
+use Rattle.std.proofs.Common.{◌∙◌, List, ap, arith, filter, subst, sym}
 use Rattle.instrument.specs.Books.{Book}
-use Rattle.instrument.specs.Placements.{is_site_of}
+use Rattle.instrument.specs.Listed.{AreNumberedBelow}
+use Rattle.instrument.specs.Placements.{is_here, is_site_of}
 use Rattle.instrument.specs.Placers.{AreAdmitted}
 use Rattle.instrument.specs.Rosters.{RosterData}
+use Rattle.instrument.specs.declared.instrument.Instrument.{Instrument}
+use Rattle.instrument.specs.declared.number.State.TheVariants.{Leaving}
+use Rattle.instrument.proofs.Listed.{below_filter, below_states}
 use Rattle.instrument.proofs.Owners.{admitted_dropped}
 use Rattle.instrument.proofs.Ready.{placer_kept}
 use Rattle.instrument.proofs.placer.Placer.drop.Goals as goal
@@ -14,6 +18,8 @@ invariant_of-self c =
     let e = c.drop_sites.ensures in
     let room = ap (λ (r : RosterData). r.room) c.settle.ensures ∙ ap (λ (r : RosterData). r.room) c.set_state.ensures in
     let takes = ap (λ (r : RosterData). r.takes) c.settle.ensures ∙ ap (λ (r : RosterData). r.takes) c.set_state.ensures in
+    let instruments = ap (λ (r : RosterData). r.instruments) c.settle.ensures ∙ ap (λ (r : RosterData). filter (is_here c.rooms.result.now) r.instruments) c.set_state.ensures in
+    let listed = subst (λ (is : List Instrument). AreNumberedBelow c.self.inside.count is) (sym instruments) (below_filter c.self.inside.count (is_here c.rooms.result.now) _ (below_states c.self.inside.count c.args.number.n Leaving _ k.listed)) in
     placer_kept t c.drop_sites.new.self c.self.inside.roster c.settle.new.self c.self.inside.count c.self.inside.kits.items k
     (subst (λ (b : Book). AreAdmitted c.self.inside.count b.rooms) (sym e.book) (admitted_dropped c.self.inside.count (filter (is_site_of c.args.number.n) t.book.rooms) t.book k.admitted))
-    (omega (arith, e.spare)) (omega (arith, e.takes)) (omega (arith, e.entries, k.memory.entries)) (omega (arith, room)) (omega (arith, takes))
+    listed (omega (arith, e.spare)) (omega (arith, e.takes)) (omega (arith, e.entries, k.memory.entries)) (omega (arith, room)) (omega (arith, takes))

@@ -12,4 +12,4 @@ invariant_of-self c =
     let e = c.hand_out.ensures in
     placer_kept t c.hand_out.new.self c.self.inside.roster c.self.inside.roster c.self.inside.count c.self.inside.kits.items k
     (subst (λ (b : Book). AreAdmitted c.self.inside.count b.rooms) (sym e.book) (admitted_behind c.self.inside.count t.book.agenda t.book k.admitted))
-    (omega (arith, e.spare)) (omega (arith, e.takes)) (omega (arith, e.entries, k.memory.entries)) (omega arith) (omega arith)
+    k.listed (omega (arith, e.spare)) (omega (arith, e.takes)) (omega (arith, e.entries, k.memory.entries)) (omega arith) (omega arith)

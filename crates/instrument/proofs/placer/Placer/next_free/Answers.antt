@@ -10,4 +10,4 @@ invariant_of-self c =
     let e = c.take_free.ensures in
     placer_kept c.self.inside.text c.take_free.new.self c.self.inside.roster c.self.inside.roster c.self.inside.count c.self.inside.kits.items k
     (subst (λ (b : Book). AreAdmitted c.self.inside.count b.rooms) (sym e.book) k.admitted)
-    (omega (arith, e.spare)) (omega (arith, e.takes)) (omega (arith, e.entries, k.memory.entries)) (omega arith) (omega arith)
+    k.listed (omega (arith, e.spare)) (omega (arith, e.takes)) (omega (arith, e.entries, k.memory.entries)) (omega arith) (omega arith)

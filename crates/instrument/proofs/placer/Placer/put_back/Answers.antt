@@ -11,4 +11,4 @@ invariant_of-self c =
     let some = subst (λ (d : PlacerData). 0 < d.entries) (sym c.self.view_is) c.requires in
     placer_kept c.self.inside.text c.put_back.new.self c.self.inside.roster c.self.inside.roster c.self.inside.count c.self.inside.kits.items k
     (subst (λ (b : Book). AreAdmitted c.self.inside.count b.rooms) (sym e.book) k.admitted)
-    (omega (arith, e.spare)) (omega (arith, e.takes)) (omega (arith, e.entries, some)) (omega arith) (omega arith)
+    k.listed (omega (arith, e.spare)) (omega (arith, e.takes)) (omega (arith, e.entries, some)) (omega arith) (omega arith)

@@ -1,13 +1,21 @@
-use Rattle.std.proofs.Common.{rules, List, map, ◌∙◌, subst, sym}
+use Rattle.std.proofs.Common.{rules, ◌∙◌, List, ap, map, subst, sym}
 use Rattle.std.proofs.lemmas.List.{with_items_is}
+use Rattle.instrument.specs.Listed.{AreInOrder}
 use Rattle.instrument.specs.Placements.{with_state}
 use Rattle.instrument.specs.Spaces.{AreSlotsOf}
 use Rattle.instrument.specs.declared.instrument.Instrument.{Instrument}
+use Rattle.instrument.proofs.Listed.{order_states}
 use Rattle.instrument.proofs.Slotted.{states_slots}
 use Rattle.instrument.proofs.roster.Roster.set_state.Goals as goal
 
 pub invariant_of-self : goal.invariant_of-self
-invariant_of-self c = record {
-  slots = subst (λ (is : List Instrument). AreSlotsOf c.self.inside.slots is) (sym (with_items_is c.self.inside.instruments c.set_state.new.instruments (search rules) ∙ c.set_state.ensures)) (subst (λ (is : List Instrument). AreSlotsOf c.self.inside.slots (map (with_state c.args.number.n c.args.state) is)) (sym c.deref_mut.ensures.value) (states_slots c.self.inside.slots c.args.number.n c.args.state _ c.self.invariant.slots));
-  memory = c.self.invariant.memory;
-}
+invariant_of-self c =
+    let n = c.args.number.n in
+    let state = c.args.state in
+    let items = c.self.inside.instruments.items in
+    let same = ap (map (with_state n state)) (sym c.deref_mut.ensures.value) ∙ sym (with_items_is c.self.inside.instruments c.set_state.new.instruments (search rules) ∙ c.set_state.ensures) in
+    record {
+      slots = subst (λ (is : List Instrument). AreSlotsOf c.self.inside.slots is) same (states_slots c.self.inside.slots n state items c.self.invariant.slots);
+      order = subst AreInOrder same (order_states n state items c.self.invariant.order);
+      memory = c.self.invariant.memory;
+    }
