@@ -100,8 +100,11 @@ impl Store {
     pub fn slot(&self, pc: u64, inside: bool) -> Option<&Slot>
         ensures { option_copied result ≡ fetched_at self.now.program self.now.code pc inside }
     {
-        let span = if inside { &self.tool } else { &self.text };
-        span.get(pc)
+        if inside {
+            self.tool.get(pc)
+        } else {
+            self.text.get(pc)
+        }
     }
 
     /// What the word does that a hart outside fetches, if it is one of the program.

@@ -17,7 +17,7 @@ use Rattle.code_store.specs.Operations.{Does, IsOperationBy, IsOperationOf, done
 use Rattle.code_store.specs.declared.operation.Operation.TheVariants.{Run, Compute, LoadBank, StoreBank, NoAccess}
 use Rattle.code_store.specs.Stores.{StoredCode}
 use Rattle.rv_word.specs.declared.outcome.Next.{Next}
-use Rattle.rv_word.specs.declared.outcome.Next.TheVariants.{Go, Stop}
+use Rattle.rv_word.specs.declared.outcome.Next.TheVariants as ways
 use Rattle.machine.specs.Stretches.{Left, left_by, left_as, ran, Runs}
 use Rattle.machine.proofs.Stretches.{left}
 use Rattle.machine.specs.Performing.{Performs, PerformsOther, stood_after, bench_from}
@@ -116,8 +116,8 @@ left_next d at stop pc regs p e = by d.next d.regs d.prog e
     again z = made (next_after z.stop z.pc) z.regs z.prog
 
     by : (n : Next) (others : List ℕ) (q : Prog) → left pc stop regs p ≡ left_by n at others q → made n others q ≡ made (next_after stop pc) regs p
-    by (Go to) others q f = sym (ap again f)
-    by (Stop cause) others q f = sym (ap again f)
+    by (ways.Go to) others q f = sym (ap again f)
+    by (ways.Stop cause) others q f = sym (ap again f)
 
 -- one word by itself
 one_ran : (h : ℕ) (i j : Option Instr) (pc : ℕ) (regs : List ℕ) (p : Prog) (stop : Option Cause) (new_pc : ℕ) (new_regs : List ℕ) (new_p : Prog) → i ≡ j → left new_pc stop new_regs new_p ≡ ran h i pc regs p → done (exec_decoded j pc h regs p) regs p ≡ record { next = next_after stop new_pc; regs = new_regs; prog = new_p }

@@ -1,6 +1,6 @@
 -- Words of the program that a hart runs one after another.
-use Rattle.std.proofs.Common.{◌≡◌, ℕ, zero, suc, ◌+◌, ◌-◌, ◌<◌, ◌≤◌, arith, inr, List, Option, Some, None, refl, sym, ap, ◌∙◌, subst, IfSome}
-use Rattle.std.specs.Prelude.{is_none, false, IsTrue}
+use Rattle.std.proofs.Common.{◌≡◌, ℕ, zero, suc, ◌+◌, ◌-◌, ◌<◌, ◌≤◌, arith, inl, inr, ◌⊎◌, List, Option, Some, None, refl, sym, ap, ◌∙◌, subst, IfSome}
+use Rattle.std.specs.Prelude.{is_none, false, true, Bool, IsTrue}
 use Rattle.std.proofs.lemmas.Grind.{common_steps}
 use Rattle.rv_word.specs.Exec.{Prog, Outcome, Stops, Goes, done, exec_decoded, exec_of}
 use Rattle.rv_word.specs.Table.{decode_of}
@@ -11,6 +11,7 @@ use Rattle.rv_exec.specs.Flat.{instr_of}
 use Rattle.rv_exec.specs.Gives.{next_after}
 use Rattle.rv_exec.specs.declared.flat.Flat.{Flat}
 use Rattle.tramp_spec.specs.Codes.{fetched_at}
+use Rattle.tramp_spec.specs.Marks.{is_own}
 use Rattle.tramp_spec.specs.Harts.{Solo, own_step, marked_step, step_of}
 use Rattle.tramp_spec.specs.declared.mark.Mark.{Mark}
 use Rattle.tramp_spec.specs.declared.mark.Mark.TheVariants.{Own, Enter, Tool, Leave}
@@ -20,7 +21,7 @@ use Rattle.code_store.specs.Stores.{StoredCode}
 use Rattle.machine.specs.Alone.{alone_of, may_alone, turned_alone, Leads}
 use Rattle.machine.specs.declared.turning.Progress.{Progress}
 use Rattle.machine.proofs.Alone.{alone_may}
-use Rattle.machine.specs.Stretches.{Left, left_as, ran, HasOwn, GoesOn, Runs}
+use Rattle.machine.specs.Stretches.{Left, left_as, ran, HasOwn, GoesOn, Runs, OwnRun}
 
 -- where a hart is
 abbrev pub left : ℕ → Option Cause → List ℕ → Prog → Left
@@ -111,22 +112,66 @@ module _ (s : StoredCode) (h budget : ℕ) (bank : List ℕ) (z : Left) where
             (subst (λ x. Leads s budget h (suc k) x (left_standing (ticks + 1 + suc k) bank z)) (sym (step_leaves h (fetched_at s.program s.code pc false) i pc regs ticks bank p own)) rest),
       )
 
-own_instr : (w : Option MarkedWord) (flat : Flat) → IsOwnOf w (Some flat) → HasOwn w (λ j. j ≡ instr_of flat)
-own_instr None flat o = absurd o
-own_instr (Some w) flat o = (o.0, sym o.1)
-
--- words of the program that a hart runs outside are as many turns
-pub took_words : (s : StoredCode) (h budget n : ℕ) (a : Progress) (stop : Option Cause) (regs bank : List ℕ) (p : Prog) (flat : Flat) (z : Left)
-    → stop ≡ None → a.inside ≡ false → IsOwnOf (fetched_at s.program s.code a.pc false) (Some flat) → 1 ≤ n → a.ticks + n ≤ budget → Runs s h (n - 1) (instr_of flat) a.pc regs p z
-    → Leads s budget h n (alone_of a stop regs bank p) (alone_of (record { pc = z.pc; ticks = a.ticks + n; inside = a.inside }) z.stop z.regs bank z.prog)
-took_words s h budget zero a stop regs bank p flat z none out own low high r = absurd (omega arith)
-took_words s h budget (suc k) a stop regs bank p flat z none out own low high r =
-    let e : suc k - 1 ≡ k = omega arith in
-    let turns = are_turns s h budget bank z k (instr_of flat) a.pc regs a.ticks p (own_instr (fetched_at s.program s.code a.pc false) flat own) (omega arith) (subst (λ m. Runs s h m (instr_of flat) a.pc regs p z) e r) in
-    subst (λ b. Leads s budget h (suc k) (alone_of (record { pc = a.pc; ticks = a.ticks; inside = b }) stop regs bank p) (alone_of (record { pc = z.pc; ticks = a.ticks + suc k; inside = b }) z.stop z.regs bank z.prog)) (sym out)
-    (subst (λ o. Leads s budget h (suc k) (alone_of (record { pc = a.pc; ticks = a.ticks; inside = false }) o regs bank p) (left_standing (a.ticks + suc k) bank z)) (sym none) turns)
-
 -- a hart that can take a turn outside has ticks left
-pub outside_below : (a : Progress) (stop : Option Cause) (regs bank : List ℕ) (p : Prog) (budget : ℕ) → a.inside ≡ false → IsTrue (may_alone budget (alone_of a stop regs bank p)) → (stop ≡ None) × (a.ticks < budget)
-outside_below a None regs bank p budget out m = (refl, grind (arith, common_steps))
-outside_below a (Some cause) regs bank p budget out m = absurd cc
+pub outside_below : (a : Progress) (stop : Option Cause) (regs bank : List ℕ) (p : Prog) (budget : ℕ) → IsTrue (may_alone budget (alone_of a stop regs bank p)) → (stop ≡ None) × (a.inside ≡ false → a.ticks < budget)
+outside_below a None regs bank p budget m = (refl, λ out. grind (arith, common_steps))
+outside_below a (Some cause) regs bank p budget m = absurd cc
+
+is_own_is : (m : Mark) → is_own m ≡ true → m ≡ Own
+is_own_is Own e = refl
+is_own_is Enter e = absurd cc
+is_own_is Tool e = absurd cc
+is_own_is Leave e = absurd cc
+
+-- the turns of a hart by a word that it fetched, and by the words of the program that follow
+module _ (s : StoredCode) (h budget n most : ℕ) (a : Progress) (stop : Option Cause) (regs bank : List ℕ) (p : Prog) (w : MarkedWord) (b : Progress) (new_stop : Option Cause) (new_regs new_bank : List ℕ) (q : Prog) where
+  abbrev old : Solo
+  old = alone_of a stop regs bank p
+
+  abbrev new : Solo
+  new = alone_of b new_stop new_regs new_bank q
+
+  pub record Turned : Type 0 where
+    pub may : IsTrue (may_alone budget old)
+    pub fetched : fetched_at s.program s.code a.pc a.inside ≡ Some w
+    pub low : 1 ≤ n
+    pub high : n ≤ most
+    pub single : (a.inside ≡ true) ⊎ (is_own w.mark ≡ false) → most ≡ 1
+    pub below : a.inside ≡ false → is_own w.mark ≡ true → a.ticks + most ≤ budget
+    pub one : most ≡ 1 → new ≡ turned_alone s h old
+    pub own : w.mark ≡ Own → a.inside ≡ false → OwnRun s h n w a.pc regs bank p new_stop b.pc new_regs new_bank q
+    pub ticks : w.mark ≡ Own → a.inside ≡ false → (b.ticks ≡ a.ticks + n) × (b.inside ≡ false)
+
+  by_one : Turned → most ≡ 1 → Leads s budget h n old new
+  by_one t e = let low = t.low in let high = t.high in let one : 1 ≡ n = omega arith in subst (λ k. Leads s budget h k old new) one (t.may, t.one e)
+
+  by_own : (k : ℕ) → n ≡ suc k → Turned → a.inside ≡ false → is_own w.mark ≡ true → Leads s budget h n old new
+  by_own k e t out tick =
+      let mark = is_own_is w.mark tick in
+      let run = t.own mark out in
+      let none = (outside_below a stop regs bank p budget t.may).0 in
+      let at : fetched_at s.program s.code a.pc false ≡ Some w = ap (fetched_at s.program s.code a.pc) (sym out) ∙ t.fetched in
+      let own : HasOwn (fetched_at s.program s.code a.pc false) (λ j. j ≡ decode_of w.word) = subst (λ v. HasOwn v (λ j. j ≡ decode_of w.word)) (sym at) (mark, refl) in
+      let few : n - 1 ≡ k = omega arith in
+      let high = t.high in
+      let below = t.below out tick in
+      let z = left b.pc new_stop new_regs q in
+      let turns = are_turns s h budget bank z k (decode_of w.word) a.pc regs a.ticks p own (omega arith) (subst (λ m. Runs s h m (decode_of w.word) a.pc regs p z) few run.ran) in
+      let started : standing a.pc regs a.ticks bank p ≡ old = ap (λ o. alone_of (record { pc = a.pc; ticks = a.ticks; inside = false }) o regs bank p) (sym none) ∙ ap (λ i. alone_of (record { pc = a.pc; ticks = a.ticks; inside = i }) stop regs bank p) (sym out) in
+      let count : a.ticks + suc k ≡ b.ticks = ap (λ m. a.ticks + m) (sym e) ∙ sym (t.ticks mark out).0 in
+      let ended : left_standing (a.ticks + suc k) bank z ≡ new =
+      ap (λ m. left_standing m bank z) count
+      ∙ (ap (λ i. alone_of (record { pc = b.pc; ticks = b.ticks; inside = i }) new_stop new_regs bank q) (sym (t.ticks mark out).1)
+      ∙ ap (λ k. alone_of b new_stop new_regs k q) (sym run.keeps)) in
+      subst (λ m. Leads s budget h m old new) (sym e) (subst (λ x. Leads s budget h (suc k) x new) started (subst (λ x. Leads s budget h (suc k) (standing a.pc regs a.ticks bank p) x) ended turns))
+
+  at_least : Turned → (k : ℕ) × (n ≡ suc k)
+  at_least t = let low = t.low in (n - 1, omega arith)
+
+  pub turned : Turned → Leads s budget h n old new
+  turned t = by a.inside (is_own w.mark) refl refl
+    where
+      by : (i o : Bool) → i ≡ a.inside → o ≡ is_own w.mark → Leads s budget h n old new
+      by true o e f = by_one t (t.single (inl (sym e)))
+      by false false e f = by_one t (t.single (inr (sym f)))
+      by false true e f = let k = at_least t in by_own k.0 k.1 t (sym e) (sym f)

@@ -14,7 +14,7 @@ use rv_word::Cause;
 
 /// Runs an instruction at pc, and then the words of the program that follow, by a hart that isn't stopped: at most `most` in all,
 /// until one stops the hart or until the text has another word or none at the pc. It answers how many, and takes no memory.
-#[inline(never)]
+#[inline(always)]
 pub fn run_words(
     first: &Flat,
     most: u32,
@@ -36,20 +36,19 @@ pub fn run_words(
     ensures harts { length resv.new ≡ length resv.old }
 {
     let mut flat = first;
-    let mut turns = 0;
+    let mut left = most;
     loop {
         let at = *pc;
-        let goes = flat.run(number, pc, stop, regs, mem, resv, out);
-        turns += 1;
-        if !goes {
+        if !flat.run(number, pc, stop, regs, mem, resv, out) {
             *pc = at;
-            return turns;
+            return most - left + 1;
         }
-        if turns >= most {
-            return turns;
+        left -= 1;
+        if left == 0 {
+            return most;
         }
         let Some(next) = store.own(*pc) else {
-            return turns;
+            return most - left;
         };
         flat = next;
     }
