@@ -21,7 +21,7 @@ use Rattle.session_spec.specs.Ties.{IsGood}
 use Rattle.session_spec.specs.Reads.{AllGood, AreGood, IsWishGood, desk_admitted, hists_with, lasts_with}
 use Rattle.session_spec.proofs.Going.{wish_time}
 use Rattle.session.specs.declared.candidate.Candidate.{Candidate}
-use Rattle.session.specs.declared.kit.Kit.{Kit}
+use Rattle.session_kits.specs.declared.kit.Kit.{Kit}
 use Rattle.session.specs.Candidates.{IsAnswer, answer_of}
 use Rattle.session.specs.Tables.{AreCandidates, IsAdmission, IsCount, IsMore, IsNew, IsSame, Table, desk_at, kept_of}
 use Rattle.session.proofs.Counting.{count_low, take_many}

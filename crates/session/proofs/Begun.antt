@@ -24,10 +24,10 @@ use Rattle.session_spec.specs.Work.{first_state, work}
 use Rattle.session_spec.specs.Reads.{Desk, IsDesk, IsSound, desk_armed, desk_of, hists_with, lasts_with}
 use Rattle.session_spec.proofs.Begins.{first_quiet, opened_lasts, opens}
 use Rattle.session.specs.declared.candidate.Candidate.{Candidate}
-use Rattle.session.specs.declared.kit.Kit.{Kit}
+use Rattle.session_kits.specs.declared.kit.Kit.{Kit}
 use Rattle.session.specs.Given.{AreGiven, IsWishOf}
 use Rattle.session.specs.Kept.{IsKept, IsSoundKit, IsWished}
-use Rattle.session.specs.Kits.{HasHarts, kits_armed}
+use Rattle.session_kits.specs.Kits.{HasHarts, kits_armed}
 use Rattle.std.specs.Result.{IsErrAnd}
 use Rattle.session.specs.declared.fault.StartFault.{StartFault}
 use Rattle.session.specs.declared.fault.StartFault.TheVariants.{NoMemory}

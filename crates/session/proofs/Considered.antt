@@ -18,7 +18,7 @@ use Rattle.session_spec.specs.Inputs.{Inputs}
 use Rattle.session_spec.specs.Admission.{with_wish}
 use Rattle.session_spec.specs.Opening.{with_all}
 use Rattle.session.specs.declared.candidate.Candidate.{Candidate}
-use Rattle.session.specs.declared.kit.Kit.{Kit}
+use Rattle.session_kits.specs.declared.kit.Kit.{Kit}
 use Rattle.session.specs.Candidates.{answer_of}
 use Rattle.session.specs.Tables.{AreCandidates, AreReady, IsCandidate, IsMore, IsNew, Table, kept_of, new_kit}
 

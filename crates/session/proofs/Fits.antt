@@ -4,9 +4,9 @@ use Rattle.std.specs.Prelude.{Bool, true, false, cond, map}
 use Rattle.std.specs.List.{AllByRecursion}
 use Rattle.instrumented.specs.Instrumented.{Instrumented}
 use Rattle.session_spec.specs.Due.{is_armed}
-use Rattle.session.specs.declared.kit.Kit.{Kit}
-use Rattle.session.specs.Kits.{HasHarts, kit_sampled}
-use Rattle.session.proofs.Sampled.{armed_kit}
+use Rattle.session_kits.specs.declared.kit.Kit.{Kit}
+use Rattle.session_kits.specs.Kits.{HasHarts, kit_sampled}
+use Rattle.session_kits.proofs.Sampled.{armed_kit}
 
 one_has : (n : ℕ) (m : Instrumented) (time : ℕ) (k : Kit) → HasHarts n k → HasHarts n (kit_sampled m time k)
 unfolding kit_sampled

@@ -17,9 +17,9 @@ use Rattle.session_spec.specs.Admission.{with_admission}
 use Rattle.session_spec.proofs.Going.{program_is}
 use Rattle.session_spec.specs.Work.{Halted, IsAllowed, closed, work}
 use Rattle.session_spec.specs.Reads.{Desk}
-use Rattle.session.specs.declared.kit.Kit.{Kit}
+use Rattle.session_kits.specs.declared.kit.Kit.{Kit}
 use Rattle.session.specs.Kept.{IsKept, IsSoundKit}
-use Rattle.session.specs.Kits.{HasFew, HasHarts}
+use Rattle.session_kits.specs.Kits.{HasFew, HasHarts}
 use Rattle.session.proofs.Quanta.{more_sound}
 use Rattle.session.specs.Sessions.{SessionData, state_of}
 use Rattle.session.specs.Tables.{IsAdmission, Table, desk_at, kept_of}

@@ -1,6 +1,3 @@
-pub mod Sampled
-pub mod Arms
-pub mod Repeated
 pub mod Plans
 pub mod Looks
 pub mod Considered

@@ -19,7 +19,7 @@ use Rattle.session_spec.specs.declared.data.Shown.{Shown}
 use Rattle.session_spec.proofs.Wishing.{stands_now}
 use Rattle.session_spec.specs.Inputs.{Inputs, cause_of_refusal}
 use Rattle.session_spec.specs.States.{Kept}
-use Rattle.session.specs.declared.kit.Kit.{Kit}
+use Rattle.session_kits.specs.declared.kit.Kit.{Kit}
 use Rattle.session.specs.declared.outcome.Outcome.{Outcome}
 use Rattle.session.specs.declared.outcome.Outcome.TheVariants as outcome
 use Rattle.session.specs.Outcomes.{kept_by}

@@ -18,12 +18,12 @@ use Rattle.session_spec.specs.Turns.{with_quiet}
 use Rattle.session_spec.specs.Work.{AreAllowed, AreAllowedFrom, IsAllowed, closed, first_state, is_due, tend, work, work_from}
 use Rattle.session_spec.specs.Reads.{AreGood, Desk, IsDesk, desk_admitted, desk_armed, desk_closed, desk_sampled, desk_tended, desk_turned, desk_worked}
 use Rattle.session_spec.proofs.Tending.{closed_is, tend_is}
-use Rattle.session.specs.declared.kit.Kit.{Kit}
+use Rattle.session_kits.specs.declared.kit.Kit.{Kit}
 use Rattle.session.specs.Kept.{IsKept, IsSoundKit}
-use Rattle.session.specs.Kits.{kit_armed, kit_reading, kit_sampled, kits_armed}
+use Rattle.session_kits.specs.Kits.{kit_armed, kit_reading, kit_sampled, kits_armed}
 use Rattle.session.specs.Sessions.{SessionData, state_of}
 use Rattle.session.specs.Tables.{IsAdmission, IsMore, IsNew, Table, desk_at, kept_of, table_armed, table_begun, table_ended, table_freed, table_quiet, table_sampled, table_tended, table_worked}
-use Rattle.session.proofs.Sampled.{armed_kit}
+use Rattle.session_kits.proofs.Sampled.{armed_kit}
 use Rattle.session.proofs.Simulated.{IsOf, armed_is, freed_is, next_is, quiet_is, sampled_is, turned_is}
 
 -- ---- pairs

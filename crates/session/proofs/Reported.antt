@@ -17,7 +17,7 @@ use Rattle.session_spec.specs.Inputs.{Inputs}
 use Rattle.session_spec.specs.Reads.{Desk, IsDesk}
 use Rattle.session_spec.specs.States.{State}
 use Rattle.session_spec.proofs.Tending.{is_run}
-use Rattle.session.specs.declared.kit.Kit.{Kit}
+use Rattle.session_kits.specs.declared.kit.Kit.{Kit}
 use Rattle.session.specs.Parts.{ended_by, hart_part, parts_of, program_of_run, refused_part, shown_part, shown_parts}
 use Rattle.session.specs.Seen.{hart_seen, kit_part, table_parts}
 use Rattle.session.specs.Tables.{Table, desk_at}

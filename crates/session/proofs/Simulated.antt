@@ -16,8 +16,8 @@ use Rattle.session_spec.specs.Due.{all_armed, arm_all, is_armed, is_ready, machi
 use Rattle.session_spec.specs.Turns.{with_entries, with_hart, with_quiet}
 use Rattle.session_spec.specs.Ties.{read_now, reading_by}
 use Rattle.session_spec.specs.Reads.{desk_armed, desk_sampled, desk_turned, hists_read, lasts_armed, lasts_now, latest_read}
-use Rattle.session.specs.declared.kit.Kit.{Kit}
-use Rattle.session.specs.Kits.{kit_armed, kit_latest, kit_reading, kit_sampled, kits_armed, kits_latest, machine_of_armed}
+use Rattle.session_kits.specs.declared.kit.Kit.{Kit}
+use Rattle.session_kits.specs.Kits.{kit_armed, kit_latest, kit_reading, kit_sampled, kits_armed, kits_latest, machine_of_armed}
 use Rattle.session.specs.Tables.{Table, desk_at, kept_of, table_armed, table_freed, table_handed, table_next, table_quiet, table_sampled, table_turned}
 
 -- the harts of a pair are those of its focus

@@ -10,7 +10,7 @@ use Rattle.session_spec.specs.Inputs.{Inputs, first_wishes, later_wishes}
 use Rattle.session_spec.specs.Opening.{wished}
 use Rattle.session_spec.specs.Work.{AreAllowed}
 use Rattle.session_spec.specs.Reads.{AllGood, IsDesk}
-use Rattle.session.specs.declared.kit.Kit.{Kit}
+use Rattle.session_kits.specs.declared.kit.Kit.{Kit}
 use Rattle.session.specs.Given.{AreGiven, IsWishOf}
 use Rattle.session.specs.Sessions.{SessionData, state_of}
 use Rattle.session.specs.Tables.{IsMore, Table, desk_at, kept_of}

@@ -1,4 +1,3 @@
-pub mod Kits
 pub mod Tables
 pub mod Given
 pub mod Candidates

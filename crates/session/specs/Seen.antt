@@ -7,7 +7,7 @@ use Rattle.report.specs.declared.parts.HartPart.{HartPart}
 use Rattle.report.specs.declared.parts.ReportParts.{ReportParts}
 use Rattle.report.specs.declared.parts.ShownPart.{ShownPart}
 use Rattle.session_spec.specs.Inputs.{Inputs}
-use Rattle.session.specs.declared.kit.Kit.{Kit}
+use Rattle.session_kits.specs.declared.kit.Kit.{Kit}
 use Rattle.session.specs.Parts.{ended_by, refused_part, shown_part}
 use Rattle.session.specs.Tables.{Table}
 

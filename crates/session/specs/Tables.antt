@@ -23,8 +23,8 @@ use Rattle.session.specs.Candidates.{IsAnswer, IsShort, answer_of}
 use Rattle.session.specs.declared.candidate.Candidate.{Candidate}
 use Rattle.session.specs.Given.{IsWishOf}
 use Rattle.session.specs.Outcomes.{newly_shown}
-use Rattle.session.specs.declared.kit.Kit.{Kit}
-use Rattle.session.specs.Kits.{kit_sampled, kits_armed, kits_latest, machine_of_armed}
+use Rattle.session_kits.specs.declared.kit.Kit.{Kit}
+use Rattle.session_kits.specs.Kits.{kit_sampled, kits_armed, kits_latest, machine_of_armed}
 
 -- the machine, the wishes that were refused, the pairs that are or were shown, the latest samples, for how
 -- many harts there is room to read them, and for how many wishes to be looked at

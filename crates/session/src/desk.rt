@@ -5,16 +5,13 @@ ghost use Rattle.machine.specs.Quanta.{KeepsBudget};
 ghost use Rattle.machine.specs.Replays.{owns};
 ghost use Rattle.machine.specs.States.{quantum_turns};
 ghost use Rattle.machine.specs.Turns.{is_runnable};
-ghost use Rattle.session.specs.Kits.{HasFew, HasHarts};
+ghost use Rattle.session_kits.specs.Kits.{HasFew, HasHarts};
 ghost use Rattle.session.specs.Tables.{table_armed, table_ended, table_freed, table_handed, table_next, table_opened, table_quiet, table_sampled, table_tended, table_turned, table_worked};
 
-use crate::agenda::{hand_out, sweep};
-use crate::arming::arm_kits;
-use crate::kit::Kit;
-use crate::sampling::sample_kits;
 use instrumented::InstrumentedMachine;
 use machine::Sample;
 use pn_types::HartNo;
+use session_kits::{Kit, arm_kits, hand_out, sample_kits, sweep};
 use session_spec::{Latest, RefusedWish};
 use std::marker::Model;
 

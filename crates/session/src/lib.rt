@@ -2,21 +2,17 @@
 #![tactic(auto)]
 
 mod admitting;
-mod agenda;
-mod arming;
 mod candidate;
 mod considering;
 mod desk;
 mod fault;
 mod inputs;
-mod kit;
 mod later;
 mod opening;
 mod outcome;
 mod parts;
 mod preparing;
 mod room;
-mod sampling;
 mod session;
 mod starting;
 mod wishing;

@@ -7,12 +7,12 @@ ghost use Rattle.session.specs.Seen.{hart_seen, kit_part, table_parts};
 
 use crate::desk::Desk;
 use crate::inputs::Inputs;
-use crate::kit::Kit;
 use instrumented::InstrumentedMachine;
 use mdl_ast::Metric;
 use pn_types::{HartNo, MAX_HARTS, NoMemory, Seq, Settings, StopText, Text};
 use report::{HartPart, RefusedPart, ReportParts, ShownPart};
 use rv_word::Cause;
+use session_kits::Kit;
 use session_spec::RefusedWish;
 use std::alloc::Global;
 

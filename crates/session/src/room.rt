@@ -2,19 +2,10 @@
 
 ghost use Rattle.std.specs.Prelude.{◌≡◌, ◌+◌, ◌<◌, ◌≤◌, ◌++◌, ◌∷◌, [], vec_len, vec_capacity};
 
-use crate::kit::Kit;
 use pn_types::Focus;
 use quanta_log::Quantum;
-use session_spec::{Latest, RefusedWish};
-
-/// Puts a sample behind the others, for which there is room.
-pub(crate) fn put_latest(list: &mut Vec<Latest>, latest: Latest)
-    requires { vec_len list.old < vec_capacity list.old }
-    ensures items { list.new.items ≡ list.old.items ++ latest ∷ [] }
-    ensures room { vec_capacity list.old ≤ vec_capacity list.new }
-{
-    let _room = list.push(latest);
-}
+use session_kits::Kit;
+use session_spec::RefusedWish;
 
 /// Puts a refused wish behind the others, for which there is room.
 pub(crate) fn put_refused(list: &mut Vec<RefusedWish>, refused: RefusedWish)

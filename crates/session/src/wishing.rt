@@ -16,12 +16,12 @@ ghost use Rattle.session_spec.specs.States.{Kept};
 ghost use Rattle.session.specs.Candidates.{IsAnswer, answer_of};
 ghost use Rattle.session.specs.Outcomes.{kept_by};
 
-use crate::kit::Kit;
 use crate::outcome::Outcome;
 use instrument::{InstrumentNo, Refused, State};
 use instrumented::InstrumentedMachine;
 use mdl_check::CheckedWish;
 use pn_types::{Focus, PickCause, Plan};
+use session_kits::Kit;
 use std::alloc::Global;
 
 /// Whether two foci are the same.

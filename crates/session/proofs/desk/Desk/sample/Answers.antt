@@ -1,7 +1,7 @@
 use Rattle.std.proofs.Common.{List, sym, subst, length}
 use Rattle.std.specs.List.{AllByRecursion}
-use Rattle.session.specs.declared.kit.Kit.{Kit}
-use Rattle.session.specs.Kits.{HasHarts}
+use Rattle.session_kits.specs.declared.kit.Kit.{Kit}
+use Rattle.session_kits.specs.Kits.{HasHarts}
 use Rattle.session.specs.Tables.{Table}
 use Rattle.session.proofs.Fits.{harts_sampled}
 use Rattle.session.proofs.desk.Desk.sample.Goals as goal

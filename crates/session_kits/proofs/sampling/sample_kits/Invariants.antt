@@ -1,8 +1,8 @@
 use Rattle.std.proofs.Common.{◌≡◌, ◌+◌, ◌-◌, ◌≤◌, ◌++◌, length}
 use Rattle.std.specs.Prelude.{drop, map, take, vec_len, vec_capacity}
 use Rattle.std.specs.List.{AllByRecursion}
-use Rattle.session.specs.Kits.{HasFew, HasHarts, kit_sampled, kits_latest}
-use Rattle.session.proofs.sampling.sample_kits.Given as goal
+use Rattle.session_kits.specs.Kits.{HasFew, HasHarts, kit_sampled, kits_latest}
+use Rattle.session_kits.proofs.sampling.sample_kits.Given as goal
 
 abbrev pub invariant-loop-place : goal.invariant-loop-place
 invariant-loop-place l = record {

@@ -2,8 +2,8 @@ use Rattle.std.proofs.Common.{◌≡◌, ◌++◌, length}
 use Rattle.std.specs.Prelude.{drop, take, vec_capacity, vec_len}
 use Rattle.std.specs.List.{AllByRecursion}
 use Rattle.machine.specs.Events.{IsQuiet}
-use Rattle.session.specs.Kits.{HasHarts, kits_armed, machine_of_armed}
-use Rattle.session.proofs.arming.arm_kits.Given as goal
+use Rattle.session_kits.specs.Kits.{HasHarts, kits_armed, machine_of_armed}
+use Rattle.session_kits.proofs.arming.arm_kits.Given as goal
 
 abbrev pub invariant-loop-place : goal.invariant-loop-place
 invariant-loop-place l = record {

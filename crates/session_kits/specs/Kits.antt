@@ -8,7 +8,7 @@ use Rattle.machine.specs.Measures.{difference}
 use Rattle.session_spec.specs.declared.data.Latest.{Latest}
 use Rattle.session_spec.specs.Due.{is_armed, is_ready, machine_armed}
 use Rattle.session_spec.specs.Ties.{reading_by}
-use Rattle.session.specs.declared.kit.Kit.{Kit}
+use Rattle.session_kits.specs.declared.kit.Kit.{Kit}
 
 -- what its instrument reads
 abbrev pub kit_reading : Instrumented → Kit → ℕ

@@ -5,7 +5,7 @@ ghost use Rattle.std.specs.List.{AllByRecursion};
 ghost use Rattle.machine.specs.Events.{IsQuiet};
 ghost use Rattle.instrument.specs.Placements.{state_of};
 ghost use Rattle.session_spec.specs.Due.{is_placing, machine_armed};
-ghost use Rattle.session.specs.Kits.{HasHarts, kit_armed, kits_armed, machine_of_armed};
+ghost use Rattle.session_kits.specs.Kits.{HasHarts, kit_armed, kits_armed, machine_of_armed};
 
 use crate::kit::Kit;
 use crate::sampling::read_kit;
@@ -43,7 +43,7 @@ fn arm_kit(machine: &mut InstrumentedMachine, time: u64, kit: &mut Kit, sample: 
 }
 
 /// Arms the instruments of all pairs that are ready, one after another.
-pub(crate) fn arm_kits(
+pub fn arm_kits(
     machine: &mut InstrumentedMachine,
     time: u64,
     kits: &mut Vec<Kit>,

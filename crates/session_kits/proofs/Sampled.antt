@@ -8,8 +8,8 @@ use Rattle.instrumented.specs.Instrumented.{Instrumented}
 use Rattle.machine.specs.Measures.{difference}
 use Rattle.session_spec.specs.declared.data.Latest.{Latest}
 use Rattle.session_spec.specs.Due.{is_armed}
-use Rattle.session.specs.declared.kit.Kit.{Kit}
-use Rattle.session.specs.Kits.{kit_latest, kit_reading, kit_sampled}
+use Rattle.session_kits.specs.declared.kit.Kit.{Kit}
+use Rattle.session_kits.specs.Kits.{kit_latest, kit_reading, kit_sampled}
 
 module _ (m : Instrumented) (time : ℕ) (k : Kit) where
   abbrev pub armed_kit : Kit

@@ -8,7 +8,7 @@ ghost use Rattle.instrumented.specs.Instrumented.{repeated};
 use instrumented::InstrumentedMachine;
 
 /// Hands out so many entries.
-pub(crate) fn hand_out(machine: &mut InstrumentedMachine, count: usize)
+pub fn hand_out(machine: &mut InstrumentedMachine, count: usize)
     ensures machine { machine.new ≡ record machine.old { state = repeated count Hands machine.old.state } }
     ensures harts { machine.new.state.core.harts ≡ machine.old.state.core.harts }
 {
@@ -18,7 +18,7 @@ pub(crate) fn hand_out(machine: &mut InstrumentedMachine, count: usize)
 }
 
 /// Does so many Frees, as far as there are any. No hart is inside a trampoline.
-pub(crate) fn sweep(machine: &mut InstrumentedMachine, count: usize)
+pub fn sweep(machine: &mut InstrumentedMachine, count: usize)
     requires { IsQuiet machine.old.state.core }
     ensures machine { machine.new ≡ record machine.old { state = repeated count Sweeps machine.old.state } }
     ensures harts { machine.new.state.core.harts ≡ machine.old.state.core.harts }

@@ -7,10 +7,9 @@ ghost use Rattle.machine.specs.Measures.{difference};
 ghost use Rattle.instrument.specs.Placements.{state_of};
 ghost use Rattle.instrument.specs.declared.number.State.TheVariants.{Gone};
 ghost use Rattle.session_spec.specs.Due.{is_armed};
-ghost use Rattle.session.specs.Kits.{HasFew, HasHarts, kit_latest, kit_reading, kit_sampled, kits_latest};
+ghost use Rattle.session_kits.specs.Kits.{HasFew, HasHarts, kit_latest, kit_reading, kit_sampled, kits_latest};
 
 use crate::kit::Kit;
-use crate::room::put_latest;
 use instrument::State;
 use instrumented::InstrumentedMachine;
 use machine::Sample;
@@ -24,7 +23,7 @@ fn added(earlier: u64, later: u64) -> u64
 }
 
 /// What the instrument of a pair reads, which isn't gone. No hart is inside a trampoline.
-pub(crate) fn read_kit(machine: &InstrumentedMachine, kit: &Kit, sample: &mut Sample) -> u64
+pub fn read_kit(machine: &InstrumentedMachine, kit: &Kit, sample: &mut Sample) -> u64
     requires quiet { IsQuiet machine.now.state.core }
     requires there { state_of machine.now.state.placer kit.now.shown.instrument.n ≡ Gone → ⊥ }
     requires places { length sample.old.readings ≡ length machine.now.state.core.harts }
@@ -36,7 +35,7 @@ pub(crate) fn read_kit(machine: &InstrumentedMachine, kit: &Kit, sample: &mut Sa
 }
 
 /// Whether the instrument of a pair is armed.
-pub(crate) fn is_armed(machine: &InstrumentedMachine, kit: &Kit) -> bool
+pub fn is_armed(machine: &InstrumentedMachine, kit: &Kit) -> bool
     ensures { result ≡ is_armed machine.now.state.placer kit.now.shown }
 {
     matches!(machine.state(kit.shown.instrument), State::Armed)
@@ -74,8 +73,17 @@ fn sample_kit(
     Some(latest)
 }
 
+/// Puts a sample behind the others, for which there is room.
+fn put_latest(list: &mut Vec<Latest>, latest: Latest)
+    requires { vec_len list.old < vec_capacity list.old }
+    ensures items { list.new.items ≡ list.old.items ++ latest ∷ [] }
+    ensures room { vec_capacity list.old ≤ vec_capacity list.new }
+{
+    let _room = list.push(latest);
+}
+
 /// Samples each pair that is armed, and puts the samples behind the latest, for which there is room.
-pub(crate) fn sample_kits(
+pub fn sample_kits(
     machine: &InstrumentedMachine,
     time: u64,
     kits: &mut Vec<Kit>,

@@ -1,8 +1,8 @@
 use Rattle.std.proofs.Common.{◌∙◌, ap}
 use Rattle.instrument.specs.Scenes.{Hands}
 use Rattle.instrumented.specs.Data.{InstrumentedData}
-use Rattle.session.proofs.Repeated.{once_more}
-use Rattle.session.proofs.agenda.hand_out.Goals as goal
+use Rattle.session_kits.proofs.Repeated.{once_more}
+use Rattle.session_kits.proofs.agenda.hand_out.Goals as goal
 
 pub loop-preserved : goal.loop-preserved
 loop-preserved c = record {

@@ -10,8 +10,8 @@ use Rattle.instrumented.specs.Data.{InstrumentedData}
 use Rattle.instrumented.specs.Instrumented.{Instrumented, done, is_linked}
 use Rattle.session_spec.specs.declared.data.Shown.{Shown}
 use Rattle.session_spec.specs.Due.{is_armed, is_armed_state, is_placing, is_ready, machine_armed}
-use Rattle.session.specs.declared.kit.Kit.{Kit}
-use Rattle.session.specs.Kits.{kit_armed, kit_reading}
+use Rattle.session_kits.specs.declared.kit.Kit.{Kit}
+use Rattle.session_kits.specs.Kits.{kit_armed, kit_reading}
 
 pub placing : (q : State) → is_placing q ≡ true → q ≡ Placing
 placing Placing e = refl

@@ -1,7 +1,7 @@
 use Rattle.std.proofs.Common.{◌∙◌, sym}
-use Rattle.session.proofs.Sampled.{kit_off, latest_now, latest_off, sampled_now}
-use Rattle.session.proofs.Arms.{armed_here}
-use Rattle.session.proofs.sampling.sample_kit.Goals as goal
+use Rattle.session_kits.proofs.Sampled.{kit_off, latest_now, latest_off, sampled_now}
+use Rattle.session_kits.proofs.Arms.{armed_here}
+use Rattle.session_kits.proofs.sampling.sample_kit.Goals as goal
 
 pub read_kit-reading-requires-clause-there : goal.read_kit-reading-requires-clause-there
 read_kit-reading-requires-clause-there c = armed_here c.args.machine.now.state.placer c.args.kit.now.shown (sym c.is_armed.ensures ∙ c.if-not-is_armed.false)

@@ -2,8 +2,8 @@ use Rattle.std.proofs.Common.{◌∙◌, ap, sym}
 use Rattle.std.specs.Prelude.{cond}
 use Rattle.instrument.specs.Scenes.{Arms}
 use Rattle.instrumented.specs.Instrumented.{Instrumented, done}
-use Rattle.session.proofs.Arms.{armed_machine, armed_now, armed_there, placing, ready, same, same_kit, unlinked, unready}
-use Rattle.session.proofs.arming.arm_kit.Goals as goal
+use Rattle.session_kits.proofs.Arms.{armed_machine, armed_now, armed_there, placing, ready, same, same_kit, unlinked, unready}
+use Rattle.session_kits.proofs.arming.arm_kit.Goals as goal
 
 pub returns-then-not-is_placing-clause-machine : goal.returns-then-not-is_placing-clause-machine
 returns-then-not-is_placing-clause-machine c =

@@ -1,0 +1,3 @@
+pub mod Repeated
+pub mod Arms
+pub mod Sampled
