@@ -1,11 +1,12 @@
 //! The agenda is handed out and done.
 
-ghost use Rattle.std.specs.Prelude.{◌≡◌, ◌-◌, ◌<◌, ◌≤◌};
+ghost use Rattle.std.specs.Prelude.{◌≡◌, ◌-◌, ◌<◌, ◌≤◌, IsFalse, is_some};
 ghost use Rattle.machine.specs.Effects.{after};
 ghost use Rattle.machine.specs.Events as events;
 ghost use Rattle.machine.specs.Events.{IsQuiet};
 ghost use Rattle.machine.specs.States.{with_core};
 ghost use Rattle.instrument.specs.Handing.{is_barred};
+ghost use Rattle.instrument.specs.Placements.{free_front};
 ghost use Rattle.instrument.specs.Scenes.{Hands, Sweeps};
 ghost use Rattle.instrumented.specs.Instrumented.{done};
 ghost use Rattle.instrumented.specs.Doing.{CanWriteMini, IsDoable, freed_core, freed_placements, handed_core, handed_placements, led, writes};
@@ -75,16 +76,20 @@ impl InstrumentedMachine {
         }
     }
 
-    /// Does the first Free before which no unlinking of its point stands. Where there is none nothing happens. No hart is inside a
-    /// trampoline. It takes no memory.
-    pub fn sweep(&mut self)
+    /// Does the first Free before which no unlinking of its point stands, and answers whether there is one. Where there is none
+    /// nothing changes. No hart is inside a trampoline. It takes no memory.
+    pub fn sweep(&mut self) -> bool
         requires { IsQuiet self.old.state.core }
+        ensures found { result ≡ is_some (free_front self.old.state.placer) }
+        ensures none { IsFalse result → self.new ≡ self.old }
         ensures state { self.new ≡ record self.old { state = done Sweeps self.old.state } }
         ensures harts { self.new.state.core.harts ≡ self.old.state.core.harts }
     {
-        if let Some(point) = self.placer.next_free() {
-            let _freed = self.machine.free(point);
-            self.placer.freed(point);
-        }
+        let Some(point) = self.placer.next_free() else {
+            return false;
+        };
+        let _freed = self.machine.free(point);
+        self.placer.freed(point);
+        true
     }
 }

@@ -1,10 +1,26 @@
 -- An act that is done some times more.
-use Rattle.std.proofs.Common.{◌≡◌, ℕ, suc, ◌+◌, ◌-◌, ◌<◌, sym, ap, ◌∙◌, arith}
+use Rattle.std.proofs.Common.{◌≡◌, ℕ, zero, suc, ◌+◌, ◌-◌, ◌<◌, List, refl, sym, ap, ap₂, ◌∙◌, arith}
+use Rattle.instrument.specs.Needs.{Need}
 use Rattle.instrument.specs.Scenes.{Act}
 use Rattle.instrumented.specs.Data.{InstrumentedData}
-use Rattle.instrumented.specs.Instrumented.{done, repeated}
+use Rattle.instrumented.specs.Instrumented.{Instrumented, done, repeated}
 
 pub once_more : (a : Act) (count counter : ℕ) (d new : InstrumentedData) → counter < count → new ≡ record d { state = done a d.state } → repeated (count - (counter + 1)) a new.state ≡ repeated (count - counter) a d.state
 once_more a count counter d new l e =
     let one : count - counter ≡ suc (count - (counter + 1)) = omega arith in
     ap (λ (x : InstrumentedData). repeated (count - (counter + 1)) a x.state) e ∙ sym (ap (λ n. repeated n a d.state) one)
+
+-- an act that changes nothing may as well be done so many times
+unchanged : (a : Act) (n : ℕ) (m : Instrumented) → done a m ≡ m → repeated n a m ≡ m
+unchanged a zero m e = refl
+unchanged a (suc n) m e = ap (repeated n a) e ∙ unchanged a n m e
+
+abbrev with_ready : Instrumented → List Need → InstrumentedData
+with_ready state ready = record { state = state; ready = ready }
+
+-- it was done some of so many times, and now changed nothing
+pub none_more : (a : Act) (count left : ℕ) (first d new : InstrumentedData) → new ≡ record d { state = done a d.state } → new ≡ d → repeated left a d.state ≡ repeated count a first.state → d.ready ≡ first.ready
+    → new ≡ record first { state = repeated count a first.state }
+none_more a count left first d new e same coming ready =
+    let still : done a d.state ≡ d.state = ap (λ (x : InstrumentedData). x.state) (sym e ∙ same) in
+    same ∙ ap₂ with_ready (sym (unchanged a left d.state still) ∙ coming) ready

@@ -24,6 +24,8 @@ pub fn sweep(machine: &mut InstrumentedMachine, count: usize)
     ensures harts { machine.new.state.core.harts ≡ machine.old.state.core.harts }
 {
     for _ in 0..count {
-        machine.sweep();
+        if !machine.sweep() {
+            return;
+        }
     }
 }

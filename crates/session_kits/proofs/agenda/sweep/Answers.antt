@@ -1,8 +1,13 @@
-use Rattle.std.proofs.Common.{◌∙◌, ap}
+use Rattle.std.proofs.Common.{◌-◌, ◌∙◌, ap, rules}
 use Rattle.instrument.specs.Scenes.{Sweeps}
 use Rattle.instrumented.specs.Data.{InstrumentedData}
+<<<<<<< HEAD:crates/session_kits/proofs/agenda/sweep/Answers.antt
 use Rattle.session_kits.proofs.Repeated.{once_more}
 use Rattle.session_kits.proofs.agenda.sweep.Goals as goal
+=======
+use Rattle.session_kits.proofs.Repeated.{none_more, once_more}
+use Rattle.session_kits.proofs.agenda.sweep.Goals as goal
+>>>>>>> 053cae0288f167e99c3876be94a1cd06f34c124b:crates/session/proofs/agenda/sweep/Answers.antt
 
 pub loop-preserved : goal.loop-preserved
 loop-preserved c = record {
@@ -10,3 +15,8 @@ loop-preserved c = record {
   ready = ap (λ (d : InstrumentedData). d.ready) c.sweep.ensures.state ∙ c.loop.invariant.ready;
   harts = c.sweep.ensures.harts ∙ c.loop.invariant.harts;
 }
+
+pub returns-then-not-sweep-clause-machine : goal.returns-then-not-sweep-clause-machine
+returns-then-not-sweep-clause-machine c =
+    none_more Sweeps c.args.count (c.args.count - c.loop.counter) c.args.machine.now c.loop.machine c.sweep.new.self c.sweep.ensures.state
+    (c.if-not-sweep.ensures.none (search rules)) c.loop.invariant.coming c.loop.invariant.ready

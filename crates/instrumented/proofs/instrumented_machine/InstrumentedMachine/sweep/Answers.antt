@@ -5,16 +5,16 @@ use Rattle.instrumented.specs.Data.{InstrumentedData}
 use Rattle.instrumented.proofs.Kept.{freed_by, none_swept_kept, returned, swept_kept}
 use Rattle.instrumented.proofs.instrumented_machine.InstrumentedMachine.sweep.Goals as goal
 
-pub invariant_of-self : goal.invariant_of-self
-invariant_of-self c =
+pub invariant_of-self-2 : goal.invariant_of-self-2
+invariant_of-self-2 c =
     let s = c.self.inside in
     let quiet : IsQuiet (s.machine).core = subst (λ (d : InstrumentedData). IsQuiet d.state.core) (sym c.self.view_is) c.requires in
     let point = c.in-Some.point in
     (swept_kept s.machine c.free-freed.new.self s.placer c.next_free.new.self c.freed.new.self point c.self.invariant quiet (sym c.in-Some.is ∙ c.next_free.ensures.point) c.next_free.ensures.placements c.next_free.ensures.ready c.freed.ensures.placements c.freed.ensures.ready
     (freed_by s.machine c.free-freed.new.self point c.free-freed.result quiet c.free-freed.ensures.may c.free-freed.ensures.state)).sound
 
-pub returns-in-Some-clause-state : goal.returns-in-Some-clause-state
-returns-in-Some-clause-state c =
+pub returns-clause-state : goal.returns-clause-state
+returns-clause-state c =
     let s = c.self.inside in
     let quiet : IsQuiet (s.machine).core = subst (λ (d : InstrumentedData). IsQuiet d.state.core) (sym c.self.view_is) c.requires in
     let point = c.in-Some.point in
