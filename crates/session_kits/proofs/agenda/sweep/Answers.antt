@@ -1,13 +1,8 @@
 use Rattle.std.proofs.Common.{◌-◌, ◌∙◌, ap, rules}
 use Rattle.instrument.specs.Scenes.{Sweeps}
 use Rattle.instrumented.specs.Data.{InstrumentedData}
-<<<<<<< HEAD:crates/session_kits/proofs/agenda/sweep/Answers.antt
-use Rattle.session_kits.proofs.Repeated.{once_more}
-use Rattle.session_kits.proofs.agenda.sweep.Goals as goal
-=======
 use Rattle.session_kits.proofs.Repeated.{none_more, once_more}
 use Rattle.session_kits.proofs.agenda.sweep.Goals as goal
->>>>>>> 053cae0288f167e99c3876be94a1cd06f34c124b:crates/session/proofs/agenda/sweep/Answers.antt
 
 pub loop-preserved : goal.loop-preserved
 loop-preserved c = record {
