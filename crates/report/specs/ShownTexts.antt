@@ -6,9 +6,9 @@ use Rattle.pn_types.specs.Texts.{cause_text}
 use Rattle.report.specs.declared.parts.RefusedPart.{RefusedPart}
 use Rattle.report.specs.declared.parts.ShownPart.{ShownPart}
 
--- a metric at a focus
+-- the name of a metric or of a hypothesis, at a focus
 abbrev pub pair_text : List ℕ → List ℕ → List ℕ
-pair_text metric focus = metric ++ (codes " " ++ focus)
+pair_text name focus = name ++ (codes " " ++ focus)
 
 -- a wish, the time at which it was refused, and why
 abbrev pub refused_line : RefusedPart → List ℕ

@@ -1,9 +1,11 @@
 -- The text of a report: lines of decimal numbers, and addresses in hexadecimal.
 use Rattle.std.specs.Prelude.{ℕ, ◌+◌, List, [], ◌∷◌, ◌++◌, length, codes, flat_map, sum_by}
 use Rattle.std.specs.Fmt.{decimal}
+use Rattle.std.specs.Option.{option_map_or}
 use Rattle.pn_types.specs.Texts.{address, stop_text}
 use Rattle.report.specs.declared.parts.HartPart.{HartPart}
 use Rattle.report.specs.declared.parts.ReportParts.{ReportParts}
+use Rattle.report.specs.SearchTexts.{search_lines}
 use Rattle.report.specs.ShownTexts.{refused_line, shown_lines}
 
 -- the numbers of the harts, of their ticks together, of the samples and of the function symbols that are no procedures
@@ -27,8 +29,9 @@ hart_lines n (part ∷ parts) = hart_line n part ++ hart_lines (n + 1) parts
 abbrev pub output_lines : List ℕ → List ℕ
 output_lines output = codes "output " ++ decimal (length output) ++ codes "\n" ++ output ++ codes "\n"
 
--- The report of a run, behind the name of the format.
+-- The report of a run, behind the name of the format; lines on the search stand only where there was one.
 abbrev pub report_text : ReportParts → ℕ → List ℕ
 report_text parts skipped =
     codes "paradyn report 1\n" ++ counts_line parts skipped ++ hart_lines 0 parts.harts ++ output_lines parts.output
     ++ flat_map refused_line parts.refused ++ flat_map shown_lines parts.shown
+    ++ option_map_or search_lines parts.search []

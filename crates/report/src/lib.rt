@@ -5,9 +5,10 @@ mod lines;
 mod parts;
 mod plan_lines;
 mod point_lines;
+mod search_lines;
 mod shown_lines;
 
 pub use lines::report;
-pub use parts::{HartPart, RefusedPart, ReportParts, ShownPart};
+pub use parts::{HartPart, NodePart, RefusedPart, ReportParts, SearchPart, ShownPart};
 pub use plan_lines::plan_text;
 pub use point_lines::points_text;

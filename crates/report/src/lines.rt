@@ -2,6 +2,7 @@ ghost use Rattle.std.specs.Prelude.{◌≡◌, ◌++◌, ◌≤◌, ◌<◌, ◌
 ghost use Rattle.report.specs.Text.{counts_line, hart_line, hart_lines, output_lines, report_text};
 
 use crate::parts::{HartPart, ReportParts};
+use crate::search_lines::add_search;
 use crate::shown_lines::{add_all_refused, add_all_shown};
 use pn_types::NoMemory;
 use std::alloc::Global;
@@ -84,5 +85,8 @@ pub fn report(alloc: Global, parts: &ReportParts, skipped: u32) -> Result<Vec<u8
     add_output(alloc, &mut out, parts.output.bytes())?;
     add_all_refused(alloc, &mut out, parts.refused.as_slice())?;
     add_all_shown(alloc, &mut out, parts.shown.as_slice())?;
+    if let Some(search) = &parts.search {
+        add_search(alloc, &mut out, search)?;
+    }
     Ok(out)
 }

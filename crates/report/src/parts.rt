@@ -1,5 +1,6 @@
 use fold_hist::Bin;
 use pn_types::{PickCause, Seq, StopText, Text};
+use w3_search::Node;
 
 /// What a report says of a hart.
 #[derive(Clone, Copy, Debug, PartialEq, Eq, Drop)]
@@ -44,6 +45,30 @@ pub struct ShownPart {
     pub bins: Seq<Bin>,
 }
 
+/// What a report says of a node of the search.
+#[derive(Drop, Debug)]
+pub struct NodePart {
+    /// The name of its phase.
+    pub phase: Text,
+    /// The name of its hypothesis.
+    pub hypothesis: Text,
+    /// Its focus, in its canonical form.
+    pub focus: Text,
+    /// The node itself: the number of its parent, what came of it, and the sums over its samples.
+    pub node: Node,
+}
+
+/// What a report says of the search.
+#[derive(Drop, Debug)]
+pub struct SearchPart {
+    /// There are as many nodes as there may be, so that no more were made.
+    pub full: bool,
+    /// How many samples the test of a node takes.
+    pub window: u32,
+    /// The nodes, by number.
+    pub nodes: Seq<NodePart>,
+}
+
 /// What a report says of a run.
 #[derive(Drop, Debug)]
 pub struct ReportParts {
@@ -57,4 +82,6 @@ pub struct ReportParts {
     pub refused: Seq<RefusedPart>,
     /// What was shown, in the order of the admissions.
     pub shown: Seq<ShownPart>,
+    /// The search, if there was one.
+    pub search: Option<SearchPart>,
 }

@@ -7,11 +7,11 @@ use fold_hist::Bin;
 use pn_types::{NoMemory, Text};
 use std::alloc::Global;
 
-/// A metric at a focus.
-fn add_pair(out: &mut Vec<u8>, metric: &Text, focus: &Text) -> Result<(), NoMemory>
-    ensures { OnOk result (out.new.items ≡ out.old.items ++ pair_text metric.now focus.now) }
+/// The name of a metric or of a hypothesis, at a focus.
+pub fn add_pair(out: &mut Vec<u8>, name: &Text, focus: &Text) -> Result<(), NoMemory>
+    ensures { OnOk result (out.new.items ≡ out.old.items ++ pair_text name.now focus.now) }
 {
-    out.extend_from_slice(metric.bytes())?;
+    out.extend_from_slice(name.bytes())?;
     out.extend_from_slice(b" ")?;
     out.extend_from_slice(focus.bytes())
 }

@@ -82,7 +82,7 @@ abbrev pub program_of_run : Inputs → List ℕ → Plain
 program_of_run i owns = run i.image i.settings.harts owns
 
 -- What a report shows of a session in this state: the harts and the output of the unpatched program's run, how many samples were
--- taken, what was refused, and what was shown.
+-- taken, what was refused, and what was shown. It has no search.
 abbrev pub parts_of : Inputs → State → ReportParts
 parts_of i s = record {
   harts = map (hart_part i.settings.budget) (program_of_run i s.owns).harts;
@@ -90,4 +90,5 @@ parts_of i s = record {
   output = (program_of_run i s.owns).prog.out;
   refused = map (refused_part i) s.kept.refused;
   shown = shown_parts i s.kept.shown s.recorded;
+  search = None;
 }

@@ -1,5 +1,5 @@
 -- For proofs alone: what the code reports of what it holds.
-use Rattle.std.specs.Prelude.{ℕ, map, nat_lt}
+use Rattle.std.specs.Prelude.{ℕ, None, map, nat_lt}
 use Rattle.tramp_spec.specs.Harts.{Hart}
 use Rattle.machine.specs.Cores.{Core}
 use Rattle.machine.specs.Places.{program_pc}
@@ -25,4 +25,5 @@ table_parts i t = record {
   output = t.machine.state.core.prog.out;
   refused = map (refused_part i) t.refused;
   shown = map (kit_part i) t.kits;
+  search = None;
 }

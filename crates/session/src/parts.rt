@@ -167,5 +167,6 @@ pub(crate) fn desk_parts(
         output: Text::from_vec(output),
         refused: Seq::from_vec(refused_parts(alloc, inputs, desk.refused.as_slice())?),
         shown: Seq::from_vec(shown_parts(alloc, inputs, desk.kits.as_slice())?),
+        search: None,
     })
 }
