@@ -45,3 +45,4 @@ pub mod Based
 pub mod Owners
 pub mod Memoryless
 pub mod Examples
+pub mod Marked

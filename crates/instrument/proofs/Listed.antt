@@ -96,23 +96,28 @@ place_found xs n place x a l e q = ap (λ u. Some u) e ∙ (sym (at_get xs place
 pub none_found : (xs : List Instrument) (n : ℕ) → ((i : Instrument) → In i xs → i.no ≡ n → ⊥) → None ≡ find (λ (i : Instrument). i.no == n) xs
 none_found xs n away = sym (away_found xs n away)
 
--- ---- what is in a state from now on
+-- ---- what changes its state
 
-away_state : (x : Instrument) (n : ℕ) (s : State) → (x.no ≡ n → ⊥) → x ≡ with_state n s x
-away_state x n s away = ap (λ v. record x { state = v }) (sym (cond-false (x.no == n) s x.state (ne_eqb _ _ away)))
+-- the instrument of a number has another state
+abbrev changed : ℕ → (State → State) → Instrument → Instrument
+changed n f i = record i { state = cond (i.no == n) (f i.state) i.state }
 
-pub none_states : (xs : List Instrument) (n : ℕ) (s : State) → ((i : Instrument) → In i xs → i.no ≡ n → ⊥) → xs ≡ map (with_state n s) xs
-none_states [] n s away = refl
-none_states (x ∷ xs) n s away = cc (away_state x n s (away x (inl refl)), none_states xs n s (λ i h. away i (inr h)))
+away_changed : (x : Instrument) (n : ℕ) (f : State → State) → (x.no ≡ n → ⊥) → x ≡ changed n f x
+away_changed x n f away = ap (λ v. record x { state = v }) (sym (cond-false (x.no == n) (f x.state) x.state (ne_eqb _ _ away)))
 
-pub place_states : (xs : List Instrument) (n place : ℕ) (s : State) (x : Instrument) → AreInOrder xs → place < length xs → option_map (λ (i : Instrument). i.no) (slice_get xs place) ≡ Some n
-    → slice_set xs place (record (get_or xs place x) { state = s }) ≡ map (with_state n s) xs
-place_states [] n place s x a l e = absurd (omega arith)
-place_states (y ∷ ys) n zero s x a l e =
-    let z : y.no ≡ n = cc in
-    let first : record y { state = s } ≡ with_state n s y = ap (λ v. record y { state = v }) (sym (cond-true (y.no == n) s y.state (eq-eqb _ _ z))) in
-    cc (first, none_states ys n s (λ i h q. let b = a.0 i h in absurd (omega (arith, b, q, z))))
-place_states (y ∷ ys) n (suc place) s x a l e = cc (away_state y n s (behind y.no n ys place a.0 e), place_states ys n place s x a.1 (omega arith) e)
+pub none_changed : (xs : List Instrument) (n : ℕ) (f : State → State) → ((i : Instrument) → In i xs → i.no ≡ n → ⊥) → xs ≡ map (changed n f) xs
+none_changed [] n f away = refl
+none_changed (x ∷ xs) n f away = cc (away_changed x n f (away x (inl refl)), none_changed xs n f (λ i h. away i (inr h)))
+
+pub place_changed : (xs : List Instrument) (n place : ℕ) (f : State → State) (x y : Instrument) (s : State) → AreInOrder xs → place < length xs → option_map (λ (i : Instrument). i.no) (slice_get xs place) ≡ Some n
+    → y ≡ get_or xs place y → s ≡ f y.state → slice_set xs place (record (get_or xs place x) { state = s }) ≡ map (changed n f) xs
+place_changed [] n place f x y s a l e at is = absurd (omega arith)
+place_changed (z ∷ zs) n zero f x y s a l e at is =
+    let q : z.no ≡ n = cc in
+    let state = is ∙ (ap (λ (u : Instrument). f u.state) at ∙ sym (cond-true (z.no == n) (f z.state) z.state (eq-eqb _ _ q))) in
+    let first : record z { state = s } ≡ changed n f z = ap (λ v. record z { state = v }) state in
+    cc (first, none_changed zs n f (λ i h p. let b = a.0 i h in absurd (omega (arith, b, p, q))))
+place_changed (z ∷ zs) n (suc place) f x y s a l e at is = cc (away_changed z n f (behind z.no n zs place a.0 e), place_changed zs n place f x y s a.1 (omega arith) e at is)
 
 -- ---- the order stays
 
@@ -124,9 +129,15 @@ order_filter p (x ∷ xs) a = by (p x) (order_filter p xs a.1)
     by true r = (λ j h. a.0 j (in_filter p xs j h).0, r)
     by false r = r
 
-pub order_states : (n : ℕ) (s : State) (xs : List Instrument) → AreInOrder xs → AreInOrder (map (with_state n s) xs)
-order_states n s [] a = tt
-order_states n s (x ∷ xs) a = (λ j h. let o = in_map (with_state n s) xs j h in subst (λ (u : Instrument). x.no < u.no) (sym o.2) (a.0 o.0 o.1), order_states n s xs a.1)
+pub order_map : (f : Instrument → Instrument) (xs : List Instrument) → ((i : Instrument) → (f i).no ≡ i.no) → AreInOrder xs → AreInOrder (map f xs)
+order_map f [] same a = tt
+order_map f (x ∷ xs) same a = (
+  λ j h.
+      let o = in_map f xs j h in
+      let l = a.0 o.0 o.1 in let e = ap (λ (u : Instrument). u.no) o.2 in let p = same x in let q = same o.0 in
+      omega (arith, l, e, p, q),
+  order_map f xs same a.1,
+)
 
 pub order_added : (xs : List Instrument) (x : Instrument) → AreInOrder xs → AreNumberedBelow x.no xs → AreInOrder (xs ++ x ∷ [])
 order_added [] x a b = (λ j h. absurd h, tt)

@@ -1,16 +1,15 @@
 -- The slots of instruments in a space: what is given back where some are gone.
-use Rattle.std.proofs.Common.{◌≡◌, ℕ, ◌+◌, ◌^◌, ◌<◌, ◌-◌, List, [], ◌++◌, map, refl, sym, subst, arith, filter, take, drop, get_or, length, cond}
+use Rattle.std.proofs.Common.{◌≡◌, ℕ, ◌+◌, ◌^◌, ◌<◌, ◌-◌, List, [], ◌++◌, ap, map, refl, sym, subst, arith, filter, take, drop, get_or, length, cond}
 use Rattle.std.specs.Prelude.{Bool, true, false, nat_lt}
 use Rattle.tool_space.specs.Rooms.{Rooms, new_space, after_give}
 use Rattle.tramp_spec.specs.Banks.{bank_len, first_slot}
 use Rattle.machine.specs.Cores.{In}
 use Rattle.machine.proofs.Lists.{in_map}
+use Rattle.pn_types.specs.declared.placed.Placed.{Placed}
 use Rattle.pn_types.specs.declared.limits.TheConstants.{BANK_LEN, FIRST_SLOT}
-use Rattle.instrument.specs.Admission.{slot_count}
-use Rattle.instrument.specs.Listed.{AreInOrder}
-use Rattle.instrument.specs.Placements.{with_state}
-use Rattle.instrument.specs.Spaces.{slots_of, IsRow, AreSlotsOf, IsRoster}
-use Rattle.instrument.specs.declared.number.State.{State}
+use Rattle.instrument.specs.Admission.{slot_count, slots_from}
+use Rattle.instrument.specs.Listed.{AreInOrder, AreThere}
+use Rattle.instrument.specs.Spaces.{first_or, slots_of, slots_of_placed, IsRow, AreSlotsOf, IsRoster}
 use Rattle.instrument.specs.declared.instrument.Instrument.{Instrument}
 use Rattle.instrument.proofs.Holdings.{space_new, space_map, space_goes, next_stays, left_before}
 
@@ -42,12 +41,15 @@ roster_new space instruments len capacity e f g = record {
     rows = λ i h. absurd h;
   }));
   order = subst AreInOrder (sym f) tt;
+  there = subst AreThere (sym f) (λ i h. absurd h);
   memory = omega (arith, g);
 }
 
 -- a state is no matter
-pub states_slots : (space : Rooms) (n : ℕ) (state : State) (xs : List Instrument) → AreSlotsOf space xs → AreSlotsOf space (map (with_state n state) xs)
-states_slots space n state xs k = record {
-  taken = space_map slots_of (with_state n state) (λ i. refl) first_slot (bank_len - first_slot) space xs k.taken;
-  rows = λ i h. let o = in_map (with_state n state) xs i h in subst IsRow (sym o.2) (k.rows o.0 o.1);
+pub slots_map : (space : Rooms) (f : Instrument → Instrument) (xs : List Instrument) → ((i : Instrument) → (f i).placed ≡ i.placed) → AreSlotsOf space xs → AreSlotsOf space (map f xs)
+slots_map space f xs same k = record {
+  taken = space_map slots_of f (λ i. ap slots_of_placed (same i)) first_slot (bank_len - first_slot) space xs k.taken;
+  rows = λ i h.
+      let o = in_map f xs i h in
+      subst IsRow (sym o.2) (subst (λ (p : Placed). p.slots ≡ slots_from (first_or first_slot p.slots) p.vars) (sym (same o.0)) (k.rows o.0 o.1));
 }

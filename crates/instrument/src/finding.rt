@@ -3,7 +3,7 @@
 ghost use Rattle.std.specs.Prelude.{◌≡◌, ◌==◌, ◌<◌, IfNone, IfSome, Some, find, length, map, slice_get};
 ghost use Rattle.std.specs.Option.{option_copied, option_map};
 ghost use Rattle.machine.specs.Cores.{In};
-ghost use Rattle.instrument.specs.Listed.{AreInOrder};
+ghost use Rattle.instrument.specs.Listed.{AreInOrder, with_room};
 ghost use Rattle.instrument.specs.Placements as placements;
 ghost use Rattle.instrument.specs.declared.instrument.Instrument.{Instrument};
 
@@ -38,5 +38,15 @@ pub fn set_state(instruments: &mut [Instrument], number: InstrumentNo, state: St
 {
     if let Some(place) = place_of(instruments, number) {
         instruments[place].state = state;
+    }
+}
+
+/// The instrument of a number has a room: where it was dropped, it is no more marked as gone.
+pub fn note_room(instruments: &mut [Instrument], number: InstrumentNo)
+    requires { AreInOrder instruments.old }
+    ensures { instruments.new ≡ map (with_room number.n) instruments.old }
+{
+    if let Some(place) = place_of(instruments, number) {
+        instruments[place].state = instruments[place].state.marked(true);
     }
 }

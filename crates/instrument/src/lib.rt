@@ -16,6 +16,7 @@ mod instrument;
 mod kit;
 mod kits;
 mod laws;
+mod leaving;
 mod ledger;
 mod memory;
 mod number;

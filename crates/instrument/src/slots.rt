@@ -1,39 +1,18 @@
 //! The slots of instruments.
 
-ghost use Rattle.std.specs.Prelude.{◌≡◌, ◌+◌, ◌==◌, ◌^◌, ◌<◌, ◌≤◌, [], IfOk, filter, length, nat_lt, vec_capacity, if◌then◌else◌};
-ghost use Rattle.std.specs.List.{list_any};
+ghost use Rattle.std.specs.Prelude.{◌≡◌, ◌+◌, ◌^◌, ◌<◌, ◌≤◌, [], IfOk, filter, length, nat_lt, vec_capacity, if◌then◌else◌};
 ghost use Rattle.tool_space.specs.Rooms.{IsTaken, after_give};
 ghost use Rattle.tramp_spec.specs.Banks.{first_slot};
 ghost use Rattle.instrument.specs.Admission as table;
 ghost use Rattle.instrument.specs.Admission.{slot_count};
-ghost use Rattle.instrument.specs.Placements as placements;
+ghost use Rattle.instrument.specs.Listed.{is_there};
 ghost use Rattle.instrument.specs.Spaces.{AreSlotsOf, first_or, slots_of_placed};
 
 use crate::costs::slot_count;
 use crate::instrument::Instrument;
-use crate::room::Room;
 use pn_types::{FIRST_SLOT, NoMemory, Placed, Var};
 use std::alloc::Global;
 use tool_space::Space;
-
-/// A mini block of the instrument has a room.
-fn has_room(rooms: &[Room], no: u64) -> bool
-    ensures { result ≡ list_any (placements.is_mini_room_of no) rooms.now }
-{
-    for room in rooms {
-        if !room.base && room.owner == no {
-            return true;
-        }
-    }
-    false
-}
-
-/// The instrument isn't gone: it wasn't dropped, or a mini block of it has a room.
-pub fn is_here(instrument: &Instrument, rooms: &[Room]) -> bool
-    ensures { result ≡ placements.is_here rooms.now instrument.now }
-{
-    !instrument.state.is_leaving() || has_room(rooms, instrument.no)
-}
 
 /// The first slot of an instrument.
 fn first_slot_of(placed: &Placed) -> u32
@@ -58,14 +37,14 @@ fn give_slots(slots: &mut Space, placed: &Placed)
     }
 }
 
-/// Gives back the slots of the instruments that are gone.
-pub fn give_gone(slots: &mut Space, instruments: &[Instrument], rooms: &[Room])
+/// Gives back the slots of the instruments that are marked as gone.
+pub fn give_gone(slots: &mut Space, instruments: &[Instrument])
     requires { AreSlotsOf slots.old instruments.now }
-    ensures slots { AreSlotsOf slots.new (filter (placements.is_here rooms.now) instruments.now) }
+    ensures slots { AreSlotsOf slots.new (filter is_there instruments.now) }
     ensures takes { slots.new.takes ≡ slots.old.takes }
 {
     for instrument in instruments {
-        if !is_here(instrument, rooms) {
+        if instrument.state.is_gone() {
             give_slots(slots, &instrument.placed);
         }
     }

@@ -1,11 +1,12 @@
-use Rattle.std.proofs.Common.{rules, ◌∙◌, List, ap, map, subst, sym}
+use Rattle.std.proofs.Common.{rules, ◌∙◌, List, ap, map, refl, subst, sym}
 use Rattle.std.proofs.lemmas.List.{with_items_is}
-use Rattle.instrument.specs.Listed.{AreInOrder}
+use Rattle.instrument.specs.Listed.{AreInOrder, AreThere}
 use Rattle.instrument.specs.Placements.{with_state}
 use Rattle.instrument.specs.Spaces.{AreSlotsOf}
 use Rattle.instrument.specs.declared.instrument.Instrument.{Instrument}
-use Rattle.instrument.proofs.Listed.{order_states}
-use Rattle.instrument.proofs.Slotted.{states_slots}
+use Rattle.instrument.proofs.Listed.{order_map}
+use Rattle.instrument.proofs.Marked.{there_states}
+use Rattle.instrument.proofs.Slotted.{slots_map}
 use Rattle.instrument.proofs.roster.Roster.set_state.Goals as goal
 
 pub invariant_of-self : goal.invariant_of-self
@@ -15,7 +16,8 @@ invariant_of-self c =
     let items = c.self.inside.instruments.items in
     let same = ap (map (with_state n state)) (sym c.deref_mut.ensures.value) ∙ sym (with_items_is c.self.inside.instruments c.set_state.new.instruments (search rules) ∙ c.set_state.ensures) in
     record {
-      slots = subst (λ (is : List Instrument). AreSlotsOf c.self.inside.slots is) same (states_slots c.self.inside.slots n state items c.self.invariant.slots);
-      order = subst AreInOrder same (order_states n state items c.self.invariant.order);
+      slots = subst (λ (is : List Instrument). AreSlotsOf c.self.inside.slots is) same (slots_map c.self.inside.slots (with_state n state) items (λ i. refl) c.self.invariant.slots);
+      order = subst AreInOrder same (order_map (with_state n state) items (λ i. refl) c.self.invariant.order);
+      there = subst AreThere same (there_states n state items c.requires c.self.invariant.there);
       memory = c.self.invariant.memory;
     }
