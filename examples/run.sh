@@ -13,6 +13,11 @@ check() {
   "$paradyn" asm "$name.s" >"$made" && cmp "$made" "$name.elf" || failed=1
   "$paradyn" run "$name.elf" "$name.conf" "$@" >"$made" && cmp "$made" "$name.report" || failed=1
 }
+check_search() {
+  name=$1
+  shift
+  "$paradyn" run "$name.elf" search.conf "$@" >"$made" && cmp "$made" "${name}_search.report" || failed=1
+}
 check_plan() {
   name=$1
   shift
@@ -21,6 +26,8 @@ check_plan() {
 check crc --width 500
 check tickets --harts 4 --width 10000
 check rounds --harts 4 --quantum 25 --width 5000
+check_search tickets --harts 4 --width 5000
+check_search rounds --harts 4 --quantum 25 --width 1000
 check_plan tickets sync_wait /SyncObject/lock_tickets
 [ "$failed" = 0 ] && echo "all examples print what they should"
 exit "$failed"

@@ -1,4 +1,4 @@
-ghost use Rattle.std.specs.Prelude.{◌≡◌, ◌+◌, ◌<◌, ◌≤◌, ◌⊎◌, ◌^◌, Ok, Err, IfErr, IfOk, IfSome, OnErr, OnOk, Some, [], length, map};
+ghost use Rattle.std.specs.Prelude.{◌≡◌, nat_le, ◌+◌, ◌<◌, ◌≤◌, ◌⊎◌, ◌^◌, Ok, Err, IfErr, IfOk, IfSome, OnErr, OnOk, Some, [], length, map};
 ghost use Rattle.std.specs.Option.{option_map};
 ghost use Rattle.machine.specs.Cores.{In};
 ghost use Rattle.pn_types.specs.Images.{IsImage};
@@ -80,6 +80,13 @@ impl Placer {
         ensures { result ≡ placements.state_of self.now.placements number.n }
     {
         self.roster.state(number)
+    }
+
+    /// Whether there are as many instruments that aren't gone as are allowed at once.
+    pub fn is_full(&self) -> bool
+        ensures { result ≡ nat_le self.now.placements.limit (length self.now.placements.instruments) }
+    {
+        self.roster.instruments().len() >= self.limit as usize
     }
 
     /// Where an instrument acts that isn't gone.

@@ -1,4 +1,4 @@
-ghost use Rattle.std.specs.Prelude.{◌≡◌, ◌<◌, ◌≤◌, None, Some, IfOk, [], length, slice_get};
+ghost use Rattle.std.specs.Prelude.{◌≡◌, nat_le, ◌<◌, ◌≤◌, None, Some, IfOk, [], length, slice_get};
 ghost use Rattle.std.specs.List.{AllByRecursion};
 ghost use Rattle.std.specs.Option.{option_map};
 ghost use Rattle.pn_types.specs.Images.{IsImage, text_of};
@@ -85,6 +85,13 @@ impl InstrumentedMachine {
         ensures { result ≡ state_of self.now.state.placer number.n }
     {
         self.placer.state(number)
+    }
+
+    /// Whether there are as many instruments that aren't gone as are allowed at once.
+    pub fn is_full(&self) -> bool
+        ensures { result ≡ nat_le self.now.state.placer.limit (length self.now.state.placer.instruments) }
+    {
+        self.placer.is_full()
     }
 
     /// How many of its words the hart executed.

@@ -18,9 +18,9 @@ use Rattle.paradyn_top.specs.Found.{AreFound}
 use Rattle.paradyn_top.specs.Given.{IsUnscratched, CanRun}
 use Rattle.paradyn_top.specs.declared.finding.Found.{Found}
 use Rattle.paradyn_top.proofs.Each.{of_all}
-use Rattle.paradyn_top.proofs.FewItems.{shipped_few}
 use Rattle.paradyn_top.proofs.Inside.{inside}
-use Rattle.paradyn_top.proofs.Wished.{IsWished, wished, few_wishes}
+use Rattle.paradyn_top.proofs.Numbered.{numbered, windowed}
+use Rattle.paradyn_top.proofs.Wished.{IsWished, wished}
 
 -- what is known of what was found
 pub record IsKnown (image : Image) (conf : Conf) (found : Found) : Type 0 where
@@ -42,19 +42,25 @@ module _ (image : Image) (harts : ℕ) (conf : Conf) (found : Found) (are : AreF
   points_are = are.points ∙ ap (λ (procs : List Proc). points_of image procs) (sym are.procs)
 
   pub given : IsImage image → IsUnscratched image → IsKnown image conf found → CanRun image harts found
-  given is unscratched known settings range same = record {
-    image = is;
-    unscratched = unscratched;
-    settings = range;
-    harts = tree_harts ∙ sym same;
-    objects = known.low;
-    checked = known.sound;
-    wishes = λ w there.
-        let wish = of_all (IsWished found.tree found.checked.metrics) found.checked.wishes w (wished found.tree shipped_conf.items conf.items found.checked answer) there in
-        record { metric = wish.metric; harts = omega (arith, wish.harts, tree_harts, same) };
-    few_wishes = few_wishes found.tree shipped_conf.items conf.items found.checked answer shipped_few known.items;
-    procs = known.procs.few;
-    points = known.points;
-    ascending = known.ascending;
-    inside = λ p there. inside image is found.procs known.procs p (subst (λ (points : List Point). In p points) points_are there);
-  }
+  given is unscratched known settings range same =
+      let few = numbered found.tree conf.items found.checked answer known.items in
+      record {
+        image = is;
+        unscratched = unscratched;
+        settings = range;
+        harts = tree_harts ∙ sym same;
+        objects = known.low;
+        checked = known.sound;
+        wishes = λ w there.
+            let wish = of_all (IsWished found.tree found.checked.metrics) found.checked.wishes w (wished found.tree shipped_conf.items conf.items found.checked answer) there in
+            record { metric = wish.metric; harts = omega (arith, wish.harts, tree_harts, same) };
+        few_wishes = few.wishes;
+        few_metrics = few.metrics;
+        few_hypotheses = few.hypotheses;
+        few_phases = few.phases;
+        window = windowed found.tree shipped_conf.items conf.items found.checked answer;
+        procs = known.procs.few;
+        points = known.points;
+        ascending = known.ascending;
+        inside = λ p there. inside image is found.procs known.procs p (subst (λ (points : List Point). In p points) points_are there);
+      }

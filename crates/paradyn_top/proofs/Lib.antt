@@ -4,6 +4,7 @@ mod SightSteps
 mod PlanLemmas
 mod Inside
 mod Wished
+mod Numbered
 mod Given
 mod OneDue
 mod Rising

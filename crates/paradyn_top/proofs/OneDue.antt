@@ -1,5 +1,5 @@
 -- What is due is unique where each file was seen as one thing.
-use Rattle.std.proofs.Common.{◌≡◌, ℕ, List, Option, Some, None, Bool, true, false, Result, Ok, Err, sym, ap, ◌∙◌}
+use Rattle.std.proofs.Common.{◌≡◌, ℕ, List, Option, Some, None, Result, Ok, Err, sym, ap, ◌∙◌}
 use Rattle.command_words.specs.Requests.{Request, RunRequest, ReplayRequest, PlanRequest, run, replay, make_plan, assemble, list_points, relog, later, request_of}
 use Rattle.elf_form.specs.declared.limits.TheConstants.{MAX_PROGRAM_LEN}
 use Rattle.mdl_ast.specs.declared.items.Conf.{Conf}
@@ -40,7 +40,7 @@ use Rattle.whole_run.specs.Seeded.{OneSeeded}
 use Rattle.paradyn_top.specs.Answers.{output}
 use Rattle.paradyn_top.specs.Due.{texts_of_run, IsOpened, IsRunWith, IsRun, IsRunDue, IsDueFor, IsDue}
 use Rattle.paradyn_top.specs.Found.{resources_of, IsCheck, IsFound}
-use Rattle.paradyn_top.specs.Given.{asks_search, inputs_with}
+use Rattle.paradyn_top.specs.Given.{inputs_with}
 use Rattle.paradyn_top.specs.Inputs.{image_of, file_of, MeansConf, IsProgramContent, IsProgram, IsElfFile, IsConfContent, IsConfiguration, AreInputs}
 use Rattle.paradyn_top.specs.Logs.{or_bad_log, IsLog, IsLogContent, MeansLog}
 use Rattle.paradyn_top.specs.Replays.{replayed, IsReplay, IsReplayDue, IsReplayFrom, IsReplayWith}
@@ -162,21 +162,19 @@ module _ (laws : Laws) where
       e ∙ ap (λ (l : List Quantum). Ok (texts_of_run r image i l)) (laws.seeded i r.seed r.quantum quanta others seeded seeded') ∙ sym f
   opened_once (Some wish) r image i a b e f = e ∙ sym f
 
-  run_once : (asks : Bool) (r : RunRequest) (image : Image) (i : SessionInputs) → IsOne (IsRunWith asks r image i)
-  run_once true r image i a b e f = e ∙ sym f
-  run_once false r image i a b e f = opened_once (bad_pick i) r image i a b e f
+  run_once : (r : RunRequest) (image : Image) (i : SessionInputs) → IsOne (IsRunWith r image i)
+  run_once r image i a b e f = opened_once (bad_pick i) r image i a b e f
 
   -- ---- logs
 
-  replay_once : (asks : Bool) (log : Log) (image : Image) (i : SessionInputs) → IsOne (IsReplayWith asks log image i)
-  replay_once true log image i = equal_once (Err NotYet)
-  replay_once false log image i = equal_once (replayed (bad_pick i) (misfit_of i log.quanta) log image i)
+  replay_once : (log : Log) (image : Image) (i : SessionInputs) → IsOne (IsReplayWith log image i)
+  replay_once log image i = equal_once (replayed (bad_pick i) (misfit_of i log.quanta) log image i)
 
   replay_from_once : (start : Start) (log : Log) (i : Inputs) → IsOne (IsReplayFrom start log i)
   replay_from_once Warm log i = equal_once (Err NotYet)
   replay_from_once Cold log i =
       one_then (IsFound i.image log.settings.harts i.conf) (IsReplay log i.image) (found_once i.image log.settings.harts i.conf)
-      (λ found. replay_once (asks_search found.checked) log i.image (inputs_with i.image found log.settings))
+      (λ found. replay_once log i.image (inputs_with i.image found log.settings))
 
   module _ (sees : Sight) (once : (name : List ℕ) → IsOne (sees name)) where
     content_once : (most : ℕ) (too_long : Fault) (name : List ℕ) → IsOne (IsContent sees most too_long name)
@@ -197,7 +195,7 @@ module _ (laws : Laws) where
     run_due_once r =
         one_then (AreInputs sees r.program r.conf) (λ i. Then (IsFound i.image r.settings.harts i.conf) (IsRun r i.image)) (inputs_once r.program r.conf)
         (λ i. one_then (IsFound i.image r.settings.harts i.conf) (IsRun r i.image) (found_once i.image r.settings.harts i.conf)
-        (λ found. run_once (asks_search found.checked) r i.image (inputs_with i.image found r.settings)))
+        (λ found. run_once r i.image (inputs_with i.image found r.settings)))
 
     log_once : (name : List ℕ) → IsOne (IsLog sees name)
     log_once name = one_then (IsLogContent sees name) MeansLog (content_once LOG_LIMIT (BadLog LOG_LIMIT TooLongLog) name) (λ bytes. equal_once (or_bad_log bytes (meaning_of bytes)))

@@ -41,7 +41,7 @@ use Rattle.session_spec.specs.declared.data.RefusedWish.{RefusedWish}
 use Rattle.whole_run.specs.Replayed.{misfit_of}
 use Rattle.whole_run.specs.declared.misfit.Misfit.{Misfit}
 use Rattle.whole_run.specs.declared.misfit.Misfit.TheVariants as misfit
-use Rattle.paradyn_top.specs.Given.{asks_search, inputs_with}
+use Rattle.paradyn_top.specs.Given.{inputs_with}
 use Rattle.paradyn_top.specs.Answers.{output}
 use Rattle.paradyn_top.specs.Due.{IsOpened, IsRunWith, IsRun, IsRunDue, IsDueFor, IsDue}
 use Rattle.paradyn_top.specs.Found.{resources_of, IsCheck, IsFound}
@@ -118,9 +118,8 @@ opened_spared : (pick : Option RefusedWish) (r : RunRequest) (image : Image) (i 
 opened_spared None r image i name (quanta, seeded, e) = cc
 opened_spared (Some wish) r image i name e = cc
 
-run_spared : (asks : Bool) (r : RunRequest) (image : Image) (i : SessionInputs) (name : List ℕ) → IsRunWith asks r image i (Err (FileFault name)) → ⊥
-run_spared true r image i name e = cc
-run_spared false r image i name e = opened_spared (bad_pick i) r image i name e
+run_spared : (r : RunRequest) (image : Image) (i : SessionInputs) (name : List ℕ) → IsRunWith r image i (Err (FileFault name)) → ⊥
+run_spared r image i name e = opened_spared (bad_pick i) r image i name e
 
 log_spared : (bytes : List ℕ) (r : Result (Settings × List Quantum) LogFault) → Spares (or_bad_log bytes r)
 log_spared bytes (Ok log) = tt
@@ -137,9 +136,8 @@ replayed_spared None (Some (misfit.OtherOwns number told owns)) log image i = tt
 replayed_spared None (Some misfit.Unfinished) log image i = tt
 replayed_spared None None log image i = tt
 
-replay_spared : (asks : Bool) (log : Log) (image : Image) (i : SessionInputs) (name : List ℕ) → IsReplayWith asks log image i (Err (FileFault name)) → ⊥
-replay_spared true log image i name e = cc
-replay_spared false log image i name e = spared (replayed (bad_pick i) (misfit_of i log.quanta) log image i) name (replayed_spared (bad_pick i) (misfit_of i log.quanta) log image i) e
+replay_spared : (log : Log) (image : Image) (i : SessionInputs) (name : List ℕ) → IsReplayWith log image i (Err (FileFault name)) → ⊥
+replay_spared log image i name e = spared (replayed (bad_pick i) (misfit_of i log.quanta) log image i) name (replayed_spared (bad_pick i) (misfit_of i log.quanta) log image i) e
 
 -- ---- where a file was read
 
@@ -203,7 +201,7 @@ module _ (holds : List ℕ → Holding) (before now : List ℕ → ℕ) (name : 
       (at_inputs r.program r.conf)
       (λ i. of_either Rises (IsFound i.image r.settings.harts i.conf) (IsRun r i.image) (FileFault name)
       (λ wrong. absurd (check_spared (resources_of i.image r.settings.harts i.conf) i.conf name wrong))
-      (λ found e. absurd (run_spared (asks_search found.checked) r i.image (inputs_with i.image found r.settings) name e)))
+      (λ found e. absurd (run_spared r i.image (inputs_with i.image found r.settings) name e)))
 
   at_log : (other : List ℕ) → IsLog sees other (Err (FileFault name)) → Rises
   at_log other =
@@ -215,7 +213,7 @@ module _ (holds : List ℕ → Holding) (before now : List ℕ → ℕ) (name : 
   at_replay_from Cold log i =
       of_either Rises (IsFound i.image log.settings.harts i.conf) (IsReplay log i.image) (FileFault name)
       (λ wrong. absurd (check_spared (resources_of i.image log.settings.harts i.conf) i.conf name wrong))
-      (λ found e. absurd (replay_spared (asks_search found.checked) log i.image (inputs_with i.image found log.settings) name e))
+      (λ found e. absurd (replay_spared log i.image (inputs_with i.image found log.settings) name e))
 
   at_replay : (r : ReplayRequest) → IsReplayDue r sees (Err (FileFault name)) → Rises
   at_replay r =

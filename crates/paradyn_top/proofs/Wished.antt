@@ -1,15 +1,14 @@
 -- The wishes of a checked configuration name its metrics, and their foci select harts of the tree.
-use Rattle.std.proofs.Common.{◌≡◌, ℕ, ◌+◌, ◌<◌, ◌≤◌, ◌^◌, Bool, true, false, cond, Option, Some, None, Ok, List, [], ◌∷◌, length, flat_map, bytes_eq, refl, sym, ap, subst, arith}
+use Rattle.std.proofs.Common.{◌≡◌, ℕ, ◌+◌, ◌<◌, ◌≤◌, Bool, true, false, cond, Option, Some, None, Ok, List, [], ◌∷◌, length, flat_map, bytes_eq, refl, sym, subst, arith}
 use Rattle.std.specs.List.{AllByRecursion}
-use Rattle.std.proofs.lemmas.List.{length-append, length-map}
+use Rattle.std.proofs.lemmas.List.{length-append}
 use Rattle.mdl_ast.specs.declared.items.Item.{Item}
 use Rattle.mdl_ast.specs.declared.items.Item.TheVariants.{Include, Sync, Metric, Constraint, Hypothesis, Search, Phase, Wish}
 use Rattle.mdl_ast.specs.declared.items.Wish.{Wish as TheWish}
 use Rattle.mdl_ast.specs.declared.metric.Metric.{Metric as TheMetric}
-use Rattle.mdl_check.proofs.Few.{spots_counted}
-use Rattle.mdl_check.specs.Checking.{HasFocus, HaveFoci, IsAnswer, spot_of, metric_of, wish_with, wish_of}
+use Rattle.mdl_check.specs.Checking.{HasFocus, HaveFoci, IsAnswer, metric_of, wish_with, wish_of}
 use Rattle.mdl_check.specs.Names.{metric_name, number_from, metric_number}
-use Rattle.mdl_check.specs.Spots.{Spot, Entry}
+use Rattle.mdl_check.specs.Spots.{Entry}
 use Rattle.mdl_check.specs.declared.checked.Checked.{Checked}
 use Rattle.mdl_check.specs.declared.checked.CheckedWish.{CheckedWish}
 use Rattle.pn_types.specs.declared.focus.Focus.{Focus}
@@ -93,36 +92,3 @@ module _ (t : Resources) (all : List Entry) where
 pub wished : (t : Resources) (shipped items : List Item) (c : Checked) → IsAnswer t shipped items (Ok c) → AllByRecursion (IsWished t c.metrics) c.wishes
 wished t shipped items c (es, entries, none, is) =
     subst (λ (x : Checked). AllByRecursion (IsWished t x.metrics) x.wishes) (sym is) (all_wished t es es entries.foci)
-
--- ---- how many
-
-one_wish : (w : TheWish) (number : Option ℕ) (focus : Option Focus) → length (wish_with w number focus) ≤ 1
-one_wish w None focus = omega arith
-one_wish w (Some k) None = omega arith
-one_wish w (Some k) (Some focus) = omega arith
-
-at_most_one : (all : List Entry) (item : Item) (focus : Option Focus) → length (wish_of all item focus) ≤ 1
-at_most_one all (Include i) focus = omega arith
-at_most_one all (Sync s) focus = omega arith
-at_most_one all (Metric m) focus = omega arith
-at_most_one all (Constraint c) focus = omega arith
-at_most_one all (Hypothesis h) focus = omega arith
-at_most_one all (Search s) focus = omega arith
-at_most_one all (Phase p) focus = omega arith
-at_most_one all (Wish w) focus = one_wish w (metric_number all w.metric) focus
-
--- there are no more wishes than items
-wishes_few : (all es : List Entry) → length (flat_map (λ e. wish_of all e.item e.focus) es) ≤ length es
-wishes_few all [] = omega arith
-wishes_few all (e ∷ es) = omega (arith, wishes_few all es, at_most_one all e.item e.focus, length-append (wish_of all e.item e.focus) (flat_map (λ e. wish_of all e.item e.focus) es))
-
-pub few_wishes : (t : Resources) (shipped items : List Item) (c : Checked) → IsAnswer t shipped items (Ok c) → length shipped ≤ 1000 → length items ≤ 1048576 → length c.wishes < 2 ^ 32
-few_wishes t shipped items c (es, entries, none, is) h k =
-    omega (
-      arith,
-      ap (λ (x : Checked). length x.wishes) is,
-      wishes_few es es,
-      length-map es spot_of,
-      ap (λ (places : List Spot). length places) entries.places_are,
-      spots_counted shipped items h k,
-    )

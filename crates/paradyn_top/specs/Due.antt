@@ -1,5 +1,5 @@
 -- What the top call owes for words and files.
-use Rattle.std.specs.Prelude.{◌≡◌, ℕ, is_some, Bool, true, false, List, Option, None, Some, Ok, Err}
+use Rattle.std.specs.Prelude.{◌≡◌, ℕ, is_some, List, Option, None, Some, Ok, Err}
 use Rattle.code_points.specs.Points.{points_of}
 use Rattle.code_points.specs.Procedures.{procedures_of, skipped_of}
 use Rattle.command_words.specs.Requests.{Request, RunRequest, PlanRequest, run, replay, make_plan, assemble, list_points, relog, later, request_of}
@@ -15,7 +15,7 @@ use Rattle.whole_run.specs.Recorded.{log_of, report_of}
 use Rattle.whole_run.specs.Seeded.{IsSeeded}
 use Rattle.paradyn_top.specs.Answers.{output}
 use Rattle.paradyn_top.specs.Found.{IsFound}
-use Rattle.paradyn_top.specs.Given.{asks_search, inputs_with, pick_fault}
+use Rattle.paradyn_top.specs.Given.{inputs_with, pick_fault}
 use Rattle.paradyn_top.specs.Inputs.{IsProgram, IsElfFile, AreInputs}
 use Rattle.paradyn_top.specs.Plans.{IsPlan}
 use Rattle.paradyn_top.specs.Replays.{IsRelogDue, IsReplayDue}
@@ -34,13 +34,12 @@ abbrev pub IsOpened : Option RefusedWish → RunRequest → Image → Inputs →
 IsOpened None r image i texts = (quanta : List Quantum) × IsSeeded i r.seed r.quantum quanta × (texts ≡ Ok (texts_of_run r image i quanta))
 IsOpened (Some wish) r image i texts = texts ≡ Err (pick_fault i wish)
 
-abbrev pub IsRunWith : Bool → RunRequest → Image → Inputs → Step Texts
-IsRunWith true r image i texts = texts ≡ Err NotYet
-IsRunWith false r image i texts = IsOpened (bad_pick i) r image i texts
+abbrev pub IsRunWith : RunRequest → Image → Inputs → Step Texts
+IsRunWith r image i = IsOpened (bad_pick i) r image i
 
 -- a run of the image with what was found of it
 abbrev pub IsRun : RunRequest → Image → Found → Step Texts
-IsRun r image found = IsRunWith (asks_search found.checked) r image (inputs_with image found r.settings)
+IsRun r image found = IsRunWith r image (inputs_with image found r.settings)
 
 abbrev pub IsRunDue : RunRequest → Sight → Step Texts
 IsRunDue r sees = Then (AreInputs sees r.program r.conf) (λ i. Then (IsFound i.image r.settings.harts i.conf) (IsRun r i.image))

@@ -1,6 +1,5 @@
--- What a session is given of a program and its configuration, and what is refused of these.
-use Rattle.std.specs.Prelude.{◌≡◌, ℕ, ◌||◌, nat_lt, is_some, Bool, length, None}
-use Rattle.mdl_check.specs.declared.checked.Checked.{Checked}
+-- What a session is given of a program and its configuration, and the fault where it can't open.
+use Rattle.std.specs.Prelude.{◌≡◌, ℕ, None}
 use Rattle.pn_types.specs.Images.{text_of}
 use Rattle.pn_types.specs.Settings.{AreInRange}
 use Rattle.pn_types.specs.declared.image.Image.{Image}
@@ -18,10 +17,6 @@ use Rattle.paradyn_top.specs.declared.finding.Found.{Found}
 -- no word of the text names x31
 abbrev pub IsUnscratched : Image → Type 0
 IsUnscratched image = scratch_in (words_of (text_of image)) image.text_at ≡ None
-
--- the configuration asks for what isn't supported yet: a search or a phase
-abbrev pub asks_search : Checked → Bool
-asks_search c = is_some c.search || nat_lt 0 (length c.phases)
 
 -- the fault of a wish at tick 0 that is refused
 abbrev pub pick_fault : Inputs → RefusedWish → Fault

@@ -1,5 +1,5 @@
 -- What is due for a log: the report of a run along its quanta, and the log written anew.
-use Rattle.std.specs.Prelude.{◌≡◌, ℕ, Bool, true, false, List, Option, None, Some, Ok, Err, Result}
+use Rattle.std.specs.Prelude.{◌≡◌, ℕ, List, Option, None, Some, Ok, Err, Result}
 use Rattle.code_points.specs.Procedures.{skipped_of}
 use Rattle.command_words.specs.Requests.{ReplayRequest}
 use Rattle.pn_types.specs.declared.image.Image.{Image}
@@ -18,7 +18,7 @@ use Rattle.whole_run.specs.Replayed.{misfit_of}
 use Rattle.whole_run.specs.declared.misfit.Misfit.{Misfit}
 use Rattle.paradyn_top.specs.Answers.{output}
 use Rattle.paradyn_top.specs.Found.{IsFound}
-use Rattle.paradyn_top.specs.Given.{asks_search, inputs_with, pick_fault}
+use Rattle.paradyn_top.specs.Given.{inputs_with, pick_fault}
 use Rattle.paradyn_top.specs.Inputs.{AreInputs}
 use Rattle.paradyn_top.specs.Logs.{misfit_fault, IsLog}
 use Rattle.paradyn_top.specs.Sights.{Sight}
@@ -33,13 +33,12 @@ replayed (Some wish) misfit log image i = Err (pick_fault i wish)
 replayed None (Some misfit) log image i = Err (misfit_fault log misfit)
 replayed None None log image i = Ok (output (report_of i log.quanta (skipped_of image)))
 
-abbrev pub IsReplayWith : Bool → Log → Image → Inputs → Step Texts
-IsReplayWith true log image i texts = texts ≡ Err NotYet
-IsReplayWith false log image i texts = texts ≡ replayed (bad_pick i) (misfit_of i log.quanta) log image i
+abbrev pub IsReplayWith : Log → Image → Inputs → Step Texts
+IsReplayWith log image i texts = texts ≡ replayed (bad_pick i) (misfit_of i log.quanta) log image i
 
 -- a run along a log's quanta of the image with what was found of it
 abbrev pub IsReplay : Log → Image → Found → Step Texts
-IsReplay log image found = IsReplayWith (asks_search found.checked) log image (inputs_with image found log.settings)
+IsReplay log image found = IsReplayWith log image (inputs_with image found log.settings)
 
 -- a log of a warm start isn't supported yet
 abbrev pub IsReplayFrom : Start → Log → Read → Step Texts

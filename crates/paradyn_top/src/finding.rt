@@ -82,7 +82,11 @@ pub struct Found {
 }
 
 /// Finds a program's procedures, points and resources on so many harts, and checks a configuration against them.
-pub(crate) fn find(alloc: Global, image: &Image, harts: u32, conf: &Conf) -> Result<Found, Refusal>
+///
+/// # Errors
+///
+/// Want of memory, or the fault of the configuration's first faulty item.
+pub fn find(alloc: Global, image: &Image, harts: u32, conf: &Conf) -> Result<Found, Refusal>
     requires image { IsImage image.now }
     requires modules { AreModulesGood image.now }
     requires unscratched { IsUnscratched image.now }

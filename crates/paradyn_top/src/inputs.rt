@@ -82,12 +82,18 @@ pub(crate) fn read_configuration<F: Files>(
 /// A program and a configuration.
 #[derive(Drop)]
 pub struct Inputs {
+    /// The program's image.
     pub image: Image,
+    /// The configuration.
     pub conf: Conf,
 }
 
 /// Reads a program and then a configuration.
-pub(crate) fn read_inputs<F: Files>(
+///
+/// # Errors
+///
+/// Want of memory, or the first fault that is due.
+pub fn read_inputs<F: Files>(
     alloc: Global,
     files: &mut F,
     program: &str,

@@ -20,8 +20,11 @@ mod top;
 
 pub use command_words::log_name;
 pub use delivery::deliver;
+pub use finding::{Found, find};
+pub use inputs::{Inputs, read_inputs};
 pub use laws::one_owed;
 pub use program::{Words, run_program};
 pub use refusals::{ConfFault, ConfKind, Fault, LogCause, ProgramFault, faults_text};
+pub use running::session_inputs;
 pub use texts::Texts;
 pub use top::serve;

@@ -1,6 +1,6 @@
 //! The commands `replay` and `relog`.
 
-ghost use Rattle.std.specs.Prelude.{◌≡◌, ◌≤◌, IfOk, false, length};
+ghost use Rattle.std.specs.Prelude.{◌≡◌, ◌≤◌, IfOk, length};
 ghost use Rattle.std.specs.List.{AllByRecursion};
 ghost use Rattle.code_points.specs.Procedures.{skipped_of, AreModulesGood};
 ghost use Rattle.command_words.specs.Asked.{asked_replay};
@@ -17,7 +17,7 @@ ghost use Rattle.session.specs.Given.{AreGiven};
 use crate::finding::{Found, find};
 use crate::inputs::{Inputs, read_inputs};
 use crate::logs::{Log, misfit_fault, read_log};
-use crate::running::{asks_search, bad_pick, session_inputs};
+use crate::running::{bad_pick, session_inputs};
 use crate::texts::Texts;
 use code_points::procedures;
 use command_words::ReplayRequest;
@@ -32,7 +32,7 @@ use whole_run::{ReplayFault, replay_run};
 fn replay_inputs(alloc: Global, log: &Log, inputs: session::Inputs) -> Result<Texts, Refusal>
     requires given { AreGiven inputs }
     requires spelled { CanSpell version.Two inputs.settings log.now.quanta }
-    ensures { Comes result (IsReplayWith false log.now inputs.image inputs) }
+    ensures { Comes result (IsReplayWith log.now inputs.image inputs) }
 {
     let (_, skipped) = procedures(alloc, &inputs.image)?;
     match replay_run(alloc, inputs, log.quanta.as_slice(), skipped) {
@@ -49,9 +49,6 @@ fn replay_found(alloc: Global, log: &Log, image: Image, found: Found) -> Result<
     requires runs { CanRun image log.now.settings.harts found }
     ensures { Comes result (IsReplay log.now image found) }
 {
-    if asks_search(&found.checked) {
-        return Err(Refusal::Fault(Fault::NotYet));
-    }
     replay_inputs(alloc, log, session_inputs(image, found, log.settings))
 }
 

@@ -1,11 +1,11 @@
 //! The command `run`.
 
-ghost use Rattle.std.specs.Prelude.{◌≡◌, ◌≤◌, false, is_some, IfOk};
+ghost use Rattle.std.specs.Prelude.{◌≡◌, ◌≤◌, is_some, IfOk};
 ghost use Rattle.code_points.specs.Procedures.{skipped_of};
 ghost use Rattle.command_words.specs.Asked.{asked_run};
 ghost use Rattle.command_words.specs.Requests.{HasRanges, run};
 ghost use Rattle.paradyn_top.specs.Due.{IsRun, IsRunDue, IsRunWith};
-ghost use Rattle.paradyn_top.specs.Given.{asks_search, inputs_with, CanRun};
+ghost use Rattle.paradyn_top.specs.Given.{inputs_with, CanRun};
 ghost use Rattle.paradyn_top.specs.Sights.{seen, Looks};
 ghost use Rattle.pn_types.specs.Images.{IsImage};
 ghost use Rattle.pn_types.specs.Settings.{AreInRange};
@@ -17,7 +17,6 @@ use crate::inputs::read_inputs;
 use crate::texts::Texts;
 use code_points::procedures;
 use command_words::RunRequest;
-use mdl_check::Checked;
 use outside::Files;
 use pn_types::{Image, MAX_QUANTUM, NoMemory, Seq, Settings};
 use refusals::{Fault, Refusal};
@@ -25,13 +24,6 @@ use report::RefusedPart;
 use session::{Inputs, StartFault};
 use std::alloc::Global;
 use whole_run::{Course, Recorded, record_run};
-
-/// Whether the configuration asks for what isn't supported yet: a search or a phase.
-pub(crate) fn asks_search(checked: &Checked) -> bool
-    ensures { result ≡ asks_search checked.now }
-{
-    checked.search.is_some() || !checked.phases.as_slice().is_empty()
-}
 
 /// What is asked for of a run of the image.
 fn course(alloc: Global, request: &RunRequest<'_>, image: &Image) -> Result<Course, NoMemory>
@@ -65,7 +57,7 @@ pub(crate) fn bad_pick(refused: RefusedPart) -> Refusal
 }
 
 /// What a session is given: an image, what was found of it, and settings.
-pub(crate) fn session_inputs(image: Image, found: Found, settings: Settings) -> Inputs
+pub fn session_inputs(image: Image, found: Found, settings: Settings) -> Inputs
     ensures { result ≡ inputs_with image found settings }
 {
     Inputs {
@@ -82,7 +74,7 @@ pub(crate) fn session_inputs(image: Image, found: Found, settings: Settings) -> 
 fn run_inputs(alloc: Global, request: &RunRequest<'_>, inputs: Inputs) -> Result<Texts, Refusal>
     requires given { AreGiven inputs }
     requires quantum { (1 ≤ request.now.quantum) × (request.now.quantum ≤ MAX_QUANTUM) }
-    ensures { Comes result (IsRunWith false (asked_run request.now) inputs.image inputs) }
+    ensures { Comes result (IsRunWith (asked_run request.now) inputs.image inputs) }
 {
     let course = course(alloc, request, &inputs.image)?;
     match record_run(alloc, inputs, &course) {
@@ -103,9 +95,6 @@ fn run_found(
     requires runs { CanRun image request.now.settings.harts found }
     ensures { Comes result (IsRun (asked_run request.now) image found) }
 {
-    if asks_search(&found.checked) {
-        return Err(Refusal::Fault(Fault::NotYet));
-    }
     run_inputs(
         alloc,
         request,

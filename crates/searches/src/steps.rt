@@ -1,7 +1,7 @@
 //! Steps of a search, each only where it may be taken.
 
-ghost use Rattle.std.specs.Prelude.{◌≡◌, ◌<◌, ◌^◌, IsTrue};
-ghost use Rattle.w3_search.specs.Steps.{IsReady, Waits};
+ghost use Rattle.std.specs.Prelude.{IsTrue};
+ghost use Rattle.w3_search.specs.Steps.{Waits};
 
 use crate::rows::{Row, Sample};
 use pn_types::BarCause;
@@ -35,39 +35,9 @@ fn bar(search: &mut Search, number: u32) -> bool {
     true
 }
 
-/// Whether a sample is of a node under test, whose ticks stay small.
-fn is_ready(nodes: &[Node], sample: &NodeSample) -> bool
-    ensures { IsTrue result → IsReady sample.now nodes.now }
-{
-    match nodes.get(sample.node as usize) {
-        Some(node) => {
-            matches!(node.state, NodeState::Active)
-                && node.ticks < 1_000_000
-                && sample.ticks < 1_000_000
-        }
-        None => false,
-    }
-}
-
-/// A due work at t with a sample, if it is ready.
-fn work_of_one(search: &mut Search, t: u64, one: NodeSample) -> bool {
-    if !is_ready(search.nodes(), &one) {
-        return false;
-    }
-    let _to_drop = search.on_sample(t, &[one]);
-    true
-}
-
-/// A due work at t with two samples, if they are of different nodes and ready.
-#[tactic(auto, using(crate::proofs::Ready::other_ready))]
-fn work_of_two(search: &mut Search, t: u64, one: NodeSample, two: NodeSample) -> bool {
-    if one.node == two.node {
-        return false;
-    }
-    if !is_ready(search.nodes(), &one) || !is_ready(search.nodes(), &two) {
-        return false;
-    }
-    let _to_drop = search.on_sample(t, &[one, two]);
+/// A due work at t with these samples, which can be taken at any time.
+fn work(search: &mut Search, t: u64, samples: &[NodeSample]) -> bool {
+    let _to_drop = search.on_sample(t, samples);
     true
 }
 
@@ -84,7 +54,7 @@ fn sample((node, from, value, ticks): Sample) -> NodeSample {
 /// Admits each of these nodes, and gives it a sample of this value from tick 0 to 100, if it waits.
 fn test_each(search: &mut Search, from: u32, to: u32, value: u64) -> bool {
     for number in from..to {
-        if !admit(search, number) || !work_of_one(search, 100, sample((number, 0, value, 100))) {
+        if !admit(search, number) || !work(search, 100, &[sample((number, 0, value, 100))]) {
             return false;
         }
     }
@@ -95,12 +65,9 @@ fn test_each(search: &mut Search, from: u32, to: u32, value: u64) -> bool {
 pub(crate) fn take(search: &mut Search, row: &Row) -> bool {
     match *row {
         Row::Begin(_) => true,
-        Row::Work(t) => {
-            let _to_drop = search.on_sample(t, &[]);
-            true
-        }
-        Row::One(t, one) => work_of_one(search, t, sample(one)),
-        Row::Two(t, one, two) => work_of_two(search, t, sample(one), sample(two)),
+        Row::Work(t) => work(search, t, &[]),
+        Row::One(t, one) => work(search, t, &[sample(one)]),
+        Row::Two(t, one, two) => work(search, t, &[sample(one), sample(two)]),
         Row::Admit(number) => admit(search, number),
         Row::Bar(number) => bar(search, number),
         Row::Each(from, to, value) => test_each(search, from, to, value),

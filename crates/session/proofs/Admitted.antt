@@ -1,9 +1,8 @@
 -- An admission of the code is the definitions'.
-use Rattle.std.proofs.Common.{◌≡◌, ℕ, zero, suc, ◌+◌, ◌-◌, ◌≤◌, List, [], ◌∷◌, ◌++◌, Option, Some, None, Ok, Err, refl, sym, ap, ap₂, ◌∙◌, subst, arith, length, inl, inr}
+use Rattle.std.proofs.Common.{◌≡◌, ℕ, zero, suc, ◌+◌, ◌-◌, ◌≤◌, List, [], ◌∷◌, ◌++◌, Option, Some, None, Ok, Err, refl, sym, ap, ap₂, ◌∙◌, subst, arith, length}
 use Rattle.std.specs.Prelude.{Bool, true, false, cond, Result, drop, replicate, take}
 use Rattle.std.specs.List.{AllByRecursion}
 use Rattle.std.proofs.lemmas.List.{length-append, length-map, map-append}
-use Rattle.std.proofs.lemmas.Bool.{true≢false}
 use Rattle.fold_hist.specs.Bins.{Histogram, hist_of}
 use Rattle.pn_types.specs.declared.pick.PickCause.{PickCause}
 use Rattle.pn_types.specs.declared.plan.Plan.{Plan}
@@ -17,13 +16,11 @@ use Rattle.session_spec.specs.Inputs.{Inputs, cause_of_plan, cause_of_refusal, p
 use Rattle.session_spec.specs.States.{Kept}
 use Rattle.session_spec.specs.Admission.{shown_now, with_admission, with_answer, with_drop, with_plan, with_refused, with_show, with_wish, with_wishes}
 use Rattle.session_spec.specs.Opening.{with_all}
-use Rattle.session_spec.specs.Ties.{IsGood}
-use Rattle.session_spec.specs.Reads.{AllGood, AreGood, IsWishGood, desk_admitted, hists_with, lasts_with}
+use Rattle.session_spec.specs.Reads.{desk_admitted, hists_with, lasts_with}
+use Rattle.session_spec.specs.Tests.{taken_at_once, with_tests}
 use Rattle.session_spec.proofs.Going.{wish_time}
-use Rattle.session.specs.declared.candidate.Candidate.{Candidate}
 use Rattle.session_kits.specs.declared.kit.Kit.{Kit}
-use Rattle.session.specs.Candidates.{IsAnswer, answer_of}
-use Rattle.session.specs.Tables.{AreCandidates, IsAdmission, IsCount, IsMore, IsNew, IsSame, Table, desk_at, kept_of}
+use Rattle.session.specs.Tables.{IsAdmission, IsCount, IsMore, IsNew, IsStill, Table, desk_at, kept_of}
 use Rattle.session.proofs.Counting.{count_low, take_many}
 use Rattle.session.proofs.Simulated.{hists_in, lasts_in, shown_in}
 
@@ -75,27 +72,6 @@ wishes_are i (w ∷ ws) (suc n) k c e =
     ∙ (wishes_are i ws n one (subst (λ t. IsCount t ws n) (sym time) c.1) left
     ∙ ap (with_all i (take n ws)) (ap (λ (x : Kept). record x { wishes = drop n ws }) (wish_beside i w ws k) ∙ sym (wish_beside i w (drop n ws) k)))
 
--- ---- the plans of those that are looked at can be measured
-
-good_answer : (i : Inputs) (w : CheckedWish) (r : Result Plan PickCause) → IsAnswer i w r → IsWishGood i w
-good_answer i w (Ok plan) a p e = let same : plan ≡ p = (let z = sym a.0 ∙ e in cc) in subst (IsGood i) same (a.1).good
-good_answer i w (Err cause) a p e = absurd (let z = sym a.1 ∙ e in cc)
-
-pub good_wishes : (i : Inputs) (time : ℕ) (ws : List CheckedWish) (n : ℕ) (ps : List Plan) (cs : List Candidate) → IsCount time ws n → AreCandidates i (take n ws) ps cs → AreGood i time ws
-good_wishes i time [] n ps cs c a = tt
-good_wishes i time (w ∷ ws) zero ps cs c a = λ e. absurd (true≢false (sym e ∙ c))
-good_wishes i time (w ∷ ws) (suc n) [] cs c a = absurd a
-good_wishes i time (w ∷ ws) (suc n) (p ∷ ps) [] c a = absurd a
-good_wishes i time (w ∷ ws) (suc n) (p ∷ ps) (x ∷ cs) c a = λ e. ((λ s. good_answer i w (answer_of x.refusal p) ((a.0).answer s)), good_wishes i time ws n ps cs c.1 a.1)
-
--- of all of them
-pub good_answers : (i : Inputs) (ws : List CheckedWish) (ps : List Plan) (cs : List Candidate) → AreCandidates i ws ps cs → AllGood i ws
-good_answers i [] ps cs a w h = absurd h
-good_answers i (v ∷ ws) [] cs a w h = absurd a
-good_answers i (v ∷ ws) (p ∷ ps) [] a w h = absurd a
-good_answers i (v ∷ ws) (p ∷ ps) (x ∷ cs) a w (inl e) = λ s. subst (IsWishGood i) (sym e) (good_answer i v (answer_of x.refusal p) ((a.0).answer (ap (λ (y : CheckedWish). y.show) (sym e) ∙ s)))
-good_answers i (v ∷ ws) (p ∷ ps) (x ∷ cs) a w (inr h) = good_answers i ws ps cs a.1 w h
-
 -- ---- what is known of new pairs
 
 new_lasts : (i : Inputs) (more : List Kit) → AllByRecursion (IsNew i) more → lasts_in more ≡ replicate (length more) 0
@@ -127,59 +103,52 @@ hists_more i old new m =
 
 -- ---- an admission
 
-desk_is : (i : Inputs) (later left : List CheckedWish) (t new : Table) → kept_of left new ≡ with_admission i (kept_of later t) → IsMore i t.kits new.kits → new.latest ≡ t.latest → desk_at left new ≡ desk_admitted i (desk_at later t)
-desk_is i later left t new kept m latest =
+desk_is : (i : Inputs) (later left : List CheckedWish) (t new : Table) → kept_of left new ≡ with_admission i (kept_of later t) → IsMore i t.kits new.kits → IsStill t new → desk_at left new ≡ desk_admitted i (desk_at later t)
+desk_is i later left t new kept m still =
     let shown : shown_in new.kits ≡ (with_admission i (kept_of later t)).shown = ap (λ (k : Kept). k.shown) kept in
     let lasts = lasts_more i t.kits new.kits m ∙ ap (λ s. lasts_with s (lasts_in t.kits)) shown in
     let hists = hists_more i t.kits new.kits m ∙ ap (λ s. hists_with i.settings.bins s (hists_in t.kits)) shown in
-    ap₂ (λ (x : Kept) (l : List ℕ). record { kept = x; lasts = l; hists = hists_in new.kits; latest = new.latest }) kept lasts
-    ∙ ap₂ (λ (h : List Histogram) (l : List _). record { kept = with_admission i (kept_of later t); lasts = lasts_with (with_admission i (kept_of later t)).shown (lasts_in t.kits); hists = h; latest = l }) hists latest
+    let latest = ap (λ (x : Table). x.latest) still.same in
+    let marks = ap (λ (x : Table). x.marks) still.same in
+    ap₂ (λ (x : Kept) (l : List ℕ). record { kept = x; lasts = l; hists = hists_in new.kits; latest = new.latest; marks = new.marks }) kept lasts
+    ∙ (ap₂ (λ (h : List Histogram) (l : List _). record { kept = with_admission i (kept_of later t); lasts = lasts_with (with_admission i (kept_of later t)).shown (lasts_in t.kits); hists = h; latest = l; marks = new.marks }) hists latest
+    ∙ ap (λ (x : List ℕ). record (desk_admitted i (desk_at later t)) { marks = x }) marks)
 
 -- no work was done
 pub none_admitted : (i : Inputs) (later : List CheckedWish) (t : Table) → t.worked ≡ false → desk_at later t ≡ desk_admitted i (desk_at later t)
 unfolding with_admission
-none_admitted i later t e = desk_is i later later t t (sym (ap (λ b. cond b (record (with_wishes i later (kept_of later t)) { worked = false }) (kept_of later t)) e)) (record { more = []; is = sym (append_nil t.kits); each = tt }) refl
-
-pub some_admitted : (i : Inputs) (later : List CheckedWish) (n : ℕ) (t new : Table) → t.worked ≡ true → IsCount t.time later n
-    → kept_of (drop n later) new ≡ with_all i (take n later) (kept_of (drop n later) t) → IsMore i t.kits new.kits → new.latest ≡ t.latest
-    → desk_at (drop n later) (record new { worked = false }) ≡ desk_admitted i (desk_at later t)
-unfolding with_admission
-some_admitted i later n t new e c kept m latest =
-    desk_is i later (drop n later) t (record new { worked = false })
-    (ap (λ (k : Kept). record k { worked = false }) (kept ∙ sym (wishes_are i later n (kept_of later t) c refl)) ∙ sym (ap (λ b. cond b (record (with_wishes i later (kept_of later t)) { worked = false }) (kept_of later t)) e)) m latest
+none_admitted i later t e =
+    desk_is i later later t t (sym (ap (λ b. cond b (record (with_tests i (with_wishes i later (kept_of later t))) { worked = false }) (kept_of later t)) e)) (record { more = []; is = sym (append_nil t.kits); each = tt })
+    (record { same = refl; core = refl; rules = refl })
 
 pub no_admission : (i : Inputs) (later : List CheckedWish) (t : Table) → t.worked ≡ false → IsAdmission i later t t 0
 no_admission i later t e = record {
   looked = omega arith;
   desk = none_admitted i later t e;
-  good = λ w. absurd (true≢false (sym w ∙ e));
   kits = record { more = []; is = sym (append_nil t.kits); each = tt };
   few = omega arith;
-  core = refl;
-  places = refl;
-  time = refl;
-  samples = refl;
+  stays = record { same = refl; core = refl; rules = refl };
 }
 
--- memory was taken for them, they were looked at, and the admission was done
-pub one_admission : (i : Inputs) (later : List CheckedWish) (n : ℕ) (t reserved considered new : Table) (ps : List Plan) (cs : List Candidate) → t.worked ≡ true → IsCount t.time later n → AreCandidates i (take n later) ps cs
-    → IsSame t reserved → ((ws : List CheckedWish) → kept_of ws considered ≡ with_all i (take n later) (kept_of ws reserved)) → IsMore i reserved.kits considered.kits → length considered.kits ≤ length reserved.kits + length (take n later)
-    → considered.latest ≡ reserved.latest → considered.places ≡ reserved.places → considered.machine.state.core ≡ reserved.machine.state.core → considered.time ≡ reserved.time → considered.samples ≡ reserved.samples
-    → new ≡ record considered { worked = false } → IsAdmission i later t new n
-one_admission i later n t reserved considered new ps cs worked count each same kept kits few latest places core time samples is =
+some_admitted : (i : Inputs) (later : List CheckedWish) (n : ℕ) (t new : Table) → t.worked ≡ true → IsCount t.time later n
+    → kept_of (drop n later) new ≡ with_tests i (with_all i (take n later) (kept_of (drop n later) t)) → kept_of (drop n later) (record new { worked = false }) ≡ with_admission i (kept_of later t)
+unfolding with_admission
+some_admitted i later n t new e c kept =
+    ap (λ (k : Kept). record k { worked = false }) (kept ∙ ap (with_tests i) (sym (wishes_are i later n (kept_of later t) c refl)))
+    ∙ sym (ap (λ b. cond b (record (with_tests i (with_wishes i later (kept_of later t))) { worked = false }) (kept_of later t)) e)
+
+-- the wishes were looked at and the nodes taken, and the admission was done
+pub one_admission : (i : Inputs) (later : List CheckedWish) (n : ℕ) (t admitted new : Table) → t.worked ≡ true → IsCount t.time later n
+    → ((ws : List CheckedWish) → kept_of ws admitted ≡ with_tests i (with_all i (take n later) (kept_of ws t))) → IsMore i t.kits admitted.kits → length admitted.kits ≤ length t.kits + length (take n later) + taken_at_once
+    → IsStill t admitted → new ≡ record admitted { worked = false } → IsAdmission i later t new n
+one_admission i later n t admitted new worked count kept kits few still is =
     let low = count_low t.time later n count in
     let len = take_many n later low in
-    let kits_same : reserved.kits ≡ t.kits = ap (λ (x : Table). x.kits) same in
-    let l = ap (λ (x : List Kit). length x) kits_same in
-    let more = subst (λ (x : List Kit). IsMore i x considered.kits) kits_same kits in
+    let stays : IsStill t (record admitted { worked = false }) = record { same = ap (λ (x : Table). record x { worked = false }) still.same; core = still.core; rules = still.rules } in
     subst (λ (x : Table). IsAdmission i later t x n) (sym is) (record {
       looked = low;
-      desk = some_admitted i later n t considered worked count (kept (drop n later) ∙ ap (λ (x : Table). with_all i (take n later) (kept_of (drop n later) x)) same) more (latest ∙ ap (λ (x : Table). x.latest) same);
-      good = λ w. good_wishes i t.time later n ps cs count each;
-      kits = more;
+      desk = desk_is i later (drop n later) t (record admitted { worked = false }) (some_admitted i later n t admitted worked count (kept (drop n later))) kits stays;
+      kits = kits;
       few = omega arith;
-      core = core ∙ ap (λ (x : Table). x.machine.state.core) same;
-      places = places ∙ ap (λ (x : Table). x.places) same;
-      time = time ∙ ap (λ (x : Table). x.time) same;
-      samples = samples ∙ ap (λ (x : Table). x.samples) same;
+      stays = stays;
     })

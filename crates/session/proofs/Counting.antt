@@ -8,7 +8,7 @@ use Rattle.machine.specs.Cores.{In}
 use Rattle.session_spec.specs.Inputs.{Inputs}
 use Rattle.session.specs.declared.candidate.Candidate.{Candidate}
 use Rattle.session.specs.Tables.{AreCandidates, IsCandidate, IsCount}
-use Rattle.session.proofs.Considered.{drop_all, drop_step}
+use Rattle.session.proofs.Readiness.{drop_all, drop_step}
 
 -- what is counted from a place on is counted in all
 abbrev pub CountsOn : ℕ → List CheckedWish → ℕ → Type 0
@@ -54,7 +54,7 @@ one_prepared i ws k w ps qs cs ds p c e a one q d =
     subst (λ l. AreCandidates i (take (k + 1) ws) l ds) (sym q) (subst (AreCandidates i (take (k + 1) ws) (ps ++ p ∷ [])) (sym d)
     (subst (λ l. AreCandidates i l (ps ++ p ∷ []) (cs ++ c ∷ [])) (sym (take_step ws k w e)) (snoc i (take k ws) ps cs w p c a one)))
 
-take_all : (ws : List CheckedWish) (k : ℕ) → length ws ≤ k → take k ws ≡ ws
+pub take_all : {A : Type 0} (ws : List A) (k : ℕ) → length ws ≤ k → take k ws ≡ ws
 take_all [] zero l = refl
 take_all [] (suc k) l = refl
 take_all (w ∷ ws) zero l = absurd (omega arith)
@@ -70,7 +70,7 @@ count_low time [] n k = omega arith
 count_low time (w ∷ ws) zero k = omega arith
 count_low time (w ∷ ws) (suc n) k = let l = count_low time ws n k.1 in omega arith
 
-pub take_many : (n : ℕ) (ws : List CheckedWish) → n ≤ length ws → n ≡ length (take n ws)
+pub take_many : {A : Type 0} (n : ℕ) (ws : List A) → n ≤ length ws → n ≡ length (take n ws)
 take_many zero ws l = refl
 take_many (suc n) [] l = absurd (omega arith)
 take_many (suc n) (w ∷ ws) l = ap suc (take_many n ws (omega arith))

@@ -1,12 +1,17 @@
 -- When no quantum of a hart can follow.
 use Rattle.std.proofs.Common.{◌≡◌, ℕ, zero, suc, ◌+◌, ◌<◌, ◌≤◌, ◌^◌, List, [], ◌∷◌, refl, ap, sym, ◌∙◌, subst, arith, length, inl, inr}
-use Rattle.std.specs.Prelude.{true, false, cond, drop}
+use Rattle.std.specs.Prelude.{true, false, cond, drop, map, take}
 use Rattle.std.specs.List.{AllByRecursion}
 use Rattle.std.proofs.lemmas.Bool.{true≢false}
-use Rattle.pn_types.specs.declared.limits.TheConstants.{MAX_QUANTA, MAX_QUANTUM, MAX_WORKERS}
+use Rattle.std.proofs.lemmas.List.FromFn.{length-map-range_with_len}
+use Rattle.pn_types.specs.declared.limits.TheConstants.{MAX_HARTS, MAX_QUANTA, MAX_QUANTUM, MAX_WORKERS}
+use Rattle.pn_types.specs.declared.image.Image.{Image}
 use Rattle.quanta_log.specs.declared.quantum.Quantum.{Quantum}
 use Rattle.rv_mem.specs.Start.{program_of}
-use Rattle.machine.specs.Cores.{Core}
+use Rattle.rv_exec.specs.Start.{harts_from}
+use Rattle.machine.specs.Cores.{Core, first_hart, start_core}
+use Rattle.machine.specs.Quanta.{ticks_in}
+use Rattle.machine.proofs.Quanta.{time_goes_on}
 use Rattle.machine.specs.Replays.{owns}
 use Rattle.machine.specs.States.{quantum_turns}
 use Rattle.machine.specs.Turns.{is_runnable}
@@ -16,13 +21,15 @@ use Rattle.session_spec.specs.Inputs.{Inputs}
 use Rattle.session_spec.specs.Admission.{with_admission}
 use Rattle.session_spec.proofs.Going.{program_is}
 use Rattle.session_spec.specs.Work.{Halted, IsAllowed, closed, work}
-use Rattle.session_spec.specs.Reads.{Desk}
+use Rattle.session_spec.specs.Reads.{Desk, ticks_by}
+use Rattle.session_spec.proofs.Tending.{is_run}
 use Rattle.session_kits.specs.declared.kit.Kit.{Kit}
 use Rattle.session.specs.Kept.{IsKept, IsSoundKit}
 use Rattle.session_kits.specs.Kits.{HasFew, HasHarts}
 use Rattle.session.proofs.Quanta.{more_sound}
 use Rattle.session.specs.Sessions.{SessionData, state_of}
-use Rattle.session.specs.Tables.{IsAdmission, Table, desk_at, kept_of}
+use Rattle.session.specs.Contenders.{HasCost}
+use Rattle.session.specs.Tables.{CanSample, IsAdmission, Table, desk_at, kept_of}
 
 -- a session that wasn't closed
 pub going_state : (s : SessionData) → s.closed ≡ false → state_of s ≡ work s.inputs s.quanta
@@ -62,16 +69,85 @@ fit_few : (i : Inputs) (n : ℕ) (kits : List Kit) → n < 2 ^ 32 → AllByRecur
 fit_few i n [] l a = tt
 fit_few i n (k ∷ kits) l a = ((let few = (a.0).few in omega arith), fit_few i n kits l a.1)
 
+-- a pair costs what its tests cost
+pub costs : (i : Inputs) (n : ℕ) (kits : List Kit) → AllByRecursion (IsSoundKit i n) kits → AllByRecursion (HasCost i) kits
+costs i n [] a = tt
+costs i n (k ∷ kits) a = ((a.0).cost, costs i n kits a.1)
+
+-- ---- what a sample asks
+
+first_ticks : (more h n : ℕ) (image : Image) → ticks_in (map first_hart (harts_from more h image n)) ≡ 0
+first_ticks zero h n image = refl
+first_ticks (suc more) h n image = let rest = first_ticks more (h + 1) n image in omega arith
+
+module _ (s : SessionData) (later : List CheckedWish) (t : Table) (k : IsKept s later t) where
+  marks_many : length t.marks ≡ s.inputs.settings.harts
+  marks_many =
+      let state = state_of s in
+      ap (λ (d : Desk). length d.marks) k.desk.is
+      ∙ length-map-range_with_len (ticks_by (take state.kept.last state.owns)) 0 s.inputs.settings.harts
+
+  ticks_are : ticks_in t.machine.state.core.harts ≡ t.time
+  ticks_are =
+      let i = s.inputs in
+      let first = start_core i.image i.settings.harts i.settings.budget in
+      let ran = is_run i (state_of s) (desk_at later t).lasts k.desk.sound in
+      let none : ticks_in first.harts ≡ 0 = first_ticks i.settings.harts 0 i.settings.harts i.image in
+      let on = time_goes_on ran.events first in
+      let core = ap (λ (c : Core). ticks_in c.harts) (core_is s later t k ∙ ran.core) in
+      let own = ap (λ (l : List ℕ). length l) ran.owns in
+      let time = ran.time in
+      let same = ap (λ (d : Desk). d.kept.time) k.desk.is in
+      omega arith
+
+  pub can_sample : t.samples ≤ MAX_QUANTA → length s.quanta ≤ MAX_QUANTA → CanSample t
+  can_sample samples quanta =
+      let i = s.inputs in
+      let same = k.harts in
+      let many = k.many in
+      let wishes = k.given.few_wishes in
+      let most = k.given.settings.harts.1 in
+      let ticks = ticks_are in
+      record {
+        places = k.places ∙ sym same;
+        marks = marks_many ∙ sym same;
+        harts = fit_harts i t.samples (length t.machine.state.core.harts) t.kits (sym same) k.kits;
+        few = fit_few i t.samples t.kits (omega arith) k.kits;
+        number = omega arith;
+        samples = omega arith;
+        most = omega arith;
+        ticks = omega arith;
+      }
+
 -- behind an admission
 module _ (s : SessionData) (later : List CheckedWish) (t admitted : Table) (looked : ℕ) (k : IsKept s later t) (few : length s.quanta < MAX_QUANTA) (a : IsAdmission s.inputs later t admitted looked) where
-  pub sound_now : AllByRecursion (IsSoundKit s.inputs admitted.samples) admitted.kits
-  sound_now = subst (λ m. AllByRecursion (IsSoundKit s.inputs m) admitted.kits) (sym a.samples) (more_sound s.inputs t.samples t.kits admitted.kits k.kits a.kits)
-
-  pub harts_now : AllByRecursion (HasHarts (length admitted.machine.state.core.harts)) admitted.kits
-  harts_now = fit_harts s.inputs admitted.samples (length admitted.machine.state.core.harts) admitted.kits (sym (ap (λ (c : Core). length c.harts) a.core ∙ k.harts)) sound_now
-
-  pub few_now : AllByRecursion HasFew admitted.kits
-  few_now = fit_few s.inputs admitted.samples admitted.kits (let l = k.samples in let e = a.samples in omega arith) sound_now
+  pub can_sample_now : s.closed ≡ false → CanSample admitted
+  can_sample_now going =
+      let i = s.inputs in
+      let quanta : length s.quanta ≤ MAX_QUANTA = omega (arith, few) in
+      let samples = k.fewer going in
+      let c = can_sample s later t k (omega arith) quanta in
+      let same : length admitted.machine.state.core.harts ≡ length t.machine.state.core.harts = ap (λ (x : Core). length x.harts) (a.stays).core in
+      let sound = subst (λ m. AllByRecursion (IsSoundKit i m) admitted.kits) (sym (ap (λ (x : Table). x.samples) (a.stays).same)) (more_sound i t.samples t.kits admitted.kits k.kits a.kits) in
+      let same_samples = ap (λ (x : Table). x.samples) (a.stays).same in
+      let same_time = ap (λ (x : Table). x.time) (a.stays).same in
+      let same_ticks = ap (λ (x : Core). ticks_in x.harts) (a.stays).core in
+      let many = k.many in
+      let more = a.few in
+      let looked_few = a.looked in
+      let wishes = k.given.few_wishes in
+      let ticks = c.ticks in
+      let old_samples = c.samples in
+      record {
+        places = ap (λ (x : Table). x.places) (a.stays).same ∙ (c.places ∙ sym same);
+        marks = ap (λ (x : Table). length x.marks) (a.stays).same ∙ (c.marks ∙ sym same);
+        harts = fit_harts i admitted.samples (length admitted.machine.state.core.harts) admitted.kits (sym (same ∙ k.harts)) sound;
+        few = fit_few i admitted.samples admitted.kits (omega arith) sound;
+        number = omega arith;
+        samples = omega arith;
+        most = subst (λ n. n ≤ MAX_HARTS) (sym same) c.most;
+        ticks = omega arith;
+      }
 
   -- the entry is allowed
   pub allowed_now : (q : Quantum) → q.worker < MAX_WORKERS → q.hart < s.inputs.settings.harts → 1 ≤ q.turns → q.turns ≤ MAX_QUANTUM → is_runnable (state_of s).kept.machine.core q.hart ≡ true

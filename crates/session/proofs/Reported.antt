@@ -1,7 +1,8 @@
 -- What the code tells of what it holds is what a report shows of the state.
-use Rattle.std.proofs.Common.{◌≡◌, ℕ, suc, ◌+◌, List, [], ◌∷◌, ◌++◌, get_or, length, map, take, Some, refl, sym, ap, ◌∙◌, subst, arith}
-use Rattle.std.specs.Prelude.{◌&&◌, Bool, Option, None, is_none, nat_lt, slice_get}
+use Rattle.std.proofs.Common.{◌≡◌, ℕ, suc, ◌+◌, ◌<◌, List, [], ◌∷◌, ◌++◌, get_or, length, map, take, Some, refl, sym, ap, ◌∙◌, subst, arith}
+use Rattle.std.specs.Prelude.{◌&&◌, Bool, Option, None, cond, false, true, is_none, is_some, not, nat_lt, slice_get}
 use Rattle.std.proofs.Math.Seq.{take-suc}
+use Rattle.std.proofs.lemmas.List.{append-nil, append_assoc}
 use Rattle.std.proofs.lemmas.Option.{slice_get_within, get_or_from_slice_get}
 use Rattle.rv_word.specs.declared.outcome.Cause.{Cause}
 use Rattle.rv_word.specs.declared.outcome.Cause.TheVariants as cause
@@ -13,13 +14,14 @@ use Rattle.fold_hist.specs.declared.bin.Bin.{Bin}
 use Rattle.mdl_check.specs.declared.checked.CheckedWish.{CheckedWish}
 use Rattle.machine.specs.Cores.{Core}
 use Rattle.machine.specs.Same.{SameHart, SameProgram}
+use Rattle.report.specs.declared.parts.ShownPart.{ShownPart}
 use Rattle.session_spec.specs.Inputs.{Inputs}
 use Rattle.session_spec.specs.Reads.{Desk, IsDesk}
 use Rattle.session_spec.specs.States.{State}
 use Rattle.session_spec.proofs.Tending.{is_run}
 use Rattle.session_kits.specs.declared.kit.Kit.{Kit}
-use Rattle.session.specs.Parts.{ended_by, hart_part, parts_of, program_of_run, refused_part, shown_part, shown_parts}
-use Rattle.session.specs.Seen.{hart_seen, kit_part, table_parts}
+use Rattle.session.specs.Parts.{ended_by, hart_part, parts_of, program_of_run, refused_part, search_part, shown_part, shown_parts}
+use Rattle.session.specs.Seen.{hart_seen, kit_part, kit_parts, table_parts}
 use Rattle.session.specs.Tables.{Table, desk_at}
 
 -- one more of a list was pushed
@@ -64,13 +66,44 @@ same_parts budget c (x ∷ xs) (y ∷ ys) many same =
 
 -- ---- what is shown
 
-same_shown : (i : Inputs) (ks : List Kit) (rs : List (List Bin)) → map (λ (k : Kit). k.hist) ks ≡ map (hist_of i.settings.bins) rs → map (kit_part i) ks ≡ shown_parts i (map (λ (k : Kit). k.shown) ks) rs
+same_shown : (i : Inputs) (ks : List Kit) (rs : List (List Bin)) → map (λ (k : Kit). k.hist) ks ≡ map (hist_of i.settings.bins) rs → kit_parts i ks ≡ shown_parts i (map (λ (k : Kit). k.shown) ks) rs
 same_shown i [] rs e = refl
 same_shown i (k ∷ ks) [] e = absurd (cc)
 same_shown i (k ∷ ks) (r ∷ rs) e =
     let first : k.hist ≡ hist_of i.settings.bins r = cc in
     let rest : map (λ (k : Kit). k.hist) ks ≡ map (hist_of i.settings.bins) rs = cc in
-    ap (λ h. shown_part i k.shown h ∷ map (kit_part i) ks) first ∙ ap (λ ps. shown_part i k.shown (hist_of i.settings.bins r) ∷ ps) (same_shown i ks rs rest)
+    ap (λ h. cond {A = List ShownPart} (is_none k.shown.node) (shown_part i k.shown h ∷ []) [] ++ kit_parts i ks) first
+    ∙ ap (λ ps. cond {A = List ShownPart} (is_none k.shown.node) (shown_part i k.shown (hist_of i.settings.bins r) ∷ []) [] ++ ps) (same_shown i ks rs rest)
+
+-- one more of the pairs
+kits_append : (i : Inputs) (ks : List Kit) (k : Kit) → kit_parts i (ks ++ k ∷ []) ≡ kit_parts i ks ++ (cond {A = List ShownPart} (is_none k.shown.node) (kit_part i k ∷ []) [])
+kits_append i [] k = append-nil _
+kits_append i (x ∷ ks) k =
+    ap (λ ps. cond {A = List ShownPart} (is_none x.shown.node) (kit_part i x ∷ []) [] ++ ps) (kits_append i ks k)
+    ∙ sym (append_assoc (cond {A = List ShownPart} (is_none x.shown.node) (kit_part i x ∷ []) []) (kit_parts i ks) _)
+
+kit_more : (i : Inputs) (n : ℕ) (ks : List Kit) (k : Kit) → n < length ks → k ≡ get_or ks n k
+    → kit_parts i (take (n + 1) ks) ≡ kit_parts i (take n ks) ++ (cond {A = List ShownPart} (is_none k.shown.node) (kit_part i k ∷ []) [])
+kit_more i n ks k l is =
+    let one : n + 1 ≡ suc n = omega arith in
+    ap (λ m. kit_parts i (take m ks)) one ∙ (ap (kit_parts i) (take-suc ks n k l) ∙ (ap (λ (y : Kit). kit_parts i (take n ks ++ y ∷ [])) (sym is) ∙ kits_append i (take n ks) k))
+
+none_is : (o : Option ℕ) (b : Bool) → is_some o ≡ not b → is_none o ≡ b
+none_is None true e = refl
+none_is None false e = absurd (cc)
+none_is (Some n) true e = absurd (cc)
+none_is (Some n) false e = refl
+
+-- one of a node is none of those that were wished
+module _ (i : Inputs) (n : ℕ) (ks : List Kit) (k : Kit) (l : n < length ks) (is : k ≡ get_or ks n k) (b : Bool) (none : is_some k.shown.node ≡ not b) where
+  by_node : kit_parts i (take (n + 1) ks) ≡ kit_parts i (take n ks) ++ (cond {A = List ShownPart} b (kit_part i k ∷ []) [])
+  by_node = kit_more i n ks k l is ∙ ap (λ b. kit_parts i (take n ks) ++ (cond {A = List ShownPart} b (kit_part i k ∷ []) [])) (none_is k.shown.node b none)
+
+  pub kit_shown : b ≡ true → kit_parts i (take (n + 1) ks) ≡ kit_parts i (take n ks) ++ kit_part i k ∷ []
+  kit_shown e = by_node ∙ ap (λ b. kit_parts i (take n ks) ++ (cond {A = List ShownPart} b (kit_part i k ∷ []) [])) e
+
+  pub kit_tests : b ≡ false → kit_parts i (take (n + 1) ks) ≡ kit_parts i (take n ks)
+  kit_tests e = by_node ∙ (ap (λ b. kit_parts i (take n ks) ++ (cond {A = List ShownPart} b (kit_part i k ∷ []) [])) e ∙ append-nil _)
 
 -- ---- the whole
 
@@ -83,7 +116,7 @@ module _ (i : Inputs) (s : State) (later : List CheckedWish) (t : Table) (k : Is
   harts : map (hart_seen i.settings.budget t.machine.state.core) t.machine.state.core.harts ≡ map (hart_part i.settings.budget) (program_of_run i s.owns).harts
   harts = same_parts i.settings.budget t.machine.state.core t.machine.state.core.harts (program_of_run i s.owns).harts same.many same.harts
 
-  shown : map (kit_part i) t.kits ≡ shown_parts i s.kept.shown s.recorded
+  shown : kit_parts i t.kits ≡ shown_parts i s.kept.shown s.recorded
   shown =
       same_shown i t.kits s.recorded (ap (λ (d : Desk). d.hists) k.is)
       ∙ ap (λ ss. shown_parts i ss s.recorded) (ap (λ (d : Desk). d.kept.shown) k.is)
@@ -95,5 +128,5 @@ module _ (i : Inputs) (s : State) (later : List CheckedWish) (t : Table) (k : Is
       ap (λ hs. record held { harts = hs }) harts
       ∙ ap (λ (d : Desk). record held { harts = all.harts; samples = d.kept.samples }) k.is
       ∙ ap (λ (p : Prog). record held { harts = all.harts; samples = all.samples; output = p.out }) same.prog
-      ∙ ap (λ (d : Desk). record all { refused = map (refused_part i) d.kept.refused; shown = held.shown }) k.is
+      ∙ ap (λ (d : Desk). record all { refused = map (refused_part i) d.kept.refused; shown = held.shown; search = search_part i i.checked.search d.kept.search.nodes }) k.is
       ∙ ap (λ ps. record all { shown = ps }) shown

@@ -1,6 +1,6 @@
 -- What the code does with its table is what the definitions do.
-use Rattle.std.proofs.Common.{◌≡◌, ℕ, ◌+◌, List, [], ◌∷◌, ◌++◌, Some, refl, ap, ap₂, ◌∙◌}
-use Rattle.std.specs.Prelude.{Bool, true, false, cond, map}
+use Rattle.std.proofs.Common.{◌≡◌, ℕ, List, [], ◌∷◌, ◌++◌, Option, Some, None, refl, sym, ap, ap₂, ◌∙◌}
+use Rattle.std.specs.Prelude.{Bool, true, false, cond, is_none, map, ◌&&◌}
 use Rattle.std.specs.List.{AllByRecursion, range_with_len}
 use Rattle.fold_hist.specs.Bins.{Histogram}
 use Rattle.fold_hist.specs.Steps.{pushed}
@@ -12,13 +12,18 @@ use Rattle.instrumented.specs.Instrumented.{Instrumented}
 use Rattle.session_spec.specs.declared.data.Latest.{Latest}
 use Rattle.session_spec.specs.declared.data.Shown.{Shown}
 use Rattle.session_spec.specs.Inputs.{Inputs}
-use Rattle.session_spec.specs.Due.{all_armed, arm_all, is_armed, is_ready, machine_armed, sampled_to, with_arms, with_frees, with_next, with_samples}
+use Rattle.session_spec.specs.States.{Kept}
+use Rattle.session_spec.specs.Due.{all_armed, arm_all, is_armed, is_ready, machine_armed, place_behind, sampled_to, with_arms, with_frees, with_next, with_samples}
 use Rattle.session_spec.specs.Turns.{with_entries, with_hart, with_quiet}
 use Rattle.session_spec.specs.Ties.{read_now, reading_by}
-use Rattle.session_spec.specs.Reads.{desk_armed, desk_sampled, desk_turned, hists_read, lasts_armed, lasts_now, latest_read}
+use Rattle.session_spec.specs.Verdicts.{with_search_end, with_verdicts}
+use Rattle.session_spec.specs.Reads.{desk_armed, desk_ended, desk_freed, desk_judged, desk_next, desk_quiet, desk_sampled, desk_tests, desk_turned, hists_read, lasts_armed, lasts_now, latest_read, node_read_by, nodes_read, ticks_between, ticks_of}
+use Rattle.w3_search.specs.declared.node.NodeSample.{NodeSample}
+use Rattle.w3_search.specs.Steps.{search_step}
+use Rattle.session_kits.proofs.Dropped.{without_tests_are}
 use Rattle.session_kits.specs.declared.kit.Kit.{Kit}
-use Rattle.session_kits.specs.Kits.{kit_armed, kit_latest, kit_reading, kit_sampled, kits_armed, kits_latest, machine_of_armed}
-use Rattle.session.specs.Tables.{Table, desk_at, kept_of, table_armed, table_freed, table_handed, table_next, table_quiet, table_sampled, table_turned}
+use Rattle.session_kits.specs.Kits.{kit_armed, kit_latest, kit_reading, kit_sampled, kit_test, kit_test_by, kits_armed, kits_latest, kits_tests, machine_of_armed}
+use Rattle.session.specs.Tables.{Table, desk_at, kept_of, table_armed, table_ended, table_freed, table_handed, table_judged, table_next, table_quiet, table_sampled, table_turned}
 
 -- the harts of a pair are those of its focus
 pub record IsOf (i : Inputs) (k : Kit) : Type 0 where
@@ -68,9 +73,22 @@ module _ (i : Inputs) (m : Instrumented) where
     abbrev latest_of : ℕ → ℕ → List Latest
     latest_of place r = record { shown = place; from = k.shown.from; to = time; sum = difference k.last r } ∷ []
 
-    latest_one : (place : ℕ) → kit_latest m time place k ≡ cond {A = List Latest} (is_armed m.placer k.shown) (latest_of place (read_now i m k.shown)) []
+    latest_one : (place : ℕ) → kit_latest m time place k ≡ cond {A = List Latest} (is_none k.shown.node && is_armed m.placer k.shown) (latest_of place (read_now i m k.shown)) []
     unfolding kit_latest
-    latest_one place = ap (λ r. cond {A = List Latest} (is_armed m.placer k.shown) (latest_of place r) []) (reading_is k o)
+    latest_one place = ap (λ r. cond {A = List Latest} (is_none k.shown.node && is_armed m.placer k.shown) (latest_of place r) []) (reading_is k o)
+
+    abbrev test_of : List ℕ → ℕ → ℕ → List ℕ → List NodeSample
+    test_of marks n r harts = record { node = n; from = k.shown.from; value = difference k.last r; ticks = ticks_between harts marks (ticks_of m) } ∷ []
+
+    test_one : (marks : List ℕ) → kit_test m marks k ≡ node_read_by k.shown.node i m time marks k.shown k.last
+    unfolding kit_test
+    test_one marks = by k.shown.node
+      where
+        by : (node : Option ℕ) → kit_test_by node m marks k ≡ node_read_by node i m time marks k.shown k.last
+        by None = refl
+        by (Some n) =
+            ap (λ (r : ℕ). cond {A = List NodeSample} (is_armed m.placer k.shown) (test_of marks n r (range_with_len k.first k.count)) []) (reading_is k o)
+            ∙ ap (λ (h : ℕ × ℕ). cond {A = List NodeSample} (is_armed m.placer k.shown) (test_of marks n (read_now i m k.shown) (range_with_len h.0 h.1)) []) o.harts
 
   module _ (time : ℕ) where
     pub shown_sampled : (kits : List Kit) → AllByRecursion (IsOf i) kits → shown_in (map (kit_sampled m time) kits) ≡ map (sampled_to m.placer time) (shown_in kits)
@@ -87,7 +105,11 @@ module _ (i : Inputs) (m : Instrumented) where
 
     pub latest_sampled : (place : ℕ) (kits : List Kit) → AllByRecursion (IsOf i) kits → kits_latest m time place kits ≡ latest_read place i m time (shown_in kits) (lasts_in kits)
     latest_sampled place [] a = refl
-    latest_sampled place (k ∷ kits) a = ap₂ (λ (x xs : List Latest). x ++ xs) (latest_one time k a.0 place) (latest_sampled (place + 1) kits a.1)
+    latest_sampled place (k ∷ kits) a = ap₂ (λ (x xs : List Latest). x ++ xs) (latest_one time k a.0 place) (latest_sampled (place_behind k.shown.node place) kits a.1)
+
+    pub tests_sampled : (marks : List ℕ) (kits : List Kit) → AllByRecursion (IsOf i) kits → kits_tests m marks kits ≡ nodes_read i m time marks (shown_in kits) (lasts_in kits)
+    tests_sampled marks [] a = refl
+    tests_sampled marks (k ∷ kits) a = ap₂ (λ (x xs : List NodeSample). x ++ xs) (test_one time k a.0 marks) (tests_sampled marks kits a.1)
 
 -- ---- armings
 
@@ -140,7 +162,7 @@ module _ (i : Inputs) (ws : List CheckedWish) (t : Table) where
   unfolding with_hart with_entries
   turned_is h n = refl
 
-  pub quiet_is : desk_at ws (table_quiet t) ≡ record (desk_at ws t) { kept = with_quiet (kept_of ws t) }
+  pub quiet_is : desk_at ws (table_quiet t) ≡ desk_quiet (desk_at ws t)
   unfolding with_quiet
   quiet_is = refl
 
@@ -148,23 +170,43 @@ module _ (i : Inputs) (ws : List CheckedWish) (t : Table) where
     abbrev m : Instrumented
     m = t.machine.state
 
+    -- what a session goes on from behind a sample, where this is shown
+    abbrev kept_with : List Shown → Kept
+    kept_with shown = record (kept_of ws (table_sampled t)) { shown = shown }
+
     pub sampled_is : desk_at ws (table_sampled t) ≡ desk_sampled i (desk_at ws t)
     unfolding with_samples
     sampled_is =
-        ap (λ (s : List Shown). record { kept = record { machine = m; wishes = ws; refused = t.refused; shown = s; time = t.time; due = t.due; worked = t.worked; samples = t.samples + 1; last = t.time }; lasts = lasts_in (map (kit_sampled m t.time) t.kits); hists = hists_in (map (kit_sampled m t.time) t.kits); latest = kits_latest m t.time 0 t.kits }) (shown_sampled i m t.time t.kits a)
-        ∙ (ap (λ (l : List ℕ). record { kept = with_samples (kept_of ws t); lasts = l; hists = hists_in (map (kit_sampled m t.time) t.kits); latest = kits_latest m t.time 0 t.kits }) (lasts_sampled i m t.time t.kits a)
-        ∙ ap₂ (λ (h : List Histogram) (l : List Latest). record { kept = with_samples (kept_of ws t); lasts = lasts_now i m (shown_in t.kits) (lasts_in t.kits); hists = h; latest = l }) (hists_sampled i m t.time t.kits a) (latest_sampled i m t.time 0 t.kits a))
+        ap (λ (s : List Shown). record { kept = kept_with s; lasts = lasts_in (map (kit_sampled m t.time) t.kits); hists = hists_in (map (kit_sampled m t.time) t.kits); latest = kits_latest m t.time 0 t.kits; marks = ticks_of m }) (shown_sampled i m t.time t.kits a)
+        ∙ (ap (λ (l : List ℕ). record { kept = with_samples (kept_of ws t); lasts = l; hists = hists_in (map (kit_sampled m t.time) t.kits); latest = kits_latest m t.time 0 t.kits; marks = ticks_of m }) (lasts_sampled i m t.time t.kits a)
+        ∙ ap₂ (λ (h : List Histogram) (l : List Latest). record { kept = with_samples (kept_of ws t); lasts = lasts_now i m (shown_in t.kits) (lasts_in t.kits); hists = h; latest = l; marks = ticks_of m }) (hists_sampled i m t.time t.kits a) (latest_sampled i m t.time 0 t.kits a))
+
+    pub tests_is : (table_sampled t).tests ≡ desk_tests i (desk_at ws t)
+    tests_is = tests_sampled i m t.time t.marks t.kits a
+
+    abbrev kept_of_armed : Instrumented → List Shown → Kept
+    kept_of_armed x shown = record (kept_of ws t) { machine = x; shown = shown }
 
     pub armed_is : desk_at ws (table_armed t) ≡ desk_armed i (desk_at ws t)
     unfolding with_arms
     armed_is =
-        ap₂ (λ (x : Instrumented) (s : List Shown). record { kept = record { machine = x; wishes = ws; refused = t.refused; shown = s; time = t.time; due = t.due; worked = t.worked; samples = t.samples; last = t.last }; lasts = lasts_in (kits_armed t.time m t.kits); hists = hists_in (kits_armed t.time m t.kits); latest = t.latest }) (machine_all i t.time m t.kits) (shown_armed i t.time m t.kits a)
-        ∙ ap₂ (λ (l : List ℕ) (h : List Histogram). record { kept = with_arms (kept_of ws t); lasts = l; hists = h; latest = t.latest }) (lasts_all i t.time m t.kits a) (hists_all i t.time m t.kits a)
+        ap₂ (λ (x : Instrumented) (s : List Shown). record { kept = kept_of_armed x s; lasts = lasts_in (kits_armed t.time m t.kits); hists = hists_in (kits_armed t.time m t.kits); latest = t.latest; marks = t.marks }) (machine_all i t.time m t.kits) (shown_armed i t.time m t.kits a)
+        ∙ ap₂ (λ (l : List ℕ) (h : List Histogram). record { kept = with_arms (kept_of ws t); lasts = l; hists = h; latest = t.latest; marks = t.marks }) (lasts_all i t.time m t.kits a) (hists_all i t.time m t.kits a)
 
-  pub freed_is : desk_at ws (table_freed t) ≡ record (desk_at ws t) { kept = with_frees (kept_of ws t) }
+  pub freed_is : desk_at ws (table_freed t) ≡ desk_freed (desk_at ws t)
   unfolding with_frees
   freed_is = refl
 
-  pub next_is : (width : ℕ) → desk_at ws (table_next width t) ≡ record (desk_at ws t) { kept = with_next width (kept_of ws t) }
+  pub judged_is : desk_at ws (table_judged t) ≡ desk_judged t.tests (desk_at ws t)
+  unfolding with_verdicts
+  judged_is =
+      let search = search_step t.time t.tests t.search in
+      ap (λ (k : Kept). record (desk_at ws t) { kept = k }) (sym (without_tests_are search.drops (record (kept_of ws t) { search = search })))
+
+  pub next_is : (width : ℕ) → desk_at ws (table_next width t) ≡ desk_next width (desk_at ws t)
   unfolding with_next
   next_is width = refl
+
+  pub ended_is : desk_at ws (table_ended t) ≡ desk_ended (desk_at ws t)
+  unfolding with_search_end
+  ended_is = refl

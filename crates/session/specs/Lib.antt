@@ -1,6 +1,7 @@
 pub mod Tables
 pub mod Given
 pub mod Candidates
+pub mod Contenders
 pub mod Outcomes
 pub mod Sessions
 pub mod Kept

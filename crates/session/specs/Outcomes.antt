@@ -11,7 +11,7 @@ use Rattle.instrument.specs.declared.number.InstrumentNo.{InstrumentNo}
 
 -- the pair of a wish, shown by an instrument that isn't armed yet
 abbrev pub newly_shown : CheckedWish → InstrumentNo → Shown
-newly_shown w number = record { instrument = number; metric = w.metric; focus = w.focus; armed = None; from = 0 }
+newly_shown w number = record { instrument = number; node = None; metric = w.metric; focus = w.focus; armed = None; from = 0 }
 
 abbrev pub kept_by : CheckedWish → Outcome → Instrumented → Kept → Kept
 kept_by w (Refused cause) m k = record k { machine = m; refused = k.refused ++ refused_wish w k.time cause ∷ [] }

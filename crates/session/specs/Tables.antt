@@ -1,7 +1,9 @@
 -- For proofs alone: what the code of a session holds.
-use Rattle.std.specs.Prelude.{◌≡◌, ℕ, zero, suc, ◌+◌, ◌<◌, ◌≤◌, ◌^◌, ◌⊎◌, nat_le, nat_lt, if◌then◌else◌, Bool, true, false, List, [], ◌∷◌, ◌++◌, IfOk, drop, length, map}
+use Rattle.std.specs.Prelude.{◌≡◌, ℕ, zero, suc, ◌+◌, ◌-◌, ◌<◌, ◌≤◌, ◌^◌, ◌⊎◌, nat_le, nat_lt, if◌then◌else◌, Bool, true, false, List, [], ◌∷◌, ◌++◌, IfOk, drop, length, map, replicate}
 use Rattle.std.specs.List.{AllByRecursion}
 use Rattle.mdl_check.specs.declared.checked.CheckedWish.{CheckedWish}
+use Rattle.machine.specs.Events.{Event}
+use Rattle.machine.specs.Quanta.{ticks_in}
 use Rattle.machine.specs.Replays.{owns}
 use Rattle.machine.specs.States.{quantum_turns, settling}
 use Rattle.instrument.specs.Needs.{Need}
@@ -13,26 +15,34 @@ use Rattle.session_spec.specs.declared.data.Latest.{Latest}
 use Rattle.session_spec.specs.declared.data.RefusedWish.{RefusedWish}
 use Rattle.session_spec.specs.Inputs.{Inputs}
 use Rattle.session_spec.specs.States.{Kept}
-use Rattle.session_spec.specs.Due.{next_due}
-use Rattle.session_spec.specs.Reads.{AreGood, Desk, desk_admitted}
+use Rattle.session_spec.specs.Due.{next_due, observed_cost}
+use Rattle.session_spec.specs.Reads.{Desk, desk_admitted, ticks_of}
+use Rattle.session_spec.specs.Tests.{taken_at_once}
+use Rattle.w3_search.specs.declared.node.NodeSample.{NodeSample}
+use Rattle.w3_search.specs.Steps.{SearchData, search_step, with_end}
 use Rattle.instrument.specs.declared.number.InstrumentNo.{InstrumentNo}
 use Rattle.fold_hist.specs.Bins.{Histogram, hist_of}
+use Rattle.pn_types.specs.declared.limits.TheConstants.{MAX_HARTS}
 use Rattle.pn_types.specs.declared.plan.Plan.{Plan}
 use Rattle.prim_code.specs.Counts.{predicted}
 use Rattle.session.specs.Candidates.{IsAnswer, IsShort, answer_of}
 use Rattle.session.specs.declared.candidate.Candidate.{Candidate}
+use Rattle.session.specs.Contenders.{cost_of, first_search}
 use Rattle.session.specs.Given.{IsWishOf}
 use Rattle.session.specs.Outcomes.{newly_shown}
 use Rattle.session_kits.specs.declared.kit.Kit.{Kit}
-use Rattle.session_kits.specs.Kits.{kit_sampled, kits_armed, kits_latest, machine_of_armed}
+use Rattle.session_kits.specs.Kits.{HasFew, HasHarts, dropped_tests, kit_sampled, kits_armed, kits_latest, kits_tests, machine_of_armed}
 
--- the machine, the wishes that were refused, the pairs that are or were shown, the latest samples, for how
--- many harts there is room to read them, and for how many wishes to be looked at
+-- the machine, the wishes that were refused, the pairs that are or were shown, the search, the latest samples of what was wished and
+-- of nodes, how many ticks each hart had then, for how many harts there is room to read them, and for how many more pairs
 pub record Table : Type 0 where
   pub machine : InstrumentedData
   pub refused : List RefusedWish
   pub kits : List Kit
+  pub search : SearchData
   pub latest : List Latest
+  pub tests : List NodeSample
+  pub marks : List ℕ
   pub places : ℕ
   pub room : ℕ
   pub time : ℕ
@@ -40,6 +50,8 @@ pub record Table : Type 0 where
   pub worked : Bool
   pub samples : ℕ
   pub last : ℕ
+  pub idle : ℕ
+  pub observed : ℕ
 
 -- ---- what a session goes on from
 
@@ -50,57 +62,87 @@ kept_of ws t = record {
   wishes = ws;
   refused = t.refused;
   shown = map (λ (k : Kit). k.shown) t.kits;
+  search = t.search;
   time = t.time;
   due = t.due;
   worked = t.worked;
   samples = t.samples;
   last = t.last;
+  idle = t.idle;
+  observed = t.observed;
 }
 
 abbrev pub desk_at : List CheckedWish → Table → Desk
-desk_at ws t = record { kept = kept_of ws t; lasts = map (λ (k : Kit). k.last) t.kits; hists = map (λ (k : Kit). k.hist) t.kits; latest = t.latest }
+desk_at ws t = record { kept = kept_of ws t; lasts = map (λ (k : Kit). k.last) t.kits; hists = map (λ (k : Kit). k.hist) t.kits; latest = t.latest; marks = t.marks }
 
--- before any wish is looked at
-abbrev pub first_table : Inputs → Table
-first_table i = record {
-  machine = record { state = first_instrumented i.image i.settings.harts i.settings.budget i.settings.instruments; ready = [] };
+-- where nothing was done yet, and work is due at this time
+abbrev pub table_at_first : InstrumentedData → SearchData → List ℕ → ℕ → ℕ → Table
+table_at_first machine search marks places due = record {
+  machine = machine;
   refused = [];
   kits = [];
+  search = search;
   latest = [];
-  places = i.settings.harts;
+  tests = [];
+  marks = marks;
+  places = places;
   room = 0;
   time = 0;
-  due = i.settings.width;
+  due = due;
   worked = false;
   samples = 0;
   last = 0;
+  idle = 0;
+  observed = 0;
 }
+
+-- before any wish is looked at
+abbrev pub first_table : Inputs → Table
+first_table i =
+    table_at_first (record { state = first_instrumented i.image i.settings.harts i.settings.budget i.settings.instruments; ready = [] }) (first_search i)
+    (replicate i.settings.harts 0) i.settings.harts i.settings.width
 
 -- ---- steps
 
--- a hart's turns
-abbrev pub table_turned : ℕ → ℕ → Table → Table
-table_turned h n t = record t {
-  machine = record t.machine { state = taken (quantum_turns n h t.machine.state.core) t.machine.state };
-  time = t.time + length (owns (quantum_turns n h t.machine.state.core) t.machine.state.core);
+-- what is asked of it before a sample: it was taken fewer than 2^63 times, and the time counts the ticks
+pub record CanSample (t : Table) : Type 0 where
+  pub places : t.places ≡ length t.machine.state.core.harts
+  pub marks : length t.marks ≡ length t.machine.state.core.harts
+  pub harts : AllByRecursion (HasHarts (length t.machine.state.core.harts)) t.kits
+  pub few : AllByRecursion HasFew t.kits
+  pub number : length t.kits < 2 ^ 32
+  pub samples : t.samples < 2 ^ 63
+  pub most : length t.machine.state.core.harts ≤ MAX_HARTS
+  pub ticks : ticks_in t.machine.state.core.harts ≤ t.time
+
+-- turns
+abbrev pub table_taken : List Event → Table → Table
+table_taken turns t = record t {
+  machine = record t.machine { state = taken turns t.machine.state };
+  time = t.time + length (owns turns t.machine.state.core);
+  idle = t.idle + (length turns - length (owns turns t.machine.state.core));
 }
+
+abbrev pub table_turned : ℕ → ℕ → Table → Table
+table_turned h n t = table_taken (quantum_turns n h t.machine.state.core) t
 
 -- eight entries of the agenda
 abbrev pub table_handed : Table → Table
 table_handed t = record t { machine = record t.machine { state = repeated 8 Hands t.machine.state } }
 
 abbrev pub table_quiet : Table → Table
-table_quiet t = record t {
-  machine = record t.machine { state = taken (settling t.machine.state.core) t.machine.state };
-  time = t.time + length (owns (settling t.machine.state.core) t.machine.state.core);
-}
+table_quiet t = table_taken (settling t.machine.state.core) t
 
 abbrev pub table_sampled : Table → Table
 table_sampled t = record t {
   kits = map (kit_sampled t.machine.state t.time) t.kits;
   latest = kits_latest t.machine.state t.time 0 t.kits;
+  tests = kits_tests t.machine.state t.marks t.kits;
+  marks = ticks_of t.machine.state;
   samples = t.samples + 1;
   last = t.time;
+  idle = 0;
+  observed = observed_cost t.idle (t.time - t.last);
 }
 
 abbrev pub table_freed : Table → Table
@@ -112,16 +154,32 @@ table_armed t = record t {
   kits = kits_armed t.time t.machine.state t.kits;
 }
 
+-- the search's step, and what it drops
+abbrev pub table_stepped : SearchData → Table → Table
+table_stepped search t = record t {
+  machine = record t.machine { state = dropped_tests search.drops (map (λ (k : Kit). k.shown) t.kits) t.machine.state };
+  search = search;
+}
+
+abbrev pub table_judged : Table → Table
+table_judged t = table_stepped (search_step t.time t.tests t.search) t
+
 abbrev pub table_next : ℕ → Table → Table
 table_next width t = record t { due = next_due width t.time; worked = true }
 
--- the due work: settle, sample, free, arm
+-- the due work: settle, sample, free, arm, judge
 abbrev pub table_worked : ℕ → Table → Table
-table_worked width t = table_next width (table_armed (table_freed (table_sampled (table_quiet t))))
+table_worked width t = table_next width (table_judged (table_armed (table_freed (table_sampled (table_quiet t)))))
 
--- the end: settle, and sample once more where time passed since the last sample
+-- the end: settle, and sample and judge once more where time passed since the last sample; then the search ends
+abbrev pub table_last : Table → Table
+table_last t = table_judged (table_sampled t)
+
 abbrev pub table_ended : Table → Table
-table_ended t = if nat_lt (table_quiet t).last (table_quiet t).time then table_sampled (table_quiet t) else table_quiet t
+table_ended t = record t { search = with_end t.search }
+
+abbrev pub table_closed : Table → Table
+table_closed t = table_ended (if nat_lt (table_quiet t).last (table_quiet t).time then table_last (table_quiet t) else table_quiet t)
 
 -- the whole agenda, and then each instrument is armed
 abbrev pub table_opened : Table → Table
@@ -139,6 +197,7 @@ table_tended width h n t = if nat_le (table_begun h n t).due (table_begun h n t)
 abbrev pub new_kit : Inputs → CheckedWish → InstrumentNo → Histogram → Kit
 new_kit i w number hist = record {
   shown = newly_shown w number;
+  cost = 0;
   first = (harts_of i.tree.harts w.focus.hart).0;
   count = (harts_of i.tree.harts w.focus.hart).1;
   last = 0;
@@ -148,7 +207,7 @@ new_kit i w number hist = record {
 -- what a wish needs to be looked at
 pub record IsCandidate (i : Inputs) (w : CheckedWish) (plan : Plan) (c : Candidate) : Type 0 where
   pub wish : IsWishOf i w
-  pub answer : w.show ≡ true → IsAnswer i w (answer_of c.refusal plan)
+  pub answer : w.show ≡ true → IsAnswer i w.metric w.focus (answer_of c.refusal plan)
   pub short : IfOk (answer_of c.refusal plan) (IsShort i)
   pub words : predicted plan < 2 ^ 32
   pub hist : c.hist ≡ hist_of i.settings.bins []
@@ -165,6 +224,8 @@ pub record IsNew (i : Inputs) (k : Kit) : Type 0 where
   pub hist : k.hist ≡ hist_of i.settings.bins []
   pub harts : (k.first, k.count) ≡ harts_of i.tree.harts k.shown.focus.hart
   pub within : k.first + k.count ≤ i.settings.harts
+  pub cost : k.cost ≡ cost_of i k.shown
+  pub low : k.cost < 2 ^ 32
 
 -- some new pairs behind the others
 pub record IsMore (i : Inputs) (old new : List Kit) : Type 0 where
@@ -184,17 +245,19 @@ IsCount time [] n = n ≡ 0
 IsCount time (w ∷ ws) zero = nat_le w.at time ≡ false
 IsCount time (w ∷ ws) (suc n) = (nat_le w.at time ≡ true) × IsCount time ws n
 
+-- what no admission changes
+pub record IsStill (old new : Table) : Type 0 where
+  pub same : new ≡ record old { machine = new.machine; refused = new.refused; kits = new.kits; search = new.search; room = new.room; worked = new.worked }
+  pub core : new.machine.state.core ≡ old.machine.state.core
+  pub rules : new.search.rules ≡ old.search.rules
+
 -- behind an admission in which so many of the wishes were looked at
 pub record IsAdmission (i : Inputs) (later : List CheckedWish) (old new : Table) (n : ℕ) : Type 0 where
   pub looked : n ≤ length later
   pub desk : desk_at (drop n later) new ≡ desk_admitted i (desk_at later old)
-  pub good : old.worked ≡ true → AreGood i old.time later
   pub kits : IsMore i old.kits new.kits
-  pub few : length new.kits ≤ length old.kits + n
-  pub core : new.machine.state.core ≡ old.machine.state.core
-  pub places : new.places ≡ old.places
-  pub time : new.time ≡ old.time
-  pub samples : new.samples ≡ old.samples
+  pub few : length new.kits ≤ length old.kits + n + taken_at_once
+  pub stays : IsStill old new
 
 -- nothing but the memory that was taken has changed
 abbrev pub IsSame : Table → Table → Type 0

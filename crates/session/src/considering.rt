@@ -4,12 +4,12 @@ ghost use Rattle.std.specs.Prelude.{◌≡◌, ◌+◌, ◌<◌, ◌≤◌, ◌�
 ghost use Rattle.rv_mem.specs.Start.{program_of};
 ghost use Rattle.mdl_check.specs.declared.checked.CheckedWish.{CheckedWish};
 ghost use Rattle.machine.specs.Cores.{In};
-ghost use Rattle.instrument.specs.Needs.{need_of, without};
+ghost use Rattle.instrument.specs.Needs.{Need, need_of, without};
 ghost use Rattle.instrument.specs.declared.number.InstrumentNo.{InstrumentNo};
 ghost use Rattle.session_spec.specs.Admission.{with_wish};
 ghost use Rattle.session_spec.specs.Opening.{with_all};
 ghost use Rattle.session.specs.Candidates.{IsAnswer, IsShort, answer_of};
-ghost use Rattle.session.specs.Tables.{AreCandidates, IsMore, kept_of, new_kit};
+ghost use Rattle.session.specs.Tables.{AreCandidates, AreReady, IsMore, kept_of, new_kit};
 
 use crate::candidate::Candidate;
 use crate::desk::Desk;
@@ -34,11 +34,13 @@ fn new_kit(inputs: &Inputs, wish: &CheckedWish, number: InstrumentNo, hist: Hist
     Kit {
         shown: Shown {
             instrument: number,
+            node: None,
             metric: wish.metric,
             focus: wish.focus,
             armed: None,
             from: 0,
         },
+        cost: 0,
         first,
         count,
         last: 0,
@@ -59,16 +61,13 @@ impl Desk {
         requires room { 0 < self.old.room }
         requires program { self.old.machine.state.core.program ≡ program_of inputs.now.image }
         requires short { IfOk (answer_of candidate.refusal plan.now) (IsShort inputs.now) }
-        requires answer { wish.now.show ≡ true → IsAnswer inputs.now wish.now (answer_of candidate.refusal plan.now) }
+        requires answer { wish.now.show ≡ true → IsAnswer inputs.now wish.now.metric wish.now.focus (answer_of candidate.refusal plan.now) }
         requires ready { IfOk (answer_of candidate.refusal plan.now) (λ plan. In (need_of plan) self.old.machine.ready) }
         ensures kept { (ws : List CheckedWish) → kept_of ws self.new ≡ with_wish inputs.now wish.now (kept_of ws self.old) }
         ensures kits { (self.new.kits ≡ self.old.kits) ⊎ ((number : InstrumentNo) × (self.new.kits ≡ self.old.kits ++ new_kit inputs.now wish.now number candidate.hist ∷ [])) }
         ensures room { self.new.room + 1 ≡ self.old.room }
-        ensures latest { self.new.latest ≡ self.old.latest }
-        ensures places { self.new.places ≡ self.old.places }
+        ensures same { self.new ≡ record self.old { machine = self.new.machine; refused = self.new.refused; kits = self.new.kits; room = self.new.room } }
         ensures core { self.new.machine.state.core ≡ self.old.machine.state.core }
-        ensures time { self.new.time ≡ self.old.time }
-        ensures samples { self.new.samples ≡ self.old.samples }
         ensures ok { IfOk (answer_of candidate.refusal plan.now) (λ plan. (self.new.machine.ready ≡ self.old.machine.ready) ⊎ (self.new.machine.ready ≡ without (need_of plan) self.old.machine.ready)) }
         ensures err { IfErr (answer_of candidate.refusal plan.now) (λ cause. self.new.machine.ready ≡ self.old.machine.ready) }
     {
@@ -100,7 +99,8 @@ impl Desk {
         self.room -= 1;
     }
 
-    /// Looks at wishes, one after another. For each there is room, and each has a plan, which is ready, unless it is refused.
+    /// Looks at wishes, one after another. For each there is room, and each has a plan, which is ready, unless it is refused. What
+    /// else is ready, stays so.
     pub(crate) fn consider_all(
         &mut self,
         alloc: Global,
@@ -113,15 +113,14 @@ impl Desk {
         requires many { length plans.now ≡ length wishes.now }
         requires program { self.old.machine.state.core.program ≡ program_of inputs.now.image }
         requires each { AreCandidates inputs.now wishes.now plans.now candidates.items }
-        requires ready { self.old.machine.ready ≡ map need_of plans.now }
+        requires ready { AreReady (map need_of plans.now) self.old.machine.ready }
         ensures kept { (ws : List CheckedWish) → kept_of ws self.new ≡ with_all inputs.now wishes.now (kept_of ws self.old) }
         ensures kits { IsMore inputs.now self.old.kits self.new.kits }
         ensures few { length self.new.kits ≤ length self.old.kits + length wishes.now }
-        ensures latest { self.new.latest ≡ self.old.latest }
-        ensures places { self.new.places ≡ self.old.places }
+        ensures room { self.new.room + length wishes.now ≡ self.old.room }
+        ensures same { self.new ≡ record self.old { machine = self.new.machine; refused = self.new.refused; kits = self.new.kits; room = self.new.room } }
         ensures core { self.new.machine.state.core ≡ self.old.machine.state.core }
-        ensures time { self.new.time ≡ self.old.time }
-        ensures samples { self.new.samples ≡ self.old.samples }
+        ensures left { (needs : List Need) → AreReady (map need_of plans.now ++ needs) self.old.machine.ready → AreReady needs self.new.machine.ready }
     {
         let mut candidates = candidates;
         for place in 0..wishes.len() {

@@ -1,35 +1,38 @@
-ghost use Rattle.std.specs.Prelude.{◌≡◌, false, ◌+◌, ◌<◌, ◌≤◌, ◌^◌, length};
+ghost use Rattle.std.specs.Prelude.{◌≡◌, false, ◌+◌, ◌-◌, ◌<◌, ◌≤◌, ◌^◌, length};
 ghost use Rattle.std.specs.List.{AllByRecursion};
 ghost use Rattle.machine.specs.Events.{IsQuiet};
-ghost use Rattle.machine.specs.Quanta.{KeepsBudget};
 ghost use Rattle.machine.specs.Replays.{owns};
 ghost use Rattle.machine.specs.States.{quantum_turns};
 ghost use Rattle.machine.specs.Turns.{is_runnable};
-ghost use Rattle.session_kits.specs.Kits.{HasFew, HasHarts};
-ghost use Rattle.session.specs.Tables.{table_armed, table_ended, table_freed, table_handed, table_next, table_opened, table_quiet, table_sampled, table_tended, table_turned, table_worked};
+ghost use Rattle.session_kits.specs.Kits.{HasHarts};
+ghost use Rattle.session.specs.Tables.{CanSample, table_armed, table_freed, table_handed, table_judged, table_next, table_quiet, table_sampled, table_turned};
 
 use instrumented::InstrumentedMachine;
 use machine::Sample;
 use pn_types::HartNo;
-use session_kits::{Kit, arm_kits, hand_out, sample_kits, sweep};
+use session_kits::{Kit, arm_kits, drop_tests, hand_out, mark_ticks, sample_kits, sweep};
 use session_spec::{Latest, RefusedWish};
 use std::marker::Model;
+use w3_search::{NodeSample, Search};
 
 /// How many entries of the agenda are handed out behind the turns of a quantum.
 const HANDED_AT_ONCE: usize = 8;
 
 /// What a session goes on from. Contracts see it as the definitions' table.
-#[derive(Drop)]
 pub(crate) struct Desk {
     pub(crate) machine: InstrumentedMachine,
     pub(crate) refused: Vec<RefusedWish>,
     // What is or was shown, in the order of admission.
     pub(crate) kits: Vec<Kit>,
-    // The samples that were taken together last.
+    pub(crate) search: Search,
+    // The samples that were taken together last, of what was wished and of the nodes under test.
     pub(crate) latest: Vec<Latest>,
+    pub(crate) tests: Vec<NodeSample>,
+    // How many ticks each hart had then.
+    pub(crate) marks: Vec<u64>,
     // Where readings are put.
     pub(crate) sample: Sample,
-    // For how many more wishes there is room.
+    // For how many more pairs there is room.
     pub(crate) room: usize,
     pub(crate) time: u64,
     pub(crate) due: u64,
@@ -38,6 +41,10 @@ pub(crate) struct Desk {
     pub(crate) samples: u64,
     // When the last sample was taken.
     pub(crate) last: u64,
+    // How many turns since then weren't ticks.
+    pub(crate) idle: u64,
+    // What the patches cost in the interval that it ended.
+    pub(crate) observed: u64,
 }
 
 impl Model for Desk {
@@ -54,7 +61,10 @@ impl Model for Desk {
       machine = d.machine;
       refused = d.refused.items;
       kits = d.kits.items;
+      search = d.search;
       latest = d.latest.items;
+      tests = d.tests.items;
+      marks = d.marks.items;
       places = length d.sample.readings;
       room = d.room;
       time = d.time;
@@ -62,10 +72,36 @@ impl Model for Desk {
       worked = d.worked;
       samples = d.samples;
       last = d.last;
+      idle = d.idle;
+      observed = d.observed;
     } };
 
     ghost invariant = { λ d. (vec_len d.refused + d.room ≤ vec_capacity d.refused) × (vec_len d.kits + d.room ≤ vec_capacity d.kits)
-        × (vec_len d.kits + d.room ≤ vec_capacity d.latest) };
+        × (vec_len d.kits + d.room ≤ vec_capacity d.latest) × (vec_len d.kits + d.room ≤ vec_capacity d.tests) };
+}
+
+// By a call of its own: what drops it need not prove the drops of all its parts.
+impl Drop for Desk {
+    fn drop(self) {
+        let Desk {
+            machine: _,
+            refused: _,
+            kits: _,
+            search: _,
+            latest: _,
+            tests: _,
+            marks: _,
+            sample: _,
+            room: _,
+            time: _,
+            due: _,
+            worked: _,
+            samples: _,
+            last: _,
+            idle: _,
+            observed: _,
+        } = self;
+    }
 }
 
 impl Desk {
@@ -81,20 +117,23 @@ impl Desk {
     pub(crate) fn turn(&mut self, hart: HartNo, most: u32) -> u32
         requires hart { hart < length self.old.machine.state.core.harts }
         requires time { self.old.time < 2 ^ 63 }
+        requires idle { self.old.idle < 2 ^ 63 }
         ensures table { self.new ≡ table_turned hart most self.old }
         ensures owns { result ≡ length (owns (quantum_turns most hart self.old.machine.state.core) self.old.machine.state.core) }
         ensures harts { length self.new.machine.state.core.harts ≡ length self.old.machine.state.core.harts }
         ensures later { self.new.time < self.old.time + 2 ^ 32 }
+        ensures idle { self.new.idle ≤ self.old.idle + most }
     {
         let taken = self.machine.take_turns(hart, most);
-        self.time += taken.ticks as u64;
+        self.time += u64::from(taken.ticks);
+        self.idle += u64::from(taken.turns.saturating_sub(taken.ticks));
         taken.ticks
     }
 
     /// Hands out eight entries of the agenda.
     pub(crate) fn hand_out(&mut self)
         ensures table { self.new ≡ table_handed self.old }
-        ensures harts { length self.new.machine.state.core.harts ≡ length self.old.machine.state.core.harts }
+        ensures harts { self.new.machine.state.core.harts ≡ self.old.machine.state.core.harts }
     {
         hand_out(&mut self.machine, HANDED_AT_ONCE);
     }
@@ -102,36 +141,45 @@ impl Desk {
     /// Lets each hart that is inside a trampoline take turns until it is outside.
     pub(crate) fn settle(&mut self)
         requires time { self.old.time < 2 ^ 63 }
+        requires idle { self.old.idle < 2 ^ 63 }
         ensures table { self.new ≡ table_quiet self.old }
         ensures quiet { IsQuiet self.new.machine.state.core }
         ensures harts { length self.new.machine.state.core.harts ≡ length self.old.machine.state.core.harts }
         ensures later { self.new.time < self.old.time + 2 ^ 32 }
+        ensures idle { self.new.idle < self.old.idle + 2 ^ 32 }
+        ensures no_less { self.old.time ≤ self.new.time }
     {
         let taken = self.machine.settle();
-        self.time += taken.ticks as u64;
+        self.time += u64::from(taken.ticks);
+        self.idle += u64::from(taken.turns.saturating_sub(taken.ticks));
     }
 
-    /// Samples all that is armed. No hart is inside a trampoline.
+    /// Samples all that is armed. No hart is inside a trampoline, and time passed since the last sample.
     pub(crate) fn sample(&mut self)
         requires quiet { IsQuiet self.old.machine.state.core }
-        requires places { self.old.places ≡ length self.old.machine.state.core.harts }
-        requires harts { AllByRecursion (HasHarts (length self.old.machine.state.core.harts)) self.old.kits }
-        requires few { AllByRecursion HasFew self.old.kits }
-        requires number { length self.old.kits < 2 ^ 32 }
-        requires samples { self.old.samples < 2 ^ 63 }
+        requires sampled { CanSample self.old }
+        requires time { self.old.time < 2 ^ 58 }
+        requires idle { self.old.idle < 2 ^ 50 }
+        requires later { self.old.last < self.old.time }
         ensures table { self.new ≡ table_sampled self.old }
         ensures still { self.new.machine ≡ self.old.machine }
         ensures harts { AllByRecursion (HasHarts (length self.old.machine.state.core.harts)) self.new.kits }
     {
         self.latest.clear();
+        self.tests.clear();
         sample_kits(
             &self.machine,
             self.time,
+            &self.marks,
             &mut self.kits,
             &mut self.latest,
+            &mut self.tests,
             &mut self.sample,
         );
+        mark_ticks(&self.machine, &mut self.marks);
         self.samples += 1;
+        self.observed = self.idle * 1_000 / (self.time - self.last);
+        self.idle = 0;
         self.last = self.time;
     }
 
@@ -162,34 +210,24 @@ impl Desk {
         );
     }
 
+    /// Tells the search of the samples of its nodes, and drops the instruments of those whose tests ended.
+    pub(crate) fn judge(&mut self)
+        ensures table { self.new ≡ table_judged self.old }
+        ensures core { self.new.machine.state.core ≡ self.old.machine.state.core }
+    {
+        let _drops = self.search.on_sample(self.time, &self.tests);
+        drop_tests(&mut self.machine, &self.kits, self.search.drops());
+    }
+
     /// Work is due next at the least multiple of the width above the time.
     pub(crate) fn go_on(&mut self, width: u64)
         requires some { 1 ≤ width }
         requires time { self.old.time + width < 2 ^ 64 }
-        ensures { self.new ≡ table_next width self.old }
+        ensures table { self.new ≡ table_next width self.old }
+        ensures soon { self.new.time < self.new.due }
     {
         self.due = (self.time / width + 1) * width;
         self.worked = true;
-    }
-
-    /// The work that is due: it settles, samples, frees and arms.
-    pub(crate) fn work(&mut self, width: u64)
-        requires time { self.old.time < 2 ^ 62 }
-        requires width { (1 ≤ width) × (width < 2 ^ 62) }
-        requires places { self.old.places ≡ length self.old.machine.state.core.harts }
-        requires harts { AllByRecursion (HasHarts (length self.old.machine.state.core.harts)) self.old.kits }
-        requires few { AllByRecursion HasFew self.old.kits }
-        requires number { length self.old.kits < 2 ^ 32 }
-        requires samples { self.old.samples < 2 ^ 63 }
-        ensures table { self.new ≡ table_worked width self.old }
-        ensures harts { length self.new.machine.state.core.harts ≡ length self.old.machine.state.core.harts }
-        ensures later { self.new.time < self.old.time + 2 ^ 32 }
-    {
-        self.settle();
-        self.sample();
-        self.free();
-        self.arm();
-        self.go_on(width);
     }
 
     /// An admission was done.
@@ -197,61 +235,5 @@ impl Desk {
         ensures { self.new ≡ record self.old { worked = false } }
     {
         self.worked = false;
-    }
-
-    /// The hart's turns, some entries of the agenda, and the work that is due, if it is time. It answers how many of the turns were
-    /// ticks.
-    pub(crate) fn tend(&mut self, hart: HartNo, most: u32, width: u64) -> u32
-        requires hart { hart < length self.old.machine.state.core.harts }
-        requires time { self.old.time < 2 ^ 61 }
-        requires width { (1 ≤ width) × (width < 2 ^ 62) }
-        requires places { self.old.places ≡ length self.old.machine.state.core.harts }
-        requires harts { AllByRecursion (HasHarts (length self.old.machine.state.core.harts)) self.old.kits }
-        requires few { AllByRecursion HasFew self.old.kits }
-        requires number { length self.old.kits < 2 ^ 32 }
-        requires samples { self.old.samples < 2 ^ 63 }
-        ensures table { self.new ≡ table_tended width hart most self.old }
-        ensures owns { result ≡ length (owns (quantum_turns most hart self.old.machine.state.core) self.old.machine.state.core) }
-        ensures harts { length self.new.machine.state.core.harts ≡ length self.old.machine.state.core.harts }
-        ensures later { self.new.time < self.old.time + 2 ^ 33 }
-    {
-        let owns = self.turn(hart, most);
-        self.hand_out();
-        if self.due <= self.time {
-            self.work(width);
-        }
-        owns
-    }
-
-    /// The end: it settles, and samples once more where time passed since the last sample.
-    pub(crate) fn end(&mut self)
-        requires time { self.old.time < 2 ^ 62 }
-        requires places { self.old.places ≡ length self.old.machine.state.core.harts }
-        requires harts { AllByRecursion (HasHarts (length self.old.machine.state.core.harts)) self.old.kits }
-        requires few { AllByRecursion HasFew self.old.kits }
-        requires number { length self.old.kits < 2 ^ 32 }
-        requires samples { self.old.samples < 2 ^ 63 }
-        ensures table { self.new ≡ table_ended self.old }
-        ensures quiet { IsQuiet self.new.machine.state.core }
-        ensures harts { length self.new.machine.state.core.harts ≡ length self.old.machine.state.core.harts }
-        ensures later { self.new.time < self.old.time + 2 ^ 32 }
-    {
-        self.settle();
-        if self.last < self.time {
-            self.sample();
-        }
-    }
-
-    /// The opening behind its wishes: the whole agenda is handed out, and then all that is placed is armed.
-    pub(crate) fn open(&mut self)
-        requires quiet { IsQuiet self.old.machine.state.core }
-        requires places { self.old.places ≡ length self.old.machine.state.core.harts }
-        requires harts { AllByRecursion (HasHarts (length self.old.machine.state.core.harts)) self.old.kits }
-        ensures table { self.new ≡ table_opened self.old }
-        ensures harts { length self.new.machine.state.core.harts ≡ length self.old.machine.state.core.harts }
-    {
-        let entries = self.machine.agenda_len();
-        hand_out(&mut self.machine, entries);
-        self.arm();
     }
 }

@@ -1,9 +1,23 @@
-ghost use Rattle.std.specs.Prelude.{◌≡◌};
+ghost use Rattle.std.specs.Prelude.{◌≡◌, IfOk};
+ghost use Rattle.session_spec.specs.Searches.{rules_of};
+ghost use Rattle.session.specs.Contenders.{first_search};
+ghost use Rattle.session.specs.Given.{AreGiven};
 
+use mdl_ast::SearchDecl;
 use mdl_check::Checked;
-use pn_types::{Image, Point, Proc, Seq, Settings};
+use pn_types::{Image, NoMemory, Point, Proc, Seq, Settings};
 use resource_tree::Tree;
+use std::alloc::Global;
 use std::marker::Model;
+use w3_search::Search;
+
+/// How a search goes that has no hypotheses.
+const NO_SEARCH: SearchDecl = SearchDecl {
+    line: 0,
+    window: 1,
+    cost: 0,
+    observed: 0,
+};
 
 /// What a session is given: a program, what its configuration holds, the program's resources, procedures and points, and the
 /// numbers of the run. Contracts see the definitions' inputs.
@@ -37,5 +51,34 @@ impl Inputs {
         ensures { result ≡ self.now.settings.width }
     {
         self.settings.width
+    }
+
+    /// How the search goes. Where none is wanted, it is one without hypotheses.
+    pub(crate) fn search_decl(&self) -> SearchDecl
+        ensures { result ≡ (rules_of self.now).decl }
+    {
+        self.checked.search.unwrap_or(NO_SEARCH)
+    }
+
+    /// The search, before anything is tested.
+    ///
+    /// # Errors
+    ///
+    /// `NoMemory` where memory is wanting.
+    #[tactic(auto, unfolding(crate::specs::Contenders::first_search))]
+    pub(crate) fn search(&self, alloc: Global) -> Result<Search, NoMemory>
+        requires { AreGiven self.now }
+        ensures { IfOk result (λ search. search ≡ first_search self.now) }
+    {
+        match &self.checked.search {
+            Some(decl) => Search::new(
+                alloc,
+                self.checked.hypotheses.as_slice(),
+                decl,
+                self.checked.phases.as_slice(),
+                &self.tree,
+            ),
+            None => Search::new(alloc, &[], &NO_SEARCH, &[], &self.tree),
+        }
     }
 }

@@ -4,17 +4,25 @@
 mod admitting;
 mod candidate;
 mod considering;
+mod contender;
+mod contenders;
 mod desk;
 mod fault;
 mod inputs;
 mod later;
+mod node_parts;
 mod opening;
 mod outcome;
 mod parts;
+mod planning;
 mod preparing;
 mod room;
 mod session;
 mod starting;
+mod taken;
+mod taking;
+mod tending;
+mod testing;
 mod wishing;
 
 pub use fault::StartFault;

@@ -1,6 +1,7 @@
 //! The desk at the beginning, and the memory for wishes.
 
 ghost use Rattle.std.specs.Prelude.{◌≡◌, ◌+◌, ◌<◌, ◌≤◌, ◌^◌, ◌⊎◌, IfOk, None, OnErr, OnOk, [], false, length, map};
+ghost use Rattle.std.specs.List.{AllByRecursion};
 ghost use Rattle.pn_types.specs.Images.{IsImage, text_of};
 ghost use Rattle.rv_word.specs.Names.{scratch_in, words_of};
 ghost use Rattle.machine.specs.Cores.{In};
@@ -8,15 +9,18 @@ ghost use Rattle.machine.specs.Laws.{IsProgram};
 ghost use Rattle.prim_code.specs.Counts.{predicted};
 ghost use Rattle.pn_types.specs.declared.plan.Plan.{Plan};
 ghost use Rattle.instrument.specs.Needs.{need_of};
-ghost use Rattle.session.specs.Given.{AreGiven};
-ghost use Rattle.session.specs.Tables.{first_table};
+ghost use Rattle.mdl_plan.specs.Plans.{at_first};
+ghost use Rattle.session.specs.Given.{AreGiven, AreNarrow, IsNarrowConstraint, IsNarrowMetric};
+ghost use Rattle.session.specs.Tables.{first_table, table_at_first};
 
 use crate::desk::Desk;
 use crate::inputs::Inputs;
 use instrumented::InstrumentedMachine;
 use machine::Sample;
+use mdl_ast::{Constraint, Metric};
 use pn_types::{NoMemory, Plan, Seq};
 use std::alloc::Global;
+use w3_search::Search;
 
 /// Room to read an instrument on so many harts.
 fn blank_sample(alloc: Global, harts: u32) -> Result<Sample, NoMemory>
@@ -27,7 +31,63 @@ fn blank_sample(alloc: Global, harts: u32) -> Result<Sample, NoMemory>
     })
 }
 
+/// What is begun at, which has 32 bits.
+fn begun_at(initially: Option<u32>) -> u32
+    ensures { at_first initially < 2 ^ 32 }
+{
+    initially.unwrap_or(0)
+}
+
+/// What holds of any metrics: what each begins at has 32 bits.
+fn metrics_are_narrow(metrics: &[Metric])
+    ensures { AllByRecursion IsNarrowMetric metrics.now }
+{
+    for metric in metrics {
+        let _first = begun_at(metric.initially);
+    }
+}
+
+/// What holds of any constraints: what each begins at has 32 bits.
+fn constraints_are_narrow(constraints: &[Constraint])
+    ensures { AllByRecursion IsNarrowConstraint constraints.now }
+{
+    for constraint in constraints {
+        let _first = begun_at(constraint.initially);
+    }
+}
+
 impl Desk {
+    /// The desk of this machine and this search, where nothing was done yet. Work is due at this time.
+    fn at_first(
+        alloc: Global,
+        machine: InstrumentedMachine,
+        search: Search,
+        marks: Vec<u64>,
+        sample: Sample,
+        due: u64,
+    ) -> Desk
+        ensures { result ≡ table_at_first machine search marks.items (length sample.readings) due }
+    {
+        Desk {
+            machine,
+            refused: Vec::new(alloc),
+            kits: Vec::new(alloc),
+            search,
+            latest: Vec::new(alloc),
+            tests: Vec::new(alloc),
+            marks,
+            sample,
+            room: 0,
+            time: 0,
+            due,
+            worked: false,
+            samples: 0,
+            last: 0,
+            idle: 0,
+            observed: 0,
+        }
+    }
+
     /// The desk before any wish is looked at.
     ///
     /// # Errors
@@ -37,30 +97,25 @@ impl Desk {
         requires { AreGiven inputs.now }
         ensures first { IfOk result (λ desk. desk ≡ first_table inputs.now) }
         ensures program { IfOk result (λ desk. IsProgram inputs.now.image) }
+        ensures narrow { IfOk result (λ desk. AreNarrow inputs.now) }
     {
+        metrics_are_narrow(inputs.checked.metrics.as_slice());
+        constraints_are_narrow(inputs.checked.constraints.as_slice());
         let settings = &inputs.settings;
-        Ok(Desk {
-            machine: InstrumentedMachine::new(
-                alloc,
-                &inputs.image,
-                settings.harts,
-                settings.budget,
-                settings.instruments,
-            )?,
-            refused: Vec::new(alloc),
-            kits: Vec::new(alloc),
-            latest: Vec::new(alloc),
-            sample: blank_sample(alloc, settings.harts)?,
-            room: 0,
-            time: 0,
-            due: settings.width,
-            worked: false,
-            samples: 0,
-            last: 0,
-        })
+        let marks = vec![in alloc; 0; settings.harts as usize]?;
+        let sample = blank_sample(alloc, settings.harts)?;
+        let search = inputs.search(alloc)?;
+        let machine = InstrumentedMachine::new(
+            alloc,
+            &inputs.image,
+            settings.harts,
+            settings.budget,
+            settings.instruments,
+        )?;
+        Ok(Desk::at_first(alloc, machine, search, marks, sample, settings.width))
     }
 
-    /// Takes the memory to look at wishes with these plans, one each.
+    /// Takes the memory to look at wishes and to take nodes with these plans, one each.
     ///
     /// # Errors
     ///
@@ -71,13 +126,15 @@ impl Desk {
         ensures room { OnOk result (self.new.room ≡ length plans.now) }
         ensures ready { OnOk result (self.new.machine.ready ≡ map need_of plans.now) }
     {
-        let wishes = plans.len();
+        let more = plans.len();
         self.room = 0;
-        self.refused.reserve(wishes)?;
-        self.kits.reserve(wishes)?;
-        self.latest.reserve(self.kits.len() + wishes)?;
+        self.refused.reserve(more)?;
+        self.kits.reserve(more)?;
+        let all = self.kits.len() + more;
+        self.latest.reserve(all)?;
+        self.tests.reserve(all)?;
         self.machine.reserve(alloc, plans)?;
-        self.room = wishes;
+        self.room = more;
         Ok(())
     }
 }

@@ -3,10 +3,11 @@
 ghost use Rattle.std.specs.Prelude.{◌≡◌, ◌≤◌, ◌<◌, IfOk, Some, length, map, slice_get};
 ghost use Rattle.std.specs.Option.{option_map};
 ghost use Rattle.session.specs.Parts.{ended_by, metric_of, name_of, refused_part, units_of};
-ghost use Rattle.session.specs.Seen.{hart_seen, kit_part, table_parts};
+ghost use Rattle.session.specs.Seen.{hart_seen, kit_part, kit_parts, table_parts};
 
 use crate::desk::Desk;
 use crate::inputs::Inputs;
+use crate::node_parts::search_part;
 use instrumented::InstrumentedMachine;
 use mdl_ast::Metric;
 use pn_types::{HartNo, MAX_HARTS, NoMemory, Seq, Settings, StopText, Text};
@@ -139,13 +140,15 @@ fn shown_part(alloc: Global, inputs: &Inputs, kit: &Kit) -> Result<ShownPart, No
     })
 }
 
-/// What a report shows of each pair that is or was shown.
+/// What a report shows of each pair that was wished and is or was shown.
 fn shown_parts(alloc: Global, inputs: &Inputs, kits: &[Kit]) -> Result<Vec<ShownPart>, NoMemory>
-    ensures { IfOk result (λ parts. parts.items ≡ map (kit_part inputs.now) kits.now) }
+    ensures { IfOk result (λ parts. parts.items ≡ kit_parts inputs.now kits.now) }
 {
     let mut parts = Vec::new(alloc);
     for kit in kits {
-        parts.push(shown_part(alloc, inputs, kit)?)?;
+        if kit.shown.node.is_none() {
+            parts.push(shown_part(alloc, inputs, kit)?)?;
+        }
     }
     Ok(parts)
 }
@@ -167,6 +170,6 @@ pub(crate) fn desk_parts(
         output: Text::from_vec(output),
         refused: Seq::from_vec(refused_parts(alloc, inputs, desk.refused.as_slice())?),
         shown: Seq::from_vec(shown_parts(alloc, inputs, desk.kits.as_slice())?),
-        search: None,
+        search: search_part(alloc, inputs, desk.search.nodes())?,
     })
 }

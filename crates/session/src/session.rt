@@ -1,11 +1,14 @@
 ghost use Rattle.std.specs.Prelude.{◌≡◌, ℕ, ◌<◌, ◌≤◌, ◌^◌, ◌++◌, ◌∷◌, [], IfErr, IfNone, IfOk, IfSome, IsTrue, None, OnErr, false, length, sum_by, true};
 ghost use Rattle.machine.specs.Turns.{is_runnable};
 ghost use Rattle.session_spec.specs.Opening.{bad_pick};
+ghost use Rattle.search_laws.specs.Costs.{IsWithin};
 ghost use Rattle.session_spec.specs.Run.{IsRun};
+ghost use Rattle.session_spec.specs.Told.{AreTold, AreVerdicts};
 ghost use Rattle.session_spec.specs.Work.{AreAllowed, Halted, IsWhole, quantum_of};
 ghost use Rattle.session.specs.Given.{AreGiven};
 ghost use Rattle.session.specs.Parts.{parts_of};
 ghost use Rattle.session.specs.Sessions.{begun, IsStartFault, state_of};
+ghost use Rattle.w3_search.specs.History.{IsHistory};
 
 use crate::admitting::admit_from;
 use crate::desk::Desk;
@@ -24,7 +27,6 @@ use std::alloc::Global;
 use std::marker::Model;
 
 /// The run of a program with instruments, quantum by quantum.
-#[derive(Drop)]
 pub struct Session {
     inputs: Inputs,
     // The wishes after the opening, by tick, and how many of them were looked at.
@@ -46,6 +48,21 @@ impl Model for Session {
     ghost view = { λ s. record { inputs = s.inputs; quanta = s.quanta.items; closed = s.closed } };
 
     ghost invariant = { λ s. IsKept (record { inputs = s.inputs; quanta = s.quanta.items; closed = s.closed }) (drop s.looked s.wishes.items) s.desk × (s.looked ≤ vec_len s.wishes) };
+}
+
+// By a call of its own: what drops it need not prove the drops of all its parts.
+impl Drop for Session {
+    fn drop(self) {
+        let Session {
+            inputs: _,
+            wishes: _,
+            looked: _,
+            desk: _,
+            quanta: _,
+            closed: _,
+            alloc: _,
+        } = self;
+    }
 }
 
 impl Session {
@@ -117,12 +134,18 @@ impl Session {
     }
 
     /// What holds of it: each of its quanta was allowed when it came; and its machine came about by events of which each could happen,
-    /// is the unpatched program's behind those of them that are ticks, and so has its memory, output, ticks and stops.
+    /// is the unpatched program's behind those of them that are ticks, and so has its memory, output, ticks and stops. The search's
+    /// nodes are a history; each verdict is that of the program's own run; behind the end each node has one, or says why not; and
+    /// what is under test costs no more than the limit.
     pub fn laws(&self)
         ensures allowed { AreAllowed self.now.inputs self.now.quanta }
         ensures run { IsRun self.now.inputs (state_of self.now) }
+        ensures history { IsHistory (state_of self.now).kept.search }
+        ensures verdicts { self.now.closed ≡ false → AreVerdicts self.now.inputs (state_of self.now) }
+        ensures told { self.now.closed ≡ true → AreTold self.now.inputs (state_of self.now) }
+        ensures cost { IsWithin self.now.inputs (state_of self.now).kept }
     {
-        let _ = &self.inputs;
+        let _nodes = self.desk.search.nodes();
     }
 
     /// Whether a quantum of the hart can follow: it is runnable, and there are fewer quanta than there may be. The hart is one of

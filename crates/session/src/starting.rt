@@ -1,10 +1,11 @@
 //! How a session begins.
 
-ghost use Rattle.std.specs.Prelude.{◌≡◌, IfErr, IfOk, None};
+ghost use Rattle.std.specs.Prelude.{◌≡◌, IfErr, IfOk, None, OnOk};
+ghost use Rattle.std.specs.Option.{option_map};
 ghost use Rattle.session_spec.specs.Inputs.{later_wishes};
-ghost use Rattle.session_spec.specs.Opening.{bad_pick};
+ghost use Rattle.session_spec.specs.Opening.{bad_pick, first_refused};
 ghost use Rattle.session.specs.Given.{AreGiven};
-ghost use Rattle.session.specs.Kept.{IsKept, IsWished};
+ghost use Rattle.session.specs.Kept.{IsAdmitted, IsKept};
 ghost use Rattle.session.specs.Sessions.{begun, IsStartFault};
 
 use crate::desk::Desk;
@@ -12,25 +13,47 @@ use crate::fault::StartFault;
 use crate::inputs::Inputs;
 use crate::later::first;
 use crate::parts::refused_part;
-use crate::preparing::{Prepared, prepare_all};
 use pn_types::NoMemory;
+use session_spec::RefusedWish;
 use std::alloc::Global;
 
-/// The desk behind the wishes of the opening.
+/// The desk behind the admissions of the opening.
 ///
 /// # Errors
 ///
 /// `NoMemory` where memory is wanting.
-fn wished(alloc: Global, inputs: &Inputs) -> Result<Desk, NoMemory>
+fn admitted(alloc: Global, inputs: &Inputs) -> Result<Desk, NoMemory>
     requires { AreGiven inputs.now }
-    ensures { IfOk result (IsWished inputs.now) }
+    ensures admitted { IfOk result (IsAdmitted inputs.now) }
+    ensures picked { IfOk result (λ desk. first_refused desk.refused ≡ bad_pick inputs.now) }
 {
     let wishes = first(alloc, inputs.checked.wishes.as_slice())?;
-    let Prepared { plans, candidates } = prepare_all(alloc, inputs, &wishes)?;
     let mut desk = Desk::new(alloc, inputs)?;
-    desk.reserve(alloc, &plans)?;
-    desk.consider_all(alloc, inputs, &wishes, &plans, candidates);
+    desk.admit(alloc, inputs, &wishes)?;
     Ok(desk)
+}
+
+/// The first wish that was refused, if one was.
+fn first_refused(refused: &[RefusedWish]) -> Option<&RefusedWish>
+    ensures { option_map (λ wish. wish.now) result ≡ first_refused refused.now }
+{
+    refused.first()
+}
+
+/// Whether a wish of the opening is refused.
+///
+/// # Errors
+///
+/// `NoMemory` where memory is wanting; `BadPick` with the first such wish, if there is one.
+fn pick(alloc: Global, inputs: &Inputs, refused: &[RefusedWish]) -> Result<(), StartFault>
+    requires { first_refused refused.now ≡ bad_pick inputs.now }
+    ensures picked { OnOk result (bad_pick inputs.now ≡ None) }
+    ensures refused { IfErr result (IsStartFault inputs.now) }
+{
+    match first_refused(refused) {
+        None => Ok(()),
+        Some(refused) => Err(StartFault::BadPick(refused_part(alloc, inputs, refused)?)),
+    }
 }
 
 /// The desk behind the opening.
@@ -44,10 +67,8 @@ pub(crate) fn opened(alloc: Global, inputs: &Inputs) -> Result<Desk, StartFault>
     ensures picked { IfOk result (λ desk. bad_pick inputs.now ≡ None) }
     ensures refused { IfErr result (IsStartFault inputs.now) }
 {
-    let mut desk = wished(alloc, inputs)?;
-    if let Some(refused) = desk.refused.first() {
-        return Err(StartFault::BadPick(refused_part(alloc, inputs, refused)?));
-    }
+    let mut desk = admitted(alloc, inputs)?;
+    pick(alloc, inputs, &desk.refused)?;
     desk.open();
     Ok(desk)
 }

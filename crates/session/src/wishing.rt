@@ -42,7 +42,8 @@ fn stands(machine: &InstrumentedMachine, number: InstrumentNo) -> bool
 fn shows(machine: &InstrumentedMachine, kit: &Kit, wish: &CheckedWish) -> bool
     ensures { result ≡ shows machine.now.state.placer wish.now kit.now.shown }
 {
-    kit.shown.metric == wish.metric
+    kit.shown.node.is_none()
+        && kit.shown.metric == wish.metric
         && same(&kit.shown.focus, &wish.focus)
         && stands(machine, kit.shown.instrument)
 }
@@ -101,7 +102,7 @@ fn show(
 ) -> Outcome
     requires short { IfOk (answer_of refusal plan.now) (λ plan. IsPlanFor machine.old.state.core.program plan × (predicted plan < 2 ^ 32) × (slot_count plan.vars < 2 ^ 32)) }
     requires ready { IfOk (answer_of refusal plan.now) (λ plan. In (need_of plan) machine.old.ready) }
-    ensures kept { (i : Inputs) (w : CheckedWish) (k : Kept) → k.machine ≡ machine.old.state → IsAnswer i w (answer_of refusal plan.now) → with_plan (planned i w.metric w.focus) w k ≡ kept_by w result machine.new.state k }
+    ensures kept { (i : Inputs) (w : CheckedWish) (k : Kept) → k.machine ≡ machine.old.state → IsAnswer i w.metric w.focus (answer_of refusal plan.now) → with_plan (planned i w.metric w.focus) w k ≡ kept_by w result machine.new.state k }
     ensures ok { IfOk (answer_of refusal plan.now) (λ plan. machine.new.ready ≡ without (need_of plan) machine.old.ready) }
     ensures err { IfErr (answer_of refusal plan.now) (λ cause. machine.new.ready ≡ machine.old.ready) }
     ensures core { machine.new.state.core ≡ machine.old.state.core }
@@ -123,7 +124,7 @@ pub(crate) fn look(
 ) -> Outcome
     requires short { IfOk (answer_of refusal plan.now) (λ plan. IsPlanFor machine.old.state.core.program plan × (predicted plan < 2 ^ 32) × (slot_count plan.vars < 2 ^ 32)) }
     requires ready { IfOk (answer_of refusal plan.now) (λ plan. In (need_of plan) machine.old.ready) }
-    ensures kept { (i : Inputs) (k : Kept) → k.machine ≡ machine.old.state → k.shown ≡ map (λ x. x.shown) kits.now → (wish.now.show ≡ true → IsAnswer i wish.now (answer_of refusal plan.now))
+    ensures kept { (i : Inputs) (k : Kept) → k.machine ≡ machine.old.state → k.shown ≡ map (λ x. x.shown) kits.now → (wish.now.show ≡ true → IsAnswer i wish.now.metric wish.now.focus (answer_of refusal plan.now))
         → with_wish i wish.now k ≡ kept_by wish.now result machine.new.state k }
     ensures ok { IfOk (answer_of refusal plan.now) (λ plan. (machine.new.ready ≡ machine.old.ready) ⊎ (machine.new.ready ≡ without (need_of plan) machine.old.ready)) }
     ensures err { IfErr (answer_of refusal plan.now) (λ cause. machine.new.ready ≡ machine.old.ready) }

@@ -1,15 +1,17 @@
 -- The samples of pairs, one by one and together.
-use Rattle.std.proofs.Common.{◌≡◌, ℕ, List, [], ◌∷◌, sym, ap, ap₂, ◌∙◌}
-use Rattle.std.specs.Prelude.{true, false}
+use Rattle.std.proofs.Common.{◌≡◌, ℕ, Bool, true, false, cond, Option, Some, None, List, [], ◌∷◌, refl, sym, ap, ap₂, ◌∙◌}
+use Rattle.std.specs.Prelude.{◌&&◌, is_none}
 use Rattle.std.proofs.lemmas.Bool.{cond-true, cond-false}
+use Rattle.fold_hist.specs.declared.bin.Bin.{Bin}
 use Rattle.fold_hist.specs.Bins.{Histogram}
 use Rattle.fold_hist.specs.Steps.{pushed}
 use Rattle.instrumented.specs.Instrumented.{Instrumented}
 use Rattle.machine.specs.Measures.{difference}
+use Rattle.w3_search.specs.declared.node.NodeSample.{NodeSample}
 use Rattle.session_spec.specs.declared.data.Latest.{Latest}
 use Rattle.session_spec.specs.Due.{is_armed}
 use Rattle.session_kits.specs.declared.kit.Kit.{Kit}
-use Rattle.session_kits.specs.Kits.{kit_latest, kit_reading, kit_sampled}
+use Rattle.session_kits.specs.Kits.{kit_bin, kit_latest, kit_reading, kit_sampled, kit_test, kit_test_by, kit_ticks, latest_by, test_by}
 
 module _ (m : Instrumented) (time : ℕ) (k : Kit) where
   abbrev pub armed_kit : Kit
@@ -27,16 +29,17 @@ module _ (m : Instrumented) (time : ℕ) (k : Kit) where
   unfolding kit_sampled
   kit_on e = cond-true (is_armed m.placer k.shown) armed_kit k e
 
-  abbrev pub one_latest : ℕ → List Latest
-  one_latest place = record { shown = place; from = k.shown.from; to = time; sum = difference k.last (kit_reading m k) } ∷ []
+  abbrev pub one_bin : Bin
+  one_bin = record { from = k.shown.from; to = time; sum = difference k.last (kit_reading m k) }
 
-  pub latest_off : (place : ℕ) → is_armed m.placer k.shown ≡ false → kit_latest m time place k ≡ []
-  unfolding kit_latest
-  latest_off place e = cond-false (is_armed m.placer k.shown) (one_latest place) [] e
+  abbrev some_bin : ℕ → Option Bin
+  some_bin sum = Some (record { from = k.shown.from; to = time; sum = sum })
 
-  pub latest_on : (place : ℕ) → is_armed m.placer k.shown ≡ true → kit_latest m time place k ≡ one_latest place
-  unfolding kit_latest
-  latest_on place e = cond-true (is_armed m.placer k.shown) (one_latest place) [] e
+  pub bin_off : is_armed m.placer k.shown ≡ false → kit_bin m time k ≡ None
+  bin_off e = cond-false (is_armed m.placer k.shown) (Some one_bin) None e
+
+  pub bin_on : is_armed m.placer k.shown ≡ true → kit_bin m time k ≡ Some one_bin
+  bin_on e = cond-true (is_armed m.placer k.shown) (Some one_bin) None e
 
   -- what the code makes of it
   pub sampled_now : (reading sum : ℕ) (hist : Histogram) → is_armed m.placer k.shown ≡ true → reading ≡ kit_reading m k → sum ≡ difference k.last reading
@@ -47,8 +50,38 @@ module _ (m : Instrumented) (time : ℕ) (k : Kit) where
       (h ∙ ap (λ (x : ℕ). pushed k.hist (record { from = k.shown.from; to = time; sum = x })) total)
       ∙ sym (kit_on a)
 
-  pub latest_now : (place reading sum : ℕ) → is_armed m.placer k.shown ≡ true → reading ≡ kit_reading m k → sum ≡ difference k.last reading
-      → kit_latest m time place k ≡ record { shown = place; from = k.shown.from; to = time; sum = sum } ∷ []
-  latest_now place reading sum a r s =
+  pub bin_now : (reading sum : ℕ) → is_armed m.placer k.shown ≡ true → reading ≡ kit_reading m k → sum ≡ difference k.last reading
+      → Some (record { from = k.shown.from; to = time; sum = sum }) ≡ kit_bin m time k
+  bin_now reading sum a r s =
       let total : sum ≡ difference k.last (kit_reading m k) = s ∙ ap (difference k.last) r in
-      latest_on place a ∙ ap (λ (x : ℕ). record { shown = place; from = k.shown.from; to = time; sum = x } ∷ []) (sym total)
+      ap (λ (x : ℕ). some_bin x) total ∙ sym (bin_on a)
+
+  -- what it is put down as
+  pub latest_is : (place : ℕ) → latest_by k.shown.node place (kit_bin m time k) ≡ kit_latest m time place k
+  unfolding kit_latest
+  latest_is place = by k.shown.node (is_armed m.placer k.shown)
+    where
+      one : List Latest
+      one = record { shown = place; from = k.shown.from; to = time; sum = difference k.last (kit_reading m k) } ∷ []
+
+      by : (o : Option ℕ) (b : Bool) → latest_by o place (cond b (Some one_bin) None) ≡ cond (is_none o && b) one []
+      by None true = refl
+      by None false = refl
+      by (Some n) b = refl
+
+  abbrev test_cond : List ℕ → Option ℕ → Bool → List NodeSample
+  test_cond marks None b = []
+  test_cond marks (Some n) b = cond b (record { node = n; from = k.shown.from; value = difference k.last (kit_reading m k); ticks = kit_ticks m marks k } ∷ []) []
+
+  pub test_is : (marks : List ℕ) → test_by k.shown.node (kit_ticks m marks k) (kit_bin m time k) ≡ kit_test m marks k
+  unfolding kit_test
+  test_is marks = by k.shown.node (is_armed m.placer k.shown) ∙ conds k.shown.node
+    where
+      by : (o : Option ℕ) (b : Bool) → test_by o (kit_ticks m marks k) (cond b (Some one_bin) None) ≡ test_cond marks o b
+      by None b = refl
+      by (Some n) true = refl
+      by (Some n) false = refl
+
+      conds : (o : Option ℕ) → test_cond marks o (is_armed m.placer k.shown) ≡ kit_test_by o m marks k
+      conds None = refl
+      conds (Some n) = refl

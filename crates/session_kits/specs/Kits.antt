@@ -1,13 +1,19 @@
--- For proofs alone: what the code of a session does with each pair that is shown.
-use Rattle.std.specs.Prelude.{ℕ, ◌+◌, ◌<◌, ◌≤◌, ◌^◌, if◌then◌else◌, Some, List, [], ◌∷◌, ◌++◌}
+-- For proofs alone: what the code of a session does with each pair that is shown or tested.
+use Rattle.std.specs.Prelude.{ℕ, ◌+◌, ◌<◌, ◌≤◌, ◌^◌, ◌&&◌, if◌then◌else◌, Option, Some, None, is_none, List, [], ◌∷◌, ◌++◌}
 use Rattle.std.specs.List.{range_with_len}
+use Rattle.fold_hist.specs.declared.bin.Bin.{Bin}
 use Rattle.fold_hist.specs.Steps.{pushed}
-use Rattle.instrumented.specs.Instrumented.{Instrumented}
+use Rattle.instrumented.specs.Instrumented.{Instrumented, done}
 use Rattle.instrument.specs.Placements.{instrument_at}
+use Rattle.instrument.specs.Scenes.{Drops}
 use Rattle.machine.specs.Measures.{difference}
+use Rattle.w3_search.specs.declared.node.NodeSample.{NodeSample}
 use Rattle.session_spec.specs.declared.data.Latest.{Latest}
-use Rattle.session_spec.specs.Due.{is_armed, is_ready, machine_armed}
+use Rattle.session_spec.specs.declared.data.Shown.{Shown}
+use Rattle.session_spec.specs.Due.{is_armed, is_ready, machine_armed, place_behind}
+use Rattle.session_spec.specs.Reads.{ticks_between, ticks_of}
 use Rattle.session_spec.specs.Ties.{reading_by}
+use Rattle.session_spec.specs.Verdicts.{tester_of}
 use Rattle.session_kits.specs.declared.kit.Kit.{Kit}
 
 -- what its instrument reads
@@ -26,16 +32,47 @@ kit_sampled m time k =
     }
     else k
 
--- the sample of the pair at a place
+-- the sample of a pair, if it is armed, from its last one or its arming to now
+abbrev pub kit_bin : Instrumented → ℕ → Kit → Option Bin
+kit_bin m time k = if is_armed m.placer k.shown then Some (record { from = k.shown.from; to = time; sum = difference k.last (kit_reading m k) }) else None
+
+-- that of a pair which was wished, with its place among those
 unfoldable pub kit_latest : Instrumented → ℕ → ℕ → Kit → List Latest
 kit_latest m time place k =
-    if is_armed m.placer k.shown
+    if is_none k.shown.node && is_armed m.placer k.shown
     then record { shown = place; from = k.shown.from; to = time; sum = difference k.last (kit_reading m k) } ∷ []
     else []
 
 abbrev pub kits_latest : Instrumented → ℕ → ℕ → List Kit → List Latest
 kits_latest m time place [] = []
-kits_latest m time place (k ∷ ks) = kit_latest m time place k ++ kits_latest m time (place + 1) ks
+kits_latest m time place (k ∷ ks) = kit_latest m time place k ++ kits_latest m time (place_behind k.shown.node place) ks
+
+-- that of a node's pair, where each hart had so many ticks when its last sample ended
+abbrev pub kit_ticks : Instrumented → List ℕ → Kit → ℕ
+kit_ticks m marks k = ticks_between (range_with_len k.first k.count) marks (ticks_of m)
+
+abbrev pub kit_test_by : Option ℕ → Instrumented → List ℕ → Kit → List NodeSample
+kit_test_by None m marks k = []
+kit_test_by (Some n) m marks k =
+    if is_armed m.placer k.shown then record { node = n; from = k.shown.from; value = difference k.last (kit_reading m k); ticks = kit_ticks m marks k } ∷ [] else []
+
+unfoldable pub kit_test : Instrumented → List ℕ → Kit → List NodeSample
+kit_test m marks k = kit_test_by k.shown.node m marks k
+
+abbrev pub kits_tests : Instrumented → List ℕ → List Kit → List NodeSample
+kits_tests m marks [] = []
+kits_tests m marks (k ∷ ks) = kit_test m marks k ++ kits_tests m marks ks
+
+-- what a sample of a pair is put down as
+abbrev pub latest_by : Option ℕ → ℕ → Option Bin → List Latest
+latest_by None place (Some b) = record { shown = place; from = b.from; to = b.to; sum = b.sum } ∷ []
+latest_by None place None = []
+latest_by (Some n) place bin = []
+
+abbrev pub test_by : Option ℕ → ℕ → Option Bin → List NodeSample
+test_by (Some n) ticks (Some b) = record { node = n; from = b.from; value = b.sum; ticks = ticks } ∷ []
+test_by (Some n) ticks None = []
+test_by None ticks bin = []
 
 -- its harts are some of so many
 abbrev pub HasHarts : ℕ → Kit → Type 0
@@ -61,3 +98,14 @@ machine_of_armed m (k ∷ ks) = machine_of_armed (machine_armed m k.shown) ks
 abbrev pub kits_armed : ℕ → Instrumented → List Kit → List Kit
 kits_armed time m [] = []
 kits_armed time m (k ∷ ks) = kit_armed time m k ∷ kits_armed time (machine_armed m k.shown) ks
+
+-- ---- drops
+
+abbrev pub dropped_by : Option Shown → Instrumented → Instrumented
+dropped_by None m = m
+dropped_by (Some s) m = done (Drops s.instrument.n) m
+
+-- the instruments that test these nodes are dropped, one after another
+abbrev pub dropped_tests : List ℕ → List Shown → Instrumented → Instrumented
+dropped_tests [] ss m = m
+dropped_tests (n ∷ ns) ss m = dropped_tests ns ss (dropped_by (tester_of m.placer n ss) m)

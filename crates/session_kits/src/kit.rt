@@ -1,11 +1,13 @@
 use fold_hist::Hist;
 use session_spec::Shown;
 
-/// A pair of metric and focus that is or was shown, with its samples.
+/// A pair of metric and focus that is or was shown or tested, with its samples.
 #[derive(Drop)]
 pub struct Kit {
     /// The instrument, and from when on it is sampled next.
     pub shown: Shown,
+    /// What counts of it against the search's limit, in words: the predicted cost of a test, and nothing of what was wished.
+    pub cost: u64,
     /// The first hart of the focus.
     pub first: u32,
     /// How many harts the focus has.

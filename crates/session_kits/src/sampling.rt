@@ -1,19 +1,23 @@
-//! The samples of what is shown.
+//! The samples of what is shown or tested.
 
-ghost use Rattle.std.specs.Prelude.{◌≡◌, ◌<◌, ◌≤◌, ◌+◌, ◌^◌, ◌++◌, ◌∷◌, [], MatchOption, length, map, vec_len, vec_capacity};
+ghost use Rattle.std.specs.Prelude.{◌≡◌, ◌<◌, ◌≤◌, ◌+◌, ◌^◌, ◌++◌, length, map, vec_len, vec_capacity};
 ghost use Rattle.std.specs.List.{AllByRecursion};
+ghost use Rattle.pn_types.specs.declared.limits.TheConstants.{MAX_HARTS};
 ghost use Rattle.machine.specs.Events.{IsQuiet};
 ghost use Rattle.machine.specs.Measures.{difference};
 ghost use Rattle.instrument.specs.Placements.{state_of};
 ghost use Rattle.instrument.specs.declared.number.State.TheVariants.{Gone};
-ghost use Rattle.session_spec.specs.Due.{is_armed};
-ghost use Rattle.session_kits.specs.Kits.{HasFew, HasHarts, kit_latest, kit_reading, kit_sampled, kits_latest};
+ghost use Rattle.session_spec.specs.Due.{is_armed, place_behind};
+ghost use Rattle.session_kits.specs.Kits.{HasFew, HasHarts, kit_bin, kit_reading, kit_sampled, kits_latest, kits_tests, latest_by, test_by};
 
 use crate::kit::Kit;
+use crate::marking::ticks_since;
+use fold_hist::Bin;
 use instrument::State;
 use instrumented::InstrumentedMachine;
 use machine::Sample;
 use session_spec::Latest;
+use w3_search::NodeSample;
 
 /// What was added between two sums modulo 2^64.
 fn added(earlier: u64, later: u64) -> u64
@@ -45,67 +49,113 @@ pub fn is_armed(machine: &InstrumentedMachine, kit: &Kit) -> bool
 fn sample_kit(
     machine: &InstrumentedMachine,
     time: u64,
-    place: u32,
     kit: &mut Kit,
     sample: &mut Sample,
-) -> Option<Latest>
+) -> Option<Bin>
     requires quiet { IsQuiet machine.now.state.core }
     requires places { length sample.old.readings ≡ length machine.now.state.core.harts }
     requires harts { kit.old.first + kit.old.count ≤ length machine.now.state.core.harts }
     requires few { kit.old.hist.count < 2 ^ 32 }
     ensures kit { kit.new ≡ kit_sampled machine.now.state time kit.old }
-    ensures latest { MatchOption result (kit_latest machine.now.state time place kit.old ≡ []) (λ latest. kit_latest machine.now.state time place kit.old ≡ latest ∷ []) }
+    ensures bin { result ≡ kit_bin machine.now.state time kit.old }
     ensures places { length sample.new.readings ≡ length sample.old.readings }
 {
     if !is_armed(machine, kit) {
         return None;
     }
     let reading = read_kit(machine, kit, sample);
-    let latest = Latest {
-        shown: place,
+    let bin = Bin {
         from: kit.shown.from,
         to: time,
         sum: added(kit.last, reading),
     };
-    kit.hist.push(latest.sum, latest.from, time);
+    kit.hist.push(bin.sum, bin.from, bin.to);
     kit.shown.from = time;
     kit.last = reading;
-    Some(latest)
+    Some(bin)
 }
 
-/// Puts a sample behind the others, for which there is room.
-fn put_latest(list: &mut Vec<Latest>, latest: Latest)
+/// Puts a sample, if there is one, behind the others of what was wished, for which there is room.
+fn put_latest(list: &mut Vec<Latest>, node: Option<u32>, place: u32, bin: Option<Bin>)
     requires { vec_len list.old < vec_capacity list.old }
-    ensures items { list.new.items ≡ list.old.items ++ latest ∷ [] }
+    ensures items { list.new.items ≡ list.old.items ++ latest_by node place bin }
     ensures room { vec_capacity list.old ≤ vec_capacity list.new }
 {
-    let _room = list.push(latest);
+    if let (None, Some(bin)) = (node, bin) {
+        let _room = list.push(Latest {
+            shown: place,
+            from: bin.from,
+            to: bin.to,
+            sum: bin.sum,
+        });
+    }
 }
 
-/// Samples each pair that is armed, and puts the samples behind the latest, for which there is room.
+/// Puts a sample, if there is one, behind the others of nodes, for which there is room.
+fn put_test(list: &mut Vec<NodeSample>, node: Option<u32>, ticks: u64, bin: Option<Bin>)
+    requires { vec_len list.old < vec_capacity list.old }
+    ensures items { list.new.items ≡ list.old.items ++ test_by node ticks bin }
+    ensures room { vec_capacity list.old ≤ vec_capacity list.new }
+{
+    if let (Some(node), Some(bin)) = (node, bin) {
+        let _room = list.push(NodeSample {
+            node,
+            from: bin.from,
+            value: bin.sum,
+            ticks,
+        });
+    }
+}
+
+/// The place behind a pair's, where only those that were wished have places.
+fn place_behind(node: Option<u32>, place: u32) -> u32
+    requires { place + 1 < 2 ^ 32 }
+    ensures { result ≡ place_behind node place }
+{
+    match node {
+        None => place + 1,
+        Some(_) => place,
+    }
+}
+
+/// Samples each pair that is armed. It puts the samples of those that were wished behind the latest, and those of nodes behind the
+/// tests; there is room for them. The marks are how many ticks each hart had at the last sample.
 pub fn sample_kits(
     machine: &InstrumentedMachine,
     time: u64,
+    marks: &[u64],
     kits: &mut Vec<Kit>,
     latest: &mut Vec<Latest>,
+    tests: &mut Vec<NodeSample>,
     sample: &mut Sample,
 )
     requires quiet { IsQuiet machine.now.state.core }
+    requires marks { length marks.now ≡ length machine.now.state.core.harts }
+    requires small { AllByRecursion (λ x. x.ticks < 2 ^ 58) machine.now.state.core.harts }
+    requires most { length machine.now.state.core.harts ≤ MAX_HARTS }
     requires places { length sample.old.readings ≡ length machine.now.state.core.harts }
     requires harts { AllByRecursion (HasHarts (length machine.now.state.core.harts)) kits.old.items }
     requires few { AllByRecursion HasFew kits.old.items }
     requires number { vec_len kits.old < 2 ^ 32 }
     requires room { vec_len latest.old + vec_len kits.old ≤ vec_capacity latest.old }
+    requires test_room { vec_len tests.old + vec_len kits.old ≤ vec_capacity tests.old }
     ensures kits { kits.new.items ≡ map (kit_sampled machine.now.state time) kits.old.items }
     ensures latest { latest.new.items ≡ latest.old.items ++ kits_latest machine.now.state time 0 kits.old.items }
+    ensures tests { tests.new.items ≡ tests.old.items ++ kits_tests machine.now.state marks.now kits.old.items }
     ensures places { length sample.new.readings ≡ length sample.old.readings }
     ensures many { vec_len kits.new ≡ vec_len kits.old }
     ensures capacity { vec_capacity kits.new ≡ vec_capacity kits.old }
     ensures no_less { vec_capacity latest.old ≤ vec_capacity latest.new }
+    ensures tests_no_less { vec_capacity tests.old ≤ vec_capacity tests.new }
 {
+    let mut wished: u32 = 0;
     for place in 0..kits.len() {
-        if let Some(one) = sample_kit(machine, time, place as u32, &mut kits[place], sample) {
-            put_latest(latest, one);
-        }
+        let kit = &mut kits[place];
+        let node = kit.shown.node;
+        let ticks = ticks_since(machine, marks, kit.first, kit.count);
+        let bin = sample_kit(machine, time, kit, sample);
+        put_latest(latest, node, wished, bin);
+        put_test(tests, node, ticks, bin);
+        wished = place_behind(node, wished);
     }
 }

@@ -133,7 +133,7 @@ pub record AllArmed (i : Inputs) (m : Instrumented) (own : List ℕ) (ss : List 
   -- what is known of others goes on
   pub carry : (s : Shown) (last : ℕ) → IsOther s ss → IsShown i b.acts s last → IsShown i led.acts s last
 
-abbrev machine_by : Bool → Instrumented → Shown → Instrumented
+abbrev pub machine_by : Bool → Instrumented → Shown → Instrumented
 machine_by r m s = cond r (done (Arms s.instrument.n) m) m
 
 -- the same by whether the first of them is ready

@@ -1,36 +1,33 @@
 -- How a session begins is tied to how it came about.
-use Rattle.std.proofs.Common.{◌≡◌, ℕ, zero, suc, List, [], ◌∷◌, Option, Some, None, refl, sym, ap, ◌∙◌, subst, length, inl, inr, arith}
-use Rattle.std.specs.Prelude.{Bool, true, false, cond, map, slice_get, Result, Ok, Err}
+use Rattle.std.proofs.Common.{◌≡◌, ℕ, zero, suc, List, [], ◌∷◌, Some, refl, sym, ap, ◌∙◌, subst, length, map, arith}
+use Rattle.std.specs.Prelude.{◌+◌, replicate, slice_get}
+use Rattle.std.specs.List.{range_with_len}
 use Rattle.tramp_spec.specs.Harts.{Hart}
 use Rattle.fold_hist.specs.declared.bin.Bin.{Bin}
-use Rattle.std.proofs.lemmas.List.{length-map}
-use Rattle.pn_types.specs.declared.plan.Plan.{Plan}
-use Rattle.mdl_plan.specs.declared.fault.PlanFault.{PlanFault}
-use Rattle.mdl_check.specs.declared.checked.CheckedWish.{CheckedWish}
-use Rattle.machine.specs.Cores.{In, Core, first_hart}
+use Rattle.std.proofs.lemmas.List.{length-map, take_all}
+use Rattle.machine.specs.Cores.{Core, first_hart}
 use Rattle.machine.specs.Events.{IsQuiet}
 use Rattle.machine.specs.Laws.{IsProgram}
 use Rattle.machine.proofs.Arming.{get_map}
 use Rattle.rv_exec.specs.Start.{start}
-use Rattle.instrument.specs.Placements.{Placements, admission}
-use Rattle.instrument.specs.declared.number.Refused.{Refused}
-use Rattle.instrument.specs.Scenes.{Admits, Drops, Hands}
+use Rattle.instrument.specs.Scenes.{Hands}
 use Rattle.instrumented.specs.Instrumented.{Instrumented, done, repeated}
-use Rattle.instrumented.proofs.Acts.{done_is}
 use Rattle.instrumented.proofs.Harts.{hands_same}
 use Rattle.session_spec.specs.declared.data.Shown.{Shown}
-use Rattle.session_spec.specs.Inputs.{Inputs, cause_of_plan, cause_of_refusal, first_wishes, planned}
+use Rattle.session_spec.specs.Inputs.{Inputs, first_wishes}
 use Rattle.session_spec.specs.States.{Kept, first_kept}
-use Rattle.session_spec.specs.Opening.{wished, with_agenda, with_all}
-use Rattle.session_spec.specs.Admission.{shown_now, with_answer, with_drop, with_plan, with_refused, with_show, with_wish}
+use Rattle.session_spec.specs.Opening.{wished, with_agenda}
 use Rattle.session_spec.specs.Due.{all_armed, arm_all, with_arms}
+use Rattle.session_spec.specs.Tests.{with_tests}
 use Rattle.session_spec.specs.Work.{first_state}
 use Rattle.session_spec.specs.Ties.{IsTied}
-use Rattle.session_spec.specs.Reads.{AllGood, IsSound, IsWishGood, lasts_armed, lasts_with}
+use Rattle.session_spec.specs.Reads.{AreFromLast, ArePlansGood, IsSound, lasts_armed, lasts_with, marks_of, ticks_by}
 use Rattle.session_spec.proofs.Armings.{arms_tied}
-use Rattle.session_spec.proofs.Going.{many_lasts, more_shown, program_is, twice, wish_time}
+use Rattle.session_spec.proofs.Lasting.{armed_last, hands_back, led_of}
+use Rattle.session_spec.proofs.Testing.{tests_moved, tests_once}
+use Rattle.session_spec.proofs.Ticking.{ticks_tied}
 use Rattle.session_spec.proofs.Tied.{hands_tied}
-use Rattle.session_spec.proofs.Wishing.{IsKeptTied, none_shown, wish_tied}
+use Rattle.session_spec.proofs.Wishing.{IsAtOnce, Moves, all_moved, all_once, on, once_on}
 
 -- ---- before any wish
 
@@ -46,57 +43,21 @@ all_quiet : (n : ℕ) (m : Instrumented) → IsQuiet m.core → IsQuiet (repeate
 all_quiet zero m q = q
 all_quiet (suc n) m q = all_quiet n (done Hands m) (λ h x e. q h x (subst (λ hs. slice_get hs h ≡ Some x) (hands_same m) e))
 
--- ---- the wishes at the opening
+-- ---- the first admission
 
-all_tied : (i : Inputs) (own : List ℕ) (ws : List CheckedWish) (lasts : List ℕ) (k : Kept) → IsTied i k.machine own k.shown lasts → AllGood i ws → IsKeptTied i own lasts (with_all i ws k)
-all_tied i own [] lasts k t g = subst (IsTied i k.machine own k.shown) (sym (none_shown i t.acts k.shown lasts t.shown)) t
-all_tied i own (w ∷ ws) lasts k t g =
-    let one = with_wish i w k in
-    let all = with_all i ws one in
-    let t1 = wish_tied i own lasts w k t (program_is i k.machine own k.shown lasts t) (g w (inl refl)) in
-    let t2 = all_tied i own ws (lasts_with one.shown lasts) one t1 (λ v h. g v (inr h)) in
-    let l1 = more_shown i one.machine own one.shown lasts t1 in
-    let same = many_lasts i one.machine own one.shown (lasts_with one.shown lasts) t1 in
-    let l2 = more_shown i all.machine own all.shown (lasts_with one.shown lasts) t2 in
-    subst (IsTied i all.machine own all.shown) (twice one.shown all.shown lasts l1 (omega arith)) t2
+-- behind the wishes at tick 0, and the first nodes of the search
+abbrev pub picked : Inputs → Kept
+picked i = with_tests i (wished i)
 
-all_time : (i : Inputs) (ws : List CheckedWish) (k : Kept) → (with_all i ws k).time ≡ k.time
-all_time i [] k = refl
-all_time i (w ∷ ws) k = all_time i ws (with_wish i w k) ∙ wish_time i w k
+picked_once : (i : Inputs) → IsAtOnce (first_kept i) (picked i)
+unfolding wished
+picked_once i = once_on (first_kept i) (wished i) (picked i) (all_once i (first_wishes i) (first_kept i)) (tests_once i (wished i))
 
--- wishes leave the machine as it is
-module _ (i : Inputs) (w : CheckedWish) (k : Kept) where
-  refused_core : (o : Option _) → (with_refused o w k).machine.core ≡ k.machine.core
-  refused_core None = refl
-  refused_core (Some cause) = refl
-
-  answer_core : (r : Result Placements Refused) (plan : Plan) → (with_answer r w plan k).machine.core ≡ k.machine.core
-  answer_core (Err refused) plan = refused_core (cause_of_refusal refused)
-  answer_core (Ok q) plan = ap (λ (d : Instrumented). d.core) (done_is (Admits plan None) k.machine)
-
-  plan_core : (r : Result Plan PlanFault) → (with_plan r w k).machine.core ≡ k.machine.core
-  plan_core (Err fault) = refused_core (cause_of_plan fault)
-  plan_core (Ok plan) = answer_core (admission k.machine.placer plan None) plan
-
-  show_core : (o : Option Shown) → (with_show o i w k).machine.core ≡ k.machine.core
-  show_core (Some s) = refl
-  show_core None = plan_core (planned i w.metric w.focus)
-
-  drop_core : (o : Option Shown) → (with_drop o w k).machine.core ≡ k.machine.core
-  drop_core None = refl
-  drop_core (Some s) = ap (λ (d : Instrumented). d.core) (done_is (Drops s.instrument.n) k.machine)
-
-  wish_core : (with_wish i w k).machine.core ≡ k.machine.core
-  unfolding with_wish
-  wish_core = by w.show
-    where
-      by : (b : Bool) → (cond b (with_show (shown_now k w) i w k) (with_drop (shown_now k w) w k)).machine.core ≡ k.machine.core
-      by true = show_core (shown_now k w)
-      by false = drop_core (shown_now k w)
-
-all_core : (i : Inputs) (ws : List CheckedWish) (k : Kept) → (with_all i ws k).machine.core ≡ k.machine.core
-all_core i [] k = refl
-all_core i (w ∷ ws) k = all_core i ws (with_wish i w k) ∙ wish_core i w k
+picked_moved : (i : Inputs) → IsProgram i.image → ArePlansGood i → Moves i [] [] (first_kept i) (picked i)
+unfolding wished
+picked_moved i p good =
+    let w = all_moved i good [] (first_wishes i) [] (first_kept i) (first_tied i p) in
+    on i [] [] (first_kept i) (wished i) (picked i) w (tests_moved i good [] (lasts_with (wished i).shown []) (wished i) w.tied)
 
 -- ---- the opening
 
@@ -104,22 +65,39 @@ all_core i (w ∷ ws) k = all_core i ws (with_wish i w k) ∙ wish_core i w k
 none_recorded : (ss : List Shown) → length (map {B = List Bin} (λ s. []) ss) ≡ length ss
 none_recorded ss = length-map ss (λ s. [])
 
+-- nor has a hart a tick
+no_ticks : (a n : ℕ) → map (ticks_by []) (range_with_len a n) ≡ replicate n 0
+no_ticks a zero = refl
+no_ticks a (suc n) = ap (λ (l : List ℕ). 0 ∷ l) (no_ticks (a + 1) n)
+
+pub first_marks : (i : Inputs) → marks_of i (first_state i) ≡ replicate i.settings.harts 0
+first_marks i = ap (λ own. map (ticks_by own) (range_with_len 0 i.settings.harts)) (take_all (first_state i).kept.last [] (omega arith)) ∙ no_ticks 0 i.settings.harts
+
 -- what was read last at the opening, of so many
 abbrev pub opened_lasts : Inputs → List ℕ
-opened_lasts i = lasts_armed i (with_agenda (wished i)).machine (with_agenda (wished i)).shown (lasts_with (wished i).shown [])
+opened_lasts i = lasts_armed i (with_agenda (picked i)).machine (with_agenda (picked i)).shown (lasts_with (picked i).shown [])
 
-pub opens : (i : Inputs) → IsProgram i.image → AllGood i (first_wishes i) → IsSound i (first_state i) (opened_lasts i)
-unfolding wished with_agenda with_arms
-opens i p g =
-    let k = with_all i (first_wishes i) (first_kept i) in
-    let t = all_tied i [] (first_wishes i) [] (first_kept i) (first_tied i p) g in
+pub opens : (i : Inputs) → IsProgram i.image → ArePlansGood i → IsSound i (first_state i) (opened_lasts i)
+unfolding with_agenda with_arms
+opens i p good =
+    let k = picked i in
+    let v = picked_moved i p good in
+    let once = picked_once i in
     let n = length k.machine.placer.book.agenda in
-    let h = hands_tied n i k.machine [] k.shown (lasts_with k.shown []) t in
-    let quiet = all_quiet n k.machine (subst (λ (c : Core). IsQuiet c) (sym (all_core i (first_wishes i) (first_kept i))) (first_quiet i)) in
-    let a = arms_tied i (repeated n Hands k.machine) [] k.shown (lasts_with k.shown []) quiet h in
-    let time : k.time ≡ 0 = all_time i (first_wishes i) (first_kept i) in
+    let m = repeated n Hands k.machine in
+    let lasts = lasts_with k.shown [] in
+    let h = hands_tied n i k.machine [] k.shown lasts v.tied in
+    let quiet = all_quiet n k.machine (subst (λ (c : Core). IsQuiet c) (sym v.core) (first_quiet i)) in
+    let a = arms_tied i m [] k.shown lasts quiet h in
+    let tied = subst (λ (time : ℕ). IsTied i (arm_all m k.shown) [] (all_armed time m k.shown) (lasts_armed i m k.shown lasts)) (sym once.time) a.tied in
+    let from : AreFromLast m.placer k.time k.shown = λ x j e. absurd (v.back x j (hands_back n i k.machine [] (led_of i k.machine [] k.shown lasts v.tied) x e)).0 in
+    let armed = armed_last i m [] k.time k.shown (led_of i m [] k.shown lasts h) quiet h.apart from in
+    let now : k.last ≡ k.time = once.last ∙ sym once.time in
     record {
-      tied = subst (λ (time : ℕ). IsTied i (arm_all (repeated n Hands k.machine) k.shown) [] (all_armed time (repeated n Hands k.machine) k.shown) (lasts_armed i (repeated n Hands k.machine) k.shown (lasts_with k.shown []))) (sym time) a.tied;
-      time = time;
-      many = none_recorded (all_armed k.time (repeated n Hands k.machine) k.shown);
+      tied = tied;
+      time = once.time;
+      many = none_recorded (all_armed k.time m k.shown);
+      ticks = ticks_tied i (arm_all m k.shown) [] (all_armed k.time m k.shown) (lasts_armed i m k.shown lasts) tied;
+      last = omega arith;
+      from = λ x j e. armed x j e ∙ sym now;
     }

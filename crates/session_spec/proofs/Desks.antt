@@ -1,7 +1,8 @@
 -- What the code keeps of a session is the state's, step by step.
-use Rattle.std.proofs.Common.{◌≡◌, ℕ, zero, suc, ◌-◌, ◌<◌, ◌≤◌, ◌^◌, List, [], ◌∷◌, ◌++◌, refl, sym, ap, ap₂, ◌∙◌, subst, arith, length}
-use Rattle.std.specs.Prelude.{Bool, true, false, cond, map, replicate}
-use Rattle.std.proofs.lemmas.List.{length-append, length-map, length-replicate, map-append}
+use Rattle.std.proofs.Common.{◌≡◌, ℕ, zero, suc, ◌-◌, ◌<◌, ◌≤◌, ◌^◌, List, [], ◌∷◌, ◌++◌, refl, sym, ap, ap₂, ◌∙◌, subst, arith, length, map, take}
+use Rattle.std.specs.Prelude.{Bool, true, false, cond, replicate}
+use Rattle.std.specs.List.{range_with_len}
+use Rattle.std.proofs.lemmas.List.{length-map, map-append, take-append-le, take_all}
 use Rattle.fold_hist.specs.declared.bin.Bin.{Bin}
 use Rattle.fold_hist.specs.Bins.{Histogram, hist_of}
 use Rattle.fold_hist.specs.Steps.{pushed}
@@ -11,22 +12,22 @@ use Rattle.machine.specs.Events.{IsQuiet}
 use Rattle.machine.specs.Measures.{difference}
 use Rattle.machine.specs.Replays.{owns}
 use Rattle.machine.specs.States.{quantum_turns, settling}
-use Rattle.instrument.specs.Placements.{Placements}
 use Rattle.instrumented.specs.Instrumented.{Instrumented}
+use Rattle.w3_search.specs.declared.node.NodeSample.{NodeSample}
 use Rattle.session_spec.specs.declared.data.Latest.{Latest}
 use Rattle.session_spec.specs.declared.data.Shown.{Shown}
 use Rattle.session_spec.specs.Inputs.{Inputs}
-use Rattle.session_spec.specs.States.{Kept, State}
+use Rattle.session_spec.specs.States.{State}
 use Rattle.session_spec.specs.Admission.{with_admission}
 use Rattle.session_spec.specs.Turns.{with_entries, with_hart, with_quiet}
-use Rattle.session_spec.specs.Due.{all_armed, arm_all, is_armed, latest_from, machine_armed, recorded_with, sampled_to, with_arms, with_frees, with_next, with_samples}
-use Rattle.session_spec.specs.Work.{state_admitted, state_armed, state_handed, state_quiet, state_sampled, state_turned, with_room}
-use Rattle.session_spec.specs.Ties.{IsTied}
-use Rattle.session_spec.specs.Reads.{AreGood, IsSound, desk_admitted, desk_armed, desk_of, desk_sampled, hists_read, hists_with, lasts_armed, lasts_now, lasts_with, latest_read, recorded_read, sum_read}
-use Rattle.session_spec.proofs.Armings.{arms_tied}
-use Rattle.session_spec.proofs.Going.{admission_tied, hart_tied, many_lasts, more_shown, quiet_tied}
-use Rattle.session_spec.proofs.Samples.{latest_is, recorded_is, samples_tied}
-use Rattle.session_spec.proofs.Tied.{hands_tied, sweeps_tied}
+use Rattle.session_spec.specs.Due.{is_armed, latest_from, recorded_with, with_arms, with_frees, with_next, with_samples}
+use Rattle.session_spec.specs.Verdicts.{node_samples, with_search_end}
+use Rattle.session_spec.specs.Work.{state_admitted, state_armed, state_ended, state_handed, state_judged, state_next, state_quiet, state_sampled, state_turned, tests_now, with_room}
+use Rattle.session_spec.specs.Reads.{IsSound, desk_admitted, desk_armed, desk_ended, desk_freed, desk_judged, desk_next, desk_of, desk_quiet, desk_sampled, desk_tests, desk_turned, hists_read, hists_with, lasts_armed, lasts_now, lasts_with, latest_read, marks_of, nodes_read, recorded_read, sum_read, ticks_by, ticks_of}
+use Rattle.session_spec.proofs.Counting.{nodes_are}
+use Rattle.session_spec.proofs.Going.{admission_once}
+use Rattle.session_spec.proofs.Samples.{latest_is, recorded_is}
+use Rattle.session_spec.proofs.Testing.{verdicts_judged}
 
 -- ---- histograms
 
@@ -57,96 +58,80 @@ hists_are i m time some (s ∷ ss) (last ∷ lasts) (r ∷ rs) =
     (one_hist i.settings.bins some (is_armed m.placer s) r (record { from = s.from; to = time; sum = sum_read i m s last }) (small last _))
     (hists_are i m time some ss lasts rs)
 
--- ---- lengths
+-- ---- marks
 
-recorded_many : (i : Inputs) (p : Placements) (own : List ℕ) (time : ℕ) (ss : List Shown) (rs : List (List Bin)) → length rs ≡ length ss → length (recorded_with i p own time ss rs) ≡ length ss
-recorded_many i p own time [] rs e = e
-recorded_many i p own time (s ∷ ss) [] e = e
-recorded_many i p own time (s ∷ ss) (r ∷ rs) e = ap suc (recorded_many i p own time ss rs (omega arith))
-
-armed_many : (time : ℕ) (m : Instrumented) (ss : List Shown) → length (all_armed time m ss) ≡ length ss
-armed_many time m [] = refl
-armed_many time m (s ∷ ss) = ap suc (armed_many time (machine_armed m s) ss)
+-- how many ticks each hart has in a run
+abbrev marks_in : Inputs → List ℕ → List ℕ
+marks_in i own = map (ticks_by own) (range_with_len 0 i.settings.harts)
 
 -- ---- steps
 
 module _ (i : Inputs) (s : State) (lasts : List ℕ) (k : IsSound i s lasts) where
+  -- what the run goes on by is no part of the marks
+  marks_stay : (more : List ℕ) → marks_of i s ≡ marks_in i (take s.kept.last (s.owns ++ more))
+  marks_stay more = ap (marks_in i) (sym (take-append-le s.kept.last s.owns more (let low = k.last in let time = k.time in omega arith)))
+
   -- an admission
-  pub admitted_sound : (s.kept.worked ≡ true → AreGood i s.kept.time s.kept.wishes) → IsSound i (state_admitted i s) (lasts_with (with_admission i s.kept).shown lasts)
-  admitted_sound good =
-      let a = admission_tied i s.owns lasts s.kept k.tied good in
-      let shown = (with_admission i s.kept).shown in
-      let many = many_lasts i s.kept.machine s.owns s.kept.shown lasts k.tied in
-      let more = more_shown i (with_admission i s.kept).machine s.owns shown lasts a.tied in
-      let rs = k.many in
-      let len = length-append s.recorded (replicate (length shown - length s.recorded) []) in
-      let room : length (replicate {A = List Bin} (length shown - length s.recorded) []) ≡ length shown - length s.recorded = length-replicate (length shown - length s.recorded) [] in
-      record { tied = a.tied; time = a.time ∙ k.time; many = omega arith }
-
   pub admitted_desk : desk_admitted i (desk_of i s lasts) ≡ desk_of i (state_admitted i s) (lasts_with (with_admission i s.kept).shown lasts)
-  admitted_desk = ap (λ (h : List Histogram). record { kept = with_admission i s.kept; lasts = lasts_with (with_admission i s.kept).shown lasts; hists = h; latest = s.latest }) (hists_room i.settings.bins (with_admission i s.kept).shown s.recorded)
+  admitted_desk =
+      ap₂ (λ (h : List Histogram) (marks : List ℕ). record (desk_admitted i (desk_of i s lasts)) { hists = h; marks = marks })
+      (hists_room i.settings.bins (with_admission i s.kept).shown s.recorded)
+      (ap (λ last. marks_in i (take last s.owns)) (sym (admission_once i s.kept).last))
 
-  -- a hart's turns
-  pub turned_sound : (h n : ℕ) → IsSound i (state_turned h n s) lasts
-  unfolding with_hart
-  turned_sound h n =
-      let len = length-append s.owns (owns (quantum_turns n h s.kept.machine.core) s.kept.machine.core) in
-      let time = k.time in
-      record { tied = hart_tied n h i s.kept.machine s.owns s.kept.shown lasts k.tied; time = omega arith; many = k.many }
+  -- turns
+  pub turned_desk : (h n : ℕ) → desk_turned h n (desk_of i s lasts) ≡ desk_of i (state_handed (state_turned h n s)) lasts
+  unfolding with_hart with_entries
+  turned_desk h n =
+      ap (λ (marks : List ℕ). record (desk_turned h n (desk_of i s lasts)) { marks = marks })
+      (marks_stay (owns (quantum_turns n h s.kept.machine.core) s.kept.machine.core))
 
-  -- entries of the agenda
-  pub handed_sound : IsSound i (state_handed s) lasts
-  unfolding with_entries
-  handed_sound = record { tied = hands_tied 8 i s.kept.machine s.owns s.kept.shown lasts k.tied; time = k.time; many = k.many }
-
-  -- settling
-  pub quiet_sound : IsSound i (state_quiet s) lasts
+  pub quiet_desk : desk_quiet (desk_of i s lasts) ≡ desk_of i (state_quiet s) lasts
   unfolding with_quiet
-  quiet_sound =
-      let len = length-append s.owns (owns (settling s.kept.machine.core) s.kept.machine.core) in
-      let time = k.time in
-      record { tied = (quiet_tied i s.kept.machine s.owns s.kept.shown lasts k.tied).tied; time = omega arith; many = k.many }
+  quiet_desk =
+      ap (λ (marks : List ℕ). record (desk_quiet (desk_of i s lasts)) { marks = marks })
+      (marks_stay (owns (settling s.kept.machine.core) s.kept.machine.core))
 
-  pub is_quiet : IsQuiet (state_quiet s).kept.machine.core
-  unfolding with_quiet
-  is_quiet = (quiet_tied i s.kept.machine s.owns s.kept.shown lasts k.tied).quiet
-
-  module _ (quiet : IsQuiet s.kept.machine.core) where
+  module _ (quiet : IsQuiet s.kept.machine.core) (low : i.settings.budget ≤ MAX_BUDGET) where
     -- samples
-    pub sampled_sound : IsSound i (state_sampled i s) (lasts_now i s.kept.machine s.kept.shown lasts)
+    recorded_now : recorded_read i s.kept.machine s.kept.time s.kept.shown lasts s.recorded ≡ recorded_with i s.kept.machine.placer s.owns s.kept.time s.kept.shown s.recorded
+    recorded_now = subst (λ (time : ℕ). recorded_read i s.kept.machine time s.kept.shown lasts s.recorded ≡ recorded_with i s.kept.machine.placer s.owns time s.kept.shown s.recorded) (sym k.time)
+        (recorded_is i s.kept.machine s.owns s.kept.shown lasts k.tied quiet low s.kept.shown lasts s.recorded k.tied.shown)
+
+    latest_now : latest_read 0 i s.kept.machine s.kept.time s.kept.shown lasts ≡ latest_from 0 i s.kept.machine.placer s.owns s.kept.time s.kept.shown
+    latest_now = subst (λ (time : ℕ). latest_read 0 i s.kept.machine time s.kept.shown lasts ≡ latest_from 0 i s.kept.machine.placer s.owns time s.kept.shown) (sym k.time)
+        (latest_is i s.kept.machine s.owns s.kept.shown lasts k.tied quiet low 0 s.kept.shown lasts k.tied.shown)
+
+    marks_now : ticks_of s.kept.machine ≡ marks_in i (take s.kept.time s.owns)
+    marks_now = k.ticks ∙ ap (marks_in i) (sym (take_all s.kept.time s.owns (let time = k.time in omega arith)))
+
+    pub sampled_desk : 1 ≤ i.settings.bins → desk_sampled i (desk_of i s lasts) ≡ desk_of i (state_sampled i s) (lasts_now i s.kept.machine s.kept.shown lasts)
     unfolding with_samples
-    sampled_sound = record {
-      tied = subst (λ (time : ℕ). IsTied i s.kept.machine s.owns (map (sampled_to s.kept.machine.placer time) s.kept.shown) (lasts_now i s.kept.machine s.kept.shown lasts)) (sym k.time)
-          (samples_tied i s.kept.machine s.owns s.kept.shown lasts k.tied quiet);
-      time = k.time;
-      many = recorded_many i s.kept.machine.placer s.owns s.kept.time s.kept.shown s.recorded k.many ∙ sym (length-map s.kept.shown (sampled_to s.kept.machine.placer s.kept.time));
-    }
+    sampled_desk some =
+        let hists = hists_are i s.kept.machine s.kept.time some s.kept.shown lasts s.recorded ∙ ap (map (hist_of i.settings.bins)) recorded_now in
+        let read = lasts_now i s.kept.machine s.kept.shown lasts in
+        ap₂ (λ (h : List Histogram) (l : List Latest). record (desk_sampled i (desk_of i s lasts)) { hists = h; latest = l }) hists latest_now
+        ∙ ap (λ (marks : List ℕ). record (desk_of i (state_sampled i s) read) { marks = marks }) marks_now
 
-    pub sampled_desk : i.settings.budget ≤ MAX_BUDGET → 1 ≤ i.settings.bins → desk_sampled i (desk_of i s lasts) ≡ desk_of i (state_sampled i s) (lasts_now i s.kept.machine s.kept.shown lasts)
-    sampled_desk low some =
-        let recorded : recorded_read i s.kept.machine s.kept.time s.kept.shown lasts s.recorded ≡ recorded_with i s.kept.machine.placer s.owns s.kept.time s.kept.shown s.recorded =
-        subst (λ (time : ℕ). recorded_read i s.kept.machine time s.kept.shown lasts s.recorded ≡ recorded_with i s.kept.machine.placer s.owns time s.kept.shown s.recorded) (sym k.time)
-        (recorded_is i s.kept.machine s.owns s.kept.shown lasts k.tied quiet low s.kept.shown lasts s.recorded k.tied.shown) in
-        let latest : latest_read 0 i s.kept.machine s.kept.time s.kept.shown lasts ≡ latest_from 0 i s.kept.machine.placer s.owns s.kept.time s.kept.shown =
-        subst (λ (time : ℕ). latest_read 0 i s.kept.machine time s.kept.shown lasts ≡ latest_from 0 i s.kept.machine.placer s.owns time s.kept.shown) (sym k.time)
-        (latest_is i s.kept.machine s.owns s.kept.shown lasts k.tied quiet low 0 s.kept.shown lasts k.tied.shown) in
-        ap₂ (λ (h : List Histogram) (l : List Latest). record { kept = with_samples s.kept; lasts = lasts_now i s.kept.machine s.kept.shown lasts; hists = h; latest = l })
-        (hists_are i s.kept.machine s.kept.time some s.kept.shown lasts s.recorded ∙ ap (map (hist_of i.settings.bins)) recorded) latest
+    -- what is read of the nodes under test
+    pub tests_are : desk_tests i (desk_of i s lasts) ≡ tests_now i s
+    tests_are = subst (λ (time : ℕ). nodes_read i s.kept.machine time (marks_of i s) s.kept.shown lasts ≡ node_samples i s.kept.machine.placer s.owns time s.kept.shown) (sym k.time)
+        (nodes_are i s.kept.machine s.owns s.kept.shown lasts k.tied s.kept.last quiet low s.kept.shown lasts k.tied.shown k.from)
 
-    -- Frees, and armings
-    abbrev freed : Kept
-    freed = with_frees s.kept
+  -- Frees, and armings
+  pub armed_desk : desk_armed i (desk_freed (desk_of i s lasts)) ≡ desk_of i (state_armed s) (lasts_armed i (with_frees s.kept).machine (with_frees s.kept).shown lasts)
+  unfolding with_frees with_arms
+  armed_desk = refl
 
-    pub armed_sound : (width : ℕ) → IsSound i (state_armed width s) (lasts_armed i (with_frees s.kept).machine (with_frees s.kept).shown lasts)
-    unfolding with_frees with_arms with_next
-    armed_sound width =
-        let f = sweeps_tied (length s.kept.machine.placer.book.agenda) i s.kept.machine s.owns s.kept.shown lasts quiet k.tied in
-        let a = arms_tied i (with_frees s.kept).machine s.owns s.kept.shown lasts f.quiet f.tied in
-        record {
-          tied = subst (λ (time : ℕ). IsTied i (arm_all (with_frees s.kept).machine s.kept.shown) s.owns (all_armed time (with_frees s.kept).machine s.kept.shown) (lasts_armed i (with_frees s.kept).machine s.kept.shown lasts)) (sym k.time) a.tied;
-          time = k.time;
-          many = k.many ∙ sym (armed_many s.kept.time (with_frees s.kept).machine s.kept.shown);
-        }
+  -- verdicts
+  pub judged_desk : (samples : List NodeSample) → desk_judged samples (desk_of i s lasts) ≡ desk_of i (state_judged samples s) lasts
+  judged_desk samples =
+      ap (λ (last : ℕ). record (desk_judged samples (desk_of i s lasts)) { marks = marks_in i (take last s.owns) })
+      (sym (verdicts_judged i s.owns lasts samples s.kept k.tied).once.last)
 
-    pub armed_desk : (width : ℕ) → record (desk_armed i (record (desk_of i s lasts) { kept = with_frees s.kept })) { kept = with_next width (with_arms (with_frees s.kept)) } ≡ desk_of i (state_armed width s) (lasts_armed i (with_frees s.kept).machine (with_frees s.kept).shown lasts)
-    armed_desk width = refl
+  pub next_desk : (width : ℕ) → desk_next width (desk_of i s lasts) ≡ desk_of i (state_next width s) lasts
+  unfolding with_next
+  next_desk width = refl
+
+  pub ended_desk : desk_ended (desk_of i s lasts) ≡ desk_of i (state_ended s) lasts
+  unfolding with_search_end
+  ended_desk = refl

@@ -1,6 +1,6 @@
 -- What is read of shown instruments is what their plans measure.
-use Rattle.std.proofs.Common.{◌≡◌, ℕ, ◌≤◌, ◌+◌, List, [], ◌∷◌, ◌++◌, Option, Some, None, Ok, refl, sym, ap, ap₂, ◌∙◌, subst, length, append_assoc}
-use Rattle.std.specs.Prelude.{Bool, true, false, cond, IsSome, map, unwrap_or, slice_get, ◌==◌}
+use Rattle.std.proofs.Common.{◌≡◌, ℕ, ◌≤◌, List, [], ◌∷◌, ◌++◌, Option, Some, None, Ok, refl, sym, ap, ap₂, ◌∙◌, subst, length, append_assoc}
+use Rattle.std.specs.Prelude.{Bool, true, false, cond, IsSome, is_none, map, unwrap_or, slice_get, ◌==◌, ◌&&◌}
 use Rattle.std.proofs.lemmas.Bool.{true≢false, eqb-true}
 use Rattle.fold_hist.specs.declared.bin.Bin.{Bin}
 use Rattle.pn_types.specs.declared.limits.TheConstants.{MAX_BUDGET}
@@ -22,7 +22,7 @@ use Rattle.instrumented.proofs.Reading.{reads_measure}
 use Rattle.session_spec.specs.declared.data.Latest.{Latest}
 use Rattle.session_spec.specs.declared.data.Shown.{Shown}
 use Rattle.session_spec.specs.Inputs.{Inputs, harts_of}
-use Rattle.session_spec.specs.Due.{is_armed, is_armed_state, latest_from, measure_by, measured, recorded_with, sample_of, sampled_to}
+use Rattle.session_spec.specs.Due.{is_armed, is_armed_state, latest_from, measure_by, measured, place_behind, recorded_with, sample_of, sampled_to}
 use Rattle.session_spec.specs.Ties.{AreApart, AreShown, IsOther, IsRead, IsShown, IsTied, opening_of, read_now, reading_by}
 use Rattle.session_spec.specs.Reads.{lasts_now, latest_read, recorded_read, sum_read}
 
@@ -143,7 +143,7 @@ module _ (i : Inputs) (m : Instrumented) (own : List ℕ) (ss : List Shown) (las
 
 module _ (i : Inputs) (m : Instrumented) (own : List ℕ) (all : List Shown) (every : List ℕ) (t : IsTied i m own all every) (quiet : IsQuiet m.core) where
   -- the samples are differences of readings
-  sample_is : (low : i.settings.budget ≤ MAX_BUDGET) (s : Shown) (last : ℕ) → IsShown i t.acts s last → is_armed m.placer s ≡ true → sum_read i m s last ≡ measured i own s (length own)
+  pub sample_is : (low : i.settings.budget ≤ MAX_BUDGET) (s : Shown) (last : ℕ) → IsShown i t.acts s last → is_armed m.placer s ≡ true → sum_read i m s last ≡ measured i own s (length own)
   sample_is low s last k e = sum_is i m own all every t quiet s (found m.placer s e) last k low
 
   one_bin : (low : i.settings.budget ≤ MAX_BUDGET) (s : Shown) (last : ℕ) (r : List Bin) → IsShown i t.acts s last → (b : Bool) → is_armed m.placer s ≡ b
@@ -162,17 +162,19 @@ module _ (i : Inputs) (m : Instrumented) (own : List ℕ) (all : List Shown) (ev
   abbrev latest_of : ℕ → Shown → ℕ → List Latest
   latest_of place s sum = record { shown = place; from = s.from; to = length own; sum = sum } ∷ []
 
-  one_latest : (low : i.settings.budget ≤ MAX_BUDGET) (place : ℕ) (s : Shown) (last : ℕ) → IsShown i t.acts s last → (b : Bool) → is_armed m.placer s ≡ b
-      → cond {A = List Latest} b (latest_of place s (sum_read i m s last)) [] ≡ cond {A = List Latest} b (latest_of place s (measured i own s (length own))) []
-  one_latest low place s last k true e = ap (latest_of place s) (sample_is low s last k e)
-  one_latest low place s last k false e = refl
+  one_latest : (low : i.settings.budget ≤ MAX_BUDGET) (place : ℕ) (s : Shown) (last : ℕ) → IsShown i t.acts s last → (a b : Bool) → is_armed m.placer s ≡ b
+      → cond {A = List Latest} (a && b) (latest_of place s (sum_read i m s last)) [] ≡ cond {A = List Latest} (a && b) (latest_of place s (measured i own s (length own))) []
+  one_latest low place s last k true true e = ap (latest_of place s) (sample_is low s last k e)
+  one_latest low place s last k true false e = refl
+  one_latest low place s last k false b e = refl
 
   pub latest_is : (low : i.settings.budget ≤ MAX_BUDGET) (place : ℕ) (ss : List Shown) (lasts : List ℕ) → AreShown i t.acts ss lasts
       → latest_read place i m (length own) ss lasts ≡ latest_from place i m.placer own (length own) ss
   latest_is low place [] [] k = refl
   latest_is low place [] (last ∷ lasts) k = absurd k
   latest_is low place (s ∷ ss) [] k = absurd k
-  latest_is low place (s ∷ ss) (last ∷ lasts) k = ap₂ (λ (x xs : List Latest). x ++ xs) (one_latest low place s last k.0 (is_armed m.placer s) refl) (latest_is low (place + 1) ss lasts k.1)
+  latest_is low place (s ∷ ss) (last ∷ lasts) k =
+      ap₂ (λ (x xs : List Latest). x ++ xs) (one_latest low place s last k.0 (is_none s.node) (is_armed m.placer s) refl) (latest_is low (place_behind s.node place) ss lasts k.1)
 
   -- all that are armed were read now
   one_now : (s : Shown) (last : ℕ) → IsShown i t.acts s last → (b : Bool) → is_armed m.placer s ≡ b → IsShown i t.acts (cond b (record s { from = length own }) s) (cond b (read_now i m s) last)

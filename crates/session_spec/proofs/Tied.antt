@@ -134,7 +134,7 @@ pub hands_tied : (n : ℕ) (i : Inputs) (m : Instrumented) (own : List ℕ) (ss 
 hands_tied zero i m own ss lasts t = t
 hands_tied (suc n) i m own ss lasts t = hands_tied n i (done Hands m) own ss lasts (idle_on i m own ss lasts Hands tt tt (λ s h. tt) t)
 
-swept_quiet : (m : Instrumented) → IsQuiet m.core → IsQuiet (done Sweeps m).core
+pub swept_quiet : (m : Instrumented) → IsQuiet m.core → IsQuiet (done Sweeps m).core
 swept_quiet m q = subst (λ (d : Instrumented). IsQuiet d.core) (sym (done_is Sweeps m)) (by (free_front m.placer))
   where
     by : (o : Option ℕ) → IsQuiet (in_scene (sweeps o (free_behind m.placer) (scene_of m)).scene).core

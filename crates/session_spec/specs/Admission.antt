@@ -1,5 +1,5 @@
--- Wishes are looked at: a metric is shown at a focus from now on, or no longer.
-use Rattle.std.specs.Prelude.{ℕ, ◌&&◌, ◌==◌, not, nat_le, if◌then◌else◌, Bool, false, Option, Some, None, Result, Ok, Err, List, [], ◌∷◌, ◌++◌, find}
+-- Wishes are looked at: a metric is shown at a focus from now on, or no longer. Then the search takes nodes.
+use Rattle.std.specs.Prelude.{ℕ, ◌&&◌, ◌==◌, not, nat_le, if◌then◌else◌, Bool, false, is_none, Option, Some, None, Result, Ok, Err, List, [], ◌∷◌, ◌++◌, find}
 use Rattle.pn_types.specs.declared.pick.PickCause.{PickCause}
 use Rattle.pn_types.specs.declared.pick.PickCause.TheVariants.{AlreadyShown, NotShown}
 use Rattle.pn_types.specs.declared.plan.Plan.{Plan}
@@ -14,12 +14,13 @@ use Rattle.session_spec.specs.declared.data.RefusedWish.{RefusedWish}
 use Rattle.session_spec.specs.declared.data.Shown.{Shown}
 use Rattle.session_spec.specs.Inputs.{Inputs, cause_of_plan, cause_of_refusal, planned}
 use Rattle.session_spec.specs.States.{Kept}
+use Rattle.session_spec.specs.Tests.{with_tests}
 
 -- ---- what is shown
 
--- An instrument shows the pair of a wish from its admission to its dropping.
+-- An instrument that was wished shows the pair of a wish from its admission to its dropping.
 abbrev pub shows : Placements → CheckedWish → Shown → Bool
-shows p w s = (s.metric == w.metric) && (is_same_focus (Some s.focus) (Some w.focus) && not (is_leaving (state_of p s.instrument.n)))
+shows p w s = is_none s.node && ((s.metric == w.metric) && (is_same_focus (Some s.focus) (Some w.focus) && not (is_leaving (state_of p s.instrument.n))))
 
 abbrev pub shown_now : Kept → CheckedWish → Option Shown
 shown_now k w = find (shows k.machine.placer w) k.shown
@@ -40,7 +41,7 @@ admitted plan k = record k { machine = done (Admits plan None) k.machine }
 
 -- the instrument of the next number shows the pair
 abbrev pub shown_next : CheckedWish → Kept → Shown
-shown_next w k = record { instrument = record { n = k.machine.placer.count }; metric = w.metric; focus = w.focus; armed = None; from = 0 }
+shown_next w k = record { instrument = record { n = k.machine.placer.count }; node = None; metric = w.metric; focus = w.focus; armed = None; from = 0 }
 
 abbrev pub with_answer : Result Placements Refused → CheckedWish → Plan → Kept → Kept
 with_answer (Err refused) w plan k = with_refused (cause_of_refusal refused) w k
@@ -73,4 +74,4 @@ with_wishes i (w ∷ ws) k = if nat_le w.at k.time then with_wishes i ws (with_w
 
 -- One admission, where work was done since the last.
 unfoldable pub with_admission : Inputs → Kept → Kept
-with_admission i k = if k.worked then record (with_wishes i k.wishes k) { worked = false } else k
+with_admission i k = if k.worked then record (with_tests i (with_wishes i k.wishes k)) { worked = false } else k

@@ -1,5 +1,5 @@
 -- The work that is due whenever a sample's interval ends.
-use Rattle.std.specs.Prelude.{ℕ, ◌+◌, ◌*◌, ◌/◌, ◌&&◌, if◌then◌else◌, Bool, true, false, Some, List, [], ◌∷◌, ◌++◌, length, map, unwrap_or, Result, Ok, Err}
+use Rattle.std.specs.Prelude.{ℕ, ◌+◌, ◌-◌, ◌*◌, ◌/◌, ◌&&◌, if◌then◌else◌, Bool, true, false, Option, Some, None, is_none, List, [], ◌∷◌, ◌++◌, length, map, unwrap_or, Result, Ok, Err}
 use Rattle.pn_types.specs.declared.plan.Plan.{Plan}
 use Rattle.fold_hist.specs.declared.bin.Bin.{Bin}
 use Rattle.mdl_plan.specs.declared.fault.PlanFault.{PlanFault}
@@ -45,20 +45,35 @@ recorded_with i p owns time [] rs = rs
 recorded_with i p owns time (s ∷ ss) [] = []
 recorded_with i p owns time (s ∷ ss) (r ∷ rs) = (if is_armed p s then r ++ sample_of i owns time s ∷ [] else r) ∷ recorded_with i p owns time ss rs
 
--- the same samples as a list, the first of `shown` having place n
+-- the place behind an instrument's, where only those that were wished have places
+abbrev pub place_behind : Option ℕ → ℕ → ℕ
+place_behind None n = n + 1
+place_behind (Some node) n = n
+
+-- the same samples of those that were wished as a list, the first of which has place n
 abbrev pub latest_from : ℕ → Inputs → Placements → List ℕ → ℕ → List Shown → List Latest
 latest_from n i p owns time [] = []
 latest_from n i p owns time (s ∷ ss) =
-    (if is_armed p s then record { shown = n; from = s.from; to = time; sum = measured i owns s time } ∷ [] else [])
-    ++ latest_from (n + 1) i p owns time ss
+    (if is_none s.node && is_armed p s then record { shown = n; from = s.from; to = time; sum = measured i owns s time } ∷ [] else [])
+    ++ latest_from (place_behind s.node n) i p owns time ss
 
 -- each that is armed was sampled to now
 abbrev pub sampled_to : Placements → ℕ → Shown → Shown
 sampled_to p time s = if is_armed p s then record s { from = time } else s
 
+-- What patches cost in an interval of so many ticks: the turns that weren't ticks, per 1,000 ticks.
+abbrev pub observed_cost : ℕ → ℕ → ℕ
+observed_cost idle ticks = idle * 1000 / ticks
+
 -- All armed instruments are sampled.
 unfoldable pub with_samples : Kept → Kept
-with_samples k = record k { shown = map (sampled_to k.machine.placer k.time) k.shown; samples = k.samples + 1; last = k.time }
+with_samples k = record k {
+  shown = map (sampled_to k.machine.placer k.time) k.shown;
+  samples = k.samples + 1;
+  last = k.time;
+  idle = 0;
+  observed = observed_cost k.idle (k.time - k.last);
+}
 
 -- ---- what is freed
 

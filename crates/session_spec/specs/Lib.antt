@@ -1,10 +1,14 @@
 pub mod Inputs
+pub mod Searches
 pub mod States
+pub mod Tests
 pub mod Admission
 pub mod Turns
 pub mod Due
+pub mod Verdicts
 pub mod Opening
 pub mod Work
+pub mod Told
 pub mod Run
 pub mod Ties
 pub mod Reads

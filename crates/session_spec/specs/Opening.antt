@@ -8,6 +8,7 @@ use Rattle.session_spec.specs.Inputs.{Inputs, first_wishes}
 use Rattle.session_spec.specs.States.{Kept, first_kept}
 use Rattle.session_spec.specs.Admission.{with_wish}
 use Rattle.session_spec.specs.Due.{with_arms}
+use Rattle.session_spec.specs.Tests.{with_tests}
 
 abbrev pub with_all : Inputs → List CheckedWish → Kept → Kept
 with_all i [] k = k
@@ -29,6 +30,6 @@ bad_pick i = first_refused (wished i).refused
 unfoldable pub with_agenda : Kept → Kept
 with_agenda k = record k { machine = repeated (length k.machine.placer.book.agenda) Hands k.machine }
 
--- The opening: the wishes at tick 0, the whole agenda, and then each instrument is armed.
+-- The opening: the wishes at tick 0, the first nodes of the search, the whole agenda, and then each instrument is armed.
 abbrev pub opened : Inputs → Kept
-opened i = with_arms (with_agenda (wished i))
+opened i = with_arms (with_agenda (with_tests i (wished i)))

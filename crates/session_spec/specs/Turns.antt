@@ -1,5 +1,5 @@
 -- The turns of a quantum, and what is done of the agenda behind them.
-use Rattle.std.specs.Prelude.{ℕ, ◌+◌, List, length}
+use Rattle.std.specs.Prelude.{ℕ, ◌+◌, ◌-◌, List, length}
 use Rattle.machine.specs.Events.{Event}
 use Rattle.machine.specs.Replays.{owns}
 use Rattle.machine.specs.States.{quantum_turns, settling}
@@ -7,9 +7,13 @@ use Rattle.instrument.specs.Scenes.{Hands}
 use Rattle.instrumented.specs.Instrumented.{repeated, taken}
 use Rattle.session_spec.specs.States.{Kept}
 
--- these turns are taken; their ticks are time
+-- these turns are taken; their ticks are time, and the other turns are what patches cost
 abbrev pub with_turns : List Event → Kept → Kept
-with_turns turns k = record k { machine = taken turns k.machine; time = k.time + length (owns turns k.machine.core) }
+with_turns turns k = record k {
+  machine = taken turns k.machine;
+  time = k.time + length (owns turns k.machine.core);
+  idle = k.idle + (length turns - length (owns turns k.machine.core));
+}
 
 -- the hart takes so many turns, or fewer where it can take no more
 unfoldable pub with_hart : ℕ → ℕ → Kept → Kept

@@ -7,6 +7,7 @@ use Rattle.machine.specs.Cores.{Core}
 use Rattle.machine.specs.Replays.{owns}
 use Rattle.machine.specs.States.{quantum_turns, settling}
 use Rattle.machine.specs.Turns.{is_runnable}
+use Rattle.w3_search.specs.declared.node.NodeSample.{NodeSample}
 use Rattle.session_spec.specs.declared.data.Latest.{Latest}
 use Rattle.session_spec.specs.declared.data.Shown.{Shown}
 use Rattle.session_spec.specs.Inputs.{Inputs}
@@ -14,26 +15,15 @@ use Rattle.session_spec.specs.States.{Kept, State}
 use Rattle.session_spec.specs.Admission.{with_admission}
 use Rattle.session_spec.specs.Turns.{with_entries, with_hart, with_quiet}
 use Rattle.session_spec.specs.Due.{latest_from, recorded_with, with_arms, with_frees, with_next, with_samples}
+use Rattle.session_spec.specs.Verdicts.{node_samples, with_search_end, with_verdicts}
 use Rattle.session_spec.specs.Opening.{opened}
 
--- ---- what a session goes on from
-
--- behind the admission, the hart's turns, and the first entries of the agenda
-abbrev pub begun : Inputs → ℕ → ℕ → Kept → Kept
-begun i h n k = with_entries (with_hart h n (with_admission i k))
+-- ---- when work is due
 
 abbrev pub is_due : Kept → Bool
 is_due k = nat_le k.due k.time
 
--- the due work: settle, sample, free, arm
-abbrev pub worked : ℕ → Kept → Kept
-worked width k = with_next width (with_arms (with_frees (with_samples (with_quiet k))))
-
--- behind a quantum
-unfoldable pub tended : Inputs → ℕ → ℕ → Kept → Kept
-tended i h n k = if is_due (begun i h n k) then worked i.settings.width (begun i h n k) else begun i h n k
-
--- ---- the same with the program's own run and the samples
+-- ---- the steps of a quantum
 
 -- the harts whose ticks the turns of hart h are, and those of settling
 abbrev pub owns_taken : ℕ → ℕ → Core → List ℕ
@@ -70,11 +60,27 @@ state_sampled i s = record {
   feed = s.feed ++ samples_now i s;
 }
 
-abbrev pub state_armed : ℕ → State → State
-state_armed width s = record s { kept = with_next width (with_arms (with_frees s.kept)) }
+-- the samples of the nodes under test
+abbrev pub tests_now : Inputs → State → List NodeSample
+tests_now i s = node_samples i s.kept.machine.placer s.owns s.kept.time s.kept.shown
+
+-- what is freed and armed
+abbrev pub state_armed : State → State
+state_armed s = record s { kept = with_arms (with_frees s.kept) }
+
+-- what the samples tell the search
+abbrev pub state_judged : List NodeSample → State → State
+state_judged samples s = record s { kept = with_verdicts samples s.kept }
+
+abbrev pub state_next : ℕ → State → State
+state_next width s = record s { kept = with_next width s.kept }
+
+-- the due work of a quiet machine: sample, free, arm, judge
+abbrev pub state_done : Inputs → State → State
+state_done i s = state_next i.settings.width (state_judged (tests_now i s) (state_armed (state_sampled i s)))
 
 abbrev pub state_worked : Inputs → State → State
-state_worked i s = if is_due s.kept then state_armed i.settings.width (state_sampled i (state_quiet s)) else s
+state_worked i s = if is_due s.kept then state_done i (state_quiet s) else s
 
 -- Behind a quantum of so many turns of hart h: an admission, if work was done since the last; the turns; up to eight entries of
 -- the agenda; and the due work, if it is time.
@@ -129,6 +135,13 @@ pub record IsWhole (i : Inputs) (quanta : List Quantum) : Type 0 where
 
 -- ---- the end
 
--- The closed form: the machine settles, and where time passed since the last sample, all that is armed is sampled once more.
+abbrev pub state_last : Inputs → State → State
+state_last i s = state_judged (tests_now i s) (state_sampled i s)
+
+abbrev pub state_ended : State → State
+state_ended s = record s { kept = with_search_end s.kept }
+
+-- The closed form: the machine settles, and where time passed since the last sample, all that is armed is sampled once more, and
+-- the search judges. Then the search ends.
 unfoldable pub closed : Inputs → State → State
-closed i s = if nat_lt (state_quiet s).kept.last (state_quiet s).kept.time then state_sampled i (state_quiet s) else state_quiet s
+closed i s = state_ended (if nat_lt (state_quiet s).kept.last (state_quiet s).kept.time then state_last i (state_quiet s) else state_quiet s)

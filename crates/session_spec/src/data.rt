@@ -1,11 +1,13 @@
 use instrument::InstrumentNo;
 use pn_types::{Focus, PickCause};
 
-/// An instrument that shows a metric at a focus, or did.
+/// An instrument that shows a metric at a focus, or did: to the user, or to the search, which tests a node by it.
 #[derive(Debug, Drop)]
 pub struct Shown {
     /// The instrument.
     pub instrument: InstrumentNo,
+    /// The number of the node that is tested by it. None where it was wished.
+    pub node: Option<u32>,
     /// The metric's number, from 0.
     pub metric: u32,
     /// The focus.
@@ -31,10 +33,10 @@ pub struct RefusedWish {
     pub cause: PickCause,
 }
 
-/// A sample of a shown instrument.
+/// A sample of an instrument that was wished.
 #[derive(Clone, Copy, Debug, PartialEq, Eq, Drop)]
 pub struct Latest {
-    /// The place of the instrument among those that are or were shown, from 0.
+    /// The place of the instrument among all that were wished, from 0.
     pub shown: u32,
     /// The time at which its interval begins.
     pub from: u64,

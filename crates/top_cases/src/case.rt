@@ -106,8 +106,8 @@ impl Case {
         show(rt, "output", &out)
     }
 
-    /// Serves words, and prints how the program ends and what the sinks gained.
-    pub fn serve(&self, rt: HostRuntime, alloc: Global, line: Option<&str>) -> io::Result<()> {
+    /// Serves words, and prints how the program ends and what the output gained. It answers what the log gained.
+    fn served(&self, rt: HostRuntime, alloc: Global, line: Option<&str>) -> io::Result<Vec<u8>> {
         let words = words(alloc, line)?;
         let mut files = self.files(alloc)?;
         let mut out = self.sink(alloc, &self.out_fails)?;
@@ -118,9 +118,24 @@ impl Case {
         println!(rt; "{exit:?} out {count} log {logged}")?;
         let mut printed = StdSink::new(rt);
         let _ = write_all(&mut printed, out.bytes());
-        if logged == 0 {
+        Ok(Vec::from_slice(alloc, log.bytes())?)
+    }
+
+    /// Serves words, and prints how the program ends and what the sinks gained.
+    pub fn serve(&self, rt: HostRuntime, alloc: Global, line: Option<&str>) -> io::Result<()> {
+        let log = self.served(rt, alloc, line)?;
+        if log.is_empty() {
             return println!(rt; "");
         }
-        println!(rt; "log {}\n", encode(alloc, log.bytes())?.as_str())
+        println!(rt; "log {}\n", encode(alloc, &log)?.as_str())
+    }
+
+    /// Serves the words behind a name, and prints how the program ends and what the output gained. What the log gained is the file of
+    /// that name from then on.
+    pub fn keep(&mut self, rt: HostRuntime, alloc: Global, rest: &str) -> io::Result<()> {
+        let (name, line) = rest.split_once(' ').unwrap_or((rest, ""));
+        let log = self.served(rt, alloc, Some(line))?;
+        self.files.push(Given::of(alloc, name, log)?)?;
+        println!(rt; "")
     }
 }

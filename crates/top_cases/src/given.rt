@@ -41,6 +41,15 @@ impl Given {
         })
     }
 
+    /// A file of this name with these bytes.
+    pub fn of(alloc: Global, name: &str, bytes: Vec<u8>) -> Result<Given, NoMemory> {
+        Ok(Given {
+            name: String::from_str(alloc, name)?,
+            bytes: Some(bytes),
+            fails: Vec::new(alloc),
+        })
+    }
+
     /// The same file after what a line says of it.
     pub fn change(&mut self, alloc: Global, word: &str, rest: &str) -> Result<(), NoMemory> {
         let (number, behind) = numbered(rest);

@@ -5,6 +5,8 @@ pub enum Line<'a> {
     Given(&'a str, &'a str),
     /// Words that are served, or none where they aren't text.
     Served(Option<&'a str>),
+    /// A name, and words that are served, whose log is the file of that name from then on.
+    Kept(&'a str),
     /// Texts that are delivered.
     Delivered(&'a str),
     /// Nothing.
@@ -23,6 +25,7 @@ impl<'a> Line<'a> {
         };
         match word {
             "words" => Line::Served(Some(rest)),
+            "keep" => Line::Kept(rest),
             "not-text" => Line::Served(None),
             "deliver" => Line::Delivered(rest),
             "" | "#" => Line::Nothing,

@@ -8,6 +8,7 @@
 //! - `fail NUMBER`: this reading of the last file fails, counted from 0.
 //! - `piece COUNT`: a writing takes at most so many bytes. `fail-out NUMBER`, `fail-log NUMBER`: this writing fails.
 //! - `words WORDS`: the words, between single spaces, are served. `not-text`: words that aren't text are.
+//! - `keep NAME WORDS`: these words are served, and the log that they leave isn't printed, but is the file NAME from then on.
 //! - `deliver LOG OUTPUT`: these two texts are delivered, and what the log and the output gained is printed.
 //!
 //! Other lines say nothing.
@@ -32,6 +33,10 @@ fn main(rt: HostRuntime) -> io::Result<()> {
             Line::Served(words) => {
                 println!(rt; "{text}")?;
                 case.serve(rt, alloc, words)?;
+            }
+            Line::Kept(rest) => {
+                println!(rt; "{text}")?;
+                case.keep(rt, alloc, rest)?;
             }
             Line::Delivered(texts) => {
                 println!(rt; "{text}")?;

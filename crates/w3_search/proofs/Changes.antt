@@ -1,23 +1,25 @@
 -- What a change of one node, or of all, does to lists of nodes.
-use Rattle.std.proofs.Common.{◌≡◌, ℕ, zero, suc, ◌+◌, ◌<◌, Bool, true, false, cond, Option, Some, None, List, [], ◌∷◌, ◌++◌, length, drop, map, get_or, set, refl, sym, ap, subst, ◌∙◌, arith, inl, inr}
-use Rattle.std.specs.Prelude.{nat_lt, nat_le, ◌||◌, not, IsSomeAnd, slice_get}
+use Rattle.std.proofs.Common.{◌≡◌, ◌≢◌, ◌^◌, ℕ, zero, suc, ◌+◌, ◌<◌, ◌≤◌, Bool, true, false, cond, Option, Some, None, List, [], ◌∷◌, ◌++◌, length, drop, map, get_or, set, refl, sym, ap, subst, ◌∙◌, arith, inl, inr}
+use Rattle.std.specs.Prelude.{nat_eq, nat_lt, nat_le, ◌||◌, not, IsSomeAnd, slice_get}
 use Rattle.std.specs.List.{list_any}
-use Rattle.std.proofs.lemmas.Bool.{false≢true, cond-true, cond-false, cases_lt, cond_both, and_parts, ltb-true, not-true}
+use Rattle.std.proofs.lemmas.Bool.{false≢true, cond-true, cond-false, cases_lt, cond_both, and_parts, eqb-false, ltb-true, not-true}
 use Rattle.std.proofs.lemmas.List.{drop-drop, drop_all}
 use Rattle.pn_types.specs.declared.focus.Focus.{Focus}
 use Rattle.mdl_ast.specs.declared.items.Hypothesis.{Hypothesis}
 use Rattle.mdl_ast.specs.declared.items.PhaseDecl.{PhaseDecl}
 use Rattle.resource_tree.specs.Foci as foci
 use Rattle.resource_tree.specs.Resources.{Resources}
-use Rattle.w3_axes.specs.Refining.{children}
+use Rattle.w3_axes.specs.Testing.{holds}
+use Rattle.w3_axes.specs.Refining.{children, threshold_of}
 use Rattle.w3_search.specs.declared.limits.TheConstants.{MAX_NODES}
 use Rattle.w3_search.specs.declared.node.Node.{Node}
+use Rattle.w3_search.specs.declared.node.NodeSample.{NodeSample}
 use Rattle.w3_search.specs.declared.node.NodeState.{NodeState}
-use Rattle.w3_search.specs.declared.node.NodeState.TheVariants.{Active, Confirmed, Rejected}
+use Rattle.w3_search.specs.declared.node.NodeState.TheVariants.{Waiting, Active, Confirmed, Rejected, Barred, Unfinished}
 use Rattle.w3_search.specs.declared.place.Place.{Place}
-use Rattle.w3_search.specs.Nodes.{changed, is_confirmed, is_free, is_open, is_same_place, is_waiting, new_node, place, place_of, stands, with_node}
-use Rattle.w3_search.specs.History.{AllOpen}
-use Rattle.w3_search.specs.Steps.{SearchData, begun, is_due, with_children, with_family_of, with_phases, with_roots}
+use Rattle.w3_search.specs.Nodes.{changed, is_active, is_confirmed, is_free, is_open, is_same_place, is_waiting, new_node, place, place_of, sampled, stands, with_node}
+use Rattle.w3_search.specs.History.{AllOpen, AreFew}
+use Rattle.w3_search.specs.Steps.{SearchData, begun, is_due, judged, may_take, with_children, with_family_of, with_phases, with_roots, with_sample}
 
 -- ---- look-ups
 
@@ -49,6 +51,12 @@ changed_set f [] i d = refl
 changed_set f (n ∷ ns) zero d = refl
 changed_set f (n ∷ ns) (suc i) d = ap (λ (l : List Node). n ∷ l) (changed_set f ns i d)
 
+-- no node has that number
+pub changed_past : (f : Node → Node) (ns : List Node) (i : ℕ) → length ns ≤ i → changed f i ns ≡ ns
+changed_past f [] i past = refl
+changed_past f (n ∷ ns) zero past = (let no : ⊥ = omega (arith, past) in absurd no)
+changed_past f (n ∷ ns) (suc i) past = ap (λ (l : List Node). n ∷ l) (changed_past f ns i (omega (arith, past)))
+
 pub length_changed : (f : Node → Node) (ns : List Node) (i : ℕ) → length (changed f i ns) ≡ length ns
 length_changed f [] i = refl
 length_changed f (n ∷ ns) zero = refl
@@ -74,12 +82,24 @@ module _ (P : Node → Type 0) where
       subst P s (all.0 (ap (λ (y : Node). is_open y.state) s ∙ o))
   open_at (x ∷ ns) (suc i) n all e o = open_at ns i n all.1 e o
 
+  pub open_got : (ns : List Node) (i : ℕ) (d : Node) → AllOpen P ns → i < length ns → is_open (get_or ns i d).state ≡ true → P (get_or ns i d)
+  open_got [] i d all l o = (let no : ⊥ = omega (arith, l) in absurd no)
+  open_got (n ∷ ns) zero d all l o = all.0 o
+  open_got (n ∷ ns) (suc i) d all l o = open_got ns i d all.1 (omega (arith, l)) o
+
   pub open_changed : (f : Node → Node) (ns : List Node) (i : ℕ) (n : Node) → AllOpen P ns → slice_get ns i ≡ Some n → (is_open (f n).state ≡ true → P (f n)) → AllOpen P (changed f i ns)
   open_changed f [] i n all e h = all
   open_changed f (x ∷ ns) zero n all e h =
       let s : n ≡ x = cc in
       (subst (λ (y : Node). is_open (f y).state ≡ true → P (f y)) s h, all.1)
   open_changed f (x ∷ ns) (suc i) n all e h = (all.0, open_changed f ns i n all.1 e h)
+
+  -- a change that keeps it
+  pub open_kept : (f : Node → Node) → ((n : Node) → (is_open n.state ≡ true → P n) → is_open (f n).state ≡ true → P (f n))
+      → (ns : List Node) (i : ℕ) → AllOpen P ns → AllOpen P (changed f i ns)
+  open_kept f keeps [] i all = all
+  open_kept f keeps (n ∷ ns) zero all = (keeps n all.0, all.1)
+  open_kept f keeps (n ∷ ns) (suc i) all = (all.0, open_kept f keeps ns i all.1)
 
   pub open_push : (ns : List Node) (n : Node) → AllOpen P ns → (is_open n.state ≡ true → P n) → AllOpen P (ns ++ n ∷ [])
   open_push [] n all h = (h, tt)
@@ -105,6 +125,26 @@ pub ruled_open : (b h : Bool) (s : NodeState) → is_open (ruled b h s) ≡ true
 ruled_open true true s e = cc
 ruled_open true false s e = cc
 ruled_open false h s e = refl
+
+pub active_open : (s : NodeState) → is_active s ≡ true → is_open s ≡ true
+active_open Active e = refl
+active_open Waiting e = refl
+active_open Confirmed e = cc
+active_open Rejected e = cc
+active_open (Barred c) e = cc
+active_open (Unfinished m) e = cc
+
+-- a node that is open behind a sample has fewer than the window asks for
+pub few_sampled : (hs : List Hypothesis) (window t : ℕ) (s : NodeSample) (ns : List Node) → AreFew window ns → AreFew window (with_sample hs window t s ns)
+few_sampled hs window t s ns few =
+    open_kept (λ (n : Node). n.seen < window) (λ n. cond (may_take s n) (judged hs window (sampled t s n)) n) (λ n before.
+    let now = judged hs window (sampled t s n) in
+    cond_both (may_take s n) now n (λ (m : Node). is_open m.state ≡ true → m.seen < window)
+    (λ takes o.
+    let less : n.seen < window = before (active_open n.state (and_parts (is_active n.state) (nat_lt (n.ticks + s.ticks) (2 ^ 64)) takes).0) in
+    let other : n.seen + 1 ≢ window = eqb-false (n.seen + 1) window (ruled_open (nat_eq (n.seen + 1) window) (holds now.value now.ticks (threshold_of hs n.hypothesis)) n.state o) in
+    omega arith)
+    (λ _. before)) ns s.node few
 
 -- ---- what each new node keeps, all of them keep
 

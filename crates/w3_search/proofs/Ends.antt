@@ -9,7 +9,7 @@ use Rattle.w3_search.specs.Index.{changed_each}
 use Rattle.w3_search.specs.History.{AllOpen, AreHere}
 use Rattle.w3_search.specs.Nodes.{active_of, changed, finished, is_active, is_open, is_waiting, numbers_from, unfinished, waiting_of}
 use Rattle.w3_search.specs.Steps.{active_in}
-use Rattle.w3_search.proofs.Changes.{length_changed}
+use Rattle.w3_search.proofs.Changes.{active_open, length_changed}
 use Rattle.w3_search.proofs.Numbering.{numbers_map}
 
 module _ (p : Node → Bool) (f : Node → Node) where
@@ -137,14 +137,6 @@ here_ends q n here =
 pub phase_ends : (q : ℕ) (ns : List Node) → AreHere q ns → map (unfinished q) ns ≡ map finished ns
 phase_ends q [] here = refl
 phase_ends q (n ∷ ns) here = ap (λ (m : Node). m ∷ map (unfinished q) ns) (here_ends q n here.0) ∙ ap (λ (l : List Node). finished n ∷ l) (phase_ends q ns here.1)
-
-pub active_open : (s : NodeState) → is_active s ≡ true → is_open s ≡ true
-active_open Active e = refl
-active_open Waiting e = refl
-active_open Confirmed e = cc
-active_open Rejected e = cc
-active_open (Barred c) e = cc
-active_open (Unfinished m) e = cc
 
 active_from : (q k : ℕ) (ns : List Node) → AreHere q ns → numbers_from (λ n. nat_eq n.phase q && is_active n.state) k ns ≡ numbers_from (λ n. is_active n.state) k ns
 active_from q k [] here = refl

@@ -1,7 +1,8 @@
 -- Two lists of nodes side by side, and what samples do to nodes.
-use Rattle.std.proofs.Common.{◌≡◌, ℕ, zero, suc, ◌+◌, Bool, true, false, cond, Option, Some, List, [], ◌∷◌, length, map, refl, sym, ap, subst, ◌∙◌, arith, inl, inr, ◌⊎◌, filter}
-use Rattle.std.specs.Prelude.{slice_get, nat_eq, not}
+use Rattle.std.proofs.Common.{◌≡◌, ℕ, zero, suc, ◌+◌, ◌^◌, Bool, true, false, cond, Option, Some, List, [], ◌∷◌, length, map, refl, sym, ap, subst, ◌∙◌, arith, inl, inr, ◌⊎◌, filter}
+use Rattle.std.specs.Prelude.{slice_get, nat_eq, nat_lt, not}
 use Rattle.std.specs.Option.{option_map_or}
+use Rattle.std.proofs.lemmas.Bool.{and_parts, cond_both}
 use Rattle.mdl_ast.specs.declared.items.Hypothesis.{Hypothesis}
 use Rattle.w3_axes.specs.Testing.{holds}
 use Rattle.w3_axes.specs.Refining.{threshold_of}
@@ -12,8 +13,8 @@ use Rattle.w3_search.specs.declared.node.NodeState.TheVariants.{Waiting, Active,
 use Rattle.w3_search.specs.declared.place.Place.{Place}
 use Rattle.w3_search.specs.History.{AreHere, In, Spot, spot_of}
 use Rattle.w3_search.specs.Nodes.{active_of, changed, is_active, is_active_at, is_open, is_waiting, numbers_from, place, place_of, sampled, waiting_of}
-use Rattle.w3_search.specs.Steps.{AreReady, IsReady, ended, judged, with_sample, with_samples}
-use Rattle.w3_search.proofs.Changes.{there, ruled_waiting}
+use Rattle.w3_search.specs.Steps.{ended, judged, may_take, with_sample, with_samples}
+use Rattle.w3_search.proofs.Changes.{ruled_waiting}
 
 abbrev pub Pairs : (Node → Node → Type 0) → List Node → List Node → Type 0
 Pairs R [] [] = Unit {0}
@@ -65,6 +66,10 @@ module _ (R : Node → Node → Type 0) where
 
 -- ---- a node in another state
 
+is_now : (s : NodeState) → is_active s ≡ true → s ≡ Active
+is_now Active e = refl
+is_now _ e = cc
+
 -- a node stands where it stood, stays confirmed, and is confirmed anew only where C
 pub record OneAged (C : Node → Type 0) (n m : Node) : Type 0 where
   pub same : spot_of m ≡ spot_of n
@@ -95,27 +100,30 @@ sampled_through l m n a b = record {
   waits = b.waits ∙ a.waits;
 }
 
-one_sample : (hs : List Hypothesis) (window t : ℕ) (s : NodeSample) (ns : List Node) → IsReady s ns → Pairs OneSampled ns (with_sample hs window t s ns)
-one_sample hs window t s ns ready =
-    let r = there (slice_get ns s.node) ready in
-    pairs_changed OneSampled sampled_same (λ n. judged hs window (sampled t s n)) ns s.node (λ n e.
-    let same : n ≡ r.0 = (let k : Some n ≡ Some r.0 = sym e ∙ r.1 in cc) in
-    let active : n.state ≡ Active = ap (λ (x : Node). x.state) same ∙ r.2.0 in
-    record {
-      aged = record {
-        same = refl;
-        stays = λ c. absurd (let k : Active ≡ Confirmed = sym active ∙ c in cc);
-        fresh = λ c. inr (record { active = active });
-      };
-      lives = λ c. active;
-      waits = ruled_waiting (nat_eq (n.seen + 1) window) (holds (judged hs window (sampled t s n)).value (judged hs window (sampled t s n)).ticks (threshold_of hs n.hypothesis)) n.state active ∙ sym (ap is_waiting active);
-    })
+-- a node under test takes a sample
+taken : (hs : List Hypothesis) (window t : ℕ) (s : NodeSample) (n : Node) → n.state ≡ Active → OneSampled n (judged hs window (sampled t s n))
+taken hs window t s n active = record {
+  aged = record {
+    same = refl;
+    stays = λ c. absurd (let k : Active ≡ Confirmed = sym active ∙ c in cc);
+    fresh = λ c. inr (record { active = active });
+  };
+  lives = λ c. active;
+  waits = ruled_waiting (nat_eq (n.seen + 1) window) (holds (sampled t s n).value (sampled t s n).ticks (threshold_of hs n.hypothesis)) n.state active ∙ sym (ap is_waiting active);
+}
 
-pub all_sampled : (hs : List Hypothesis) (window t : ℕ) (ss : List NodeSample) (ns : List Node) → AreReady hs window t ss ns → Pairs OneSampled ns (with_samples hs window t ss ns)
-all_sampled hs window t [] ns ready = pairs_same OneSampled sampled_same ns
-all_sampled hs window t (s ∷ ss) ns ready =
+one_sample : (hs : List Hypothesis) (window t : ℕ) (s : NodeSample) (ns : List Node) → Pairs OneSampled ns (with_sample hs window t s ns)
+one_sample hs window t s ns =
+    pairs_changed OneSampled sampled_same (λ n. cond (may_take s n) (judged hs window (sampled t s n)) n) ns s.node (λ n e.
+    cond_both (may_take s n) (judged hs window (sampled t s n)) n (OneSampled n)
+    (λ takes. taken hs window t s n (is_now n.state (and_parts (is_active n.state) (nat_lt (n.ticks + s.ticks) (2 ^ 64)) takes).0))
+    (λ _. sampled_same n))
+
+pub all_sampled : (hs : List Hypothesis) (window t : ℕ) (ss : List NodeSample) (ns : List Node) → Pairs OneSampled ns (with_samples hs window t ss ns)
+all_sampled hs window t [] ns = pairs_same OneSampled sampled_same ns
+all_sampled hs window t (s ∷ ss) ns =
     let one = with_sample hs window t s ns in
-    pairs_through OneSampled sampled_through ns one (with_samples hs window t ss one) (one_sample hs window t s ns ready.0) (all_sampled hs window t ss one ready.1)
+    pairs_through OneSampled sampled_through ns one (with_samples hs window t ss one) (one_sample hs window t s ns) (all_sampled hs window t ss one)
 
 -- samples leave places, and those that wait
 pub place_at : Spot → Place
@@ -164,10 +172,6 @@ sampled_here q (n ∷ ns) (m ∷ ms) p here = (
 )
 
 -- ---- those that are under test no more
-
-is_now : (s : NodeState) → is_active s ≡ true → s ≡ Active
-is_now Active e = refl
-is_now _ e = cc
 
 pub active_is : (s : NodeState) → s ≡ Active → is_active s ≡ true
 active_is s e = ap is_active e

@@ -9,7 +9,7 @@ use Rattle.w3_search.specs.declared.node.NodeSample.{NodeSample}
 use Rattle.w3_search.specs.declared.node.NodeState.{NodeState}
 use Rattle.w3_search.specs.declared.node.NodeState.TheVariants.{Waiting, Confirmed, Unfinished}
 use Rattle.w3_search.specs.Nodes.{changed, finished, in_state, is_confirmed, is_open, unfinished}
-use Rattle.w3_search.specs.Steps.{Rules, SearchData, AreReady, Waits, begun, ended, new_search, search_step, with_all_families, with_all_samples, with_end, with_phases, with_samples, with_state}
+use Rattle.w3_search.specs.Steps.{Rules, SearchData, Waits, begun, ended, new_search, search_step, with_all_families, with_all_samples, with_end, with_phases, with_samples, with_state}
 use Rattle.w3_search.specs.History.{IsHistory}
 use Rattle.w3_search.proofs.Changes.{there}
 use Rattle.w3_search.proofs.Pairs.{IsActive, OneAged, OneSampled, Pairs, all_sampled, ended_in, pairs_changed, pairs_map}
@@ -24,12 +24,12 @@ only_aged [] (m ∷ ms) p = absurd p
 only_aged (n ∷ ns) [] p = absurd p
 only_aged (n ∷ ns) (m ∷ ms) p = (p.0.aged, only_aged ns ms p.1)
 
-samples_going : (t : ℕ) (ss : List NodeSample) (v : SearchData) → IsHistory v → AreReady v.rules.hypotheses v.rules.decl.window t ss v.nodes
+samples_going : (t : ℕ) (ss : List NodeSample) (v : SearchData) → IsHistory v
     → Going v.rules v.present (with_all_samples t ss v).nodes (with_all_samples t ss v).drops []
-samples_going t ss v h ready =
+samples_going t ss v h =
     let ms = with_samples v.rules.hypotheses v.rules.decl.window t ss v.nodes in
     aged IsActive v.rules v.present v.nodes ms [] (ended v.nodes ms) [] (going v h)
-    (only_aged v.nodes ms (all_sampled v.rules.hypotheses v.rules.decl.window t ss v.nodes ready))
+    (only_aged v.nodes ms (all_sampled v.rules.hypotheses v.rules.decl.window t ss v.nodes))
     (λ i n m e f c s. ended_in v.nodes ms i n m e f c.active s) (λ i x. absurd x)
 
 -- ---- nodes that end
@@ -84,12 +84,12 @@ phases_keep t (p ∷ ps) v h = cond_both (nat_le p.at t) (with_phases t ps (begu
 -- ---- the steps
 
 -- samples, children and phases keep the history
-pub step_keeps : (t : ℕ) (samples : List NodeSample) (v : SearchData) → IsHistory v → AreReady v.rules.hypotheses v.rules.decl.window t samples v.nodes → IsHistory (search_step t samples v)
+pub step_keeps : (t : ℕ) (samples : List NodeSample) (v : SearchData) → IsHistory v → IsHistory (search_step t samples v)
 unfolding search_step
-step_keeps t samples v h ready =
+step_keeps t samples v h =
     let v1 = with_all_samples t samples v in
     let v2 = with_all_families v1 in
-    let h2 : IsHistory v2 = whole v2 (families_going v1.rules v1.present v1.drops v1.nodes [] (samples_going t samples v h ready)) in
+    let h2 : IsHistory v2 = whole v2 (families_going v1.rules v1.present v1.drops v1.nodes [] (samples_going t samples v h)) in
     phases_keep t (drop v2.present v2.rules.phases) v2 h2
 
 pub state_keeps : (i : ℕ) (state : NodeState) (v : SearchData) → IsHistory v → Waits i v.nodes → is_confirmed state ≡ false → IsHistory (with_state i state v)

@@ -1,5 +1,5 @@
 -- What a due work does to a search.
-use Rattle.std.specs.Prelude.{ℕ, ◌≡◌, ◌<◌, ◌+◌, ◌==◌, ◌&&◌, ◌^◌, not, nat_le, if◌then◌else◌, Bool, false, Option, Some, None, List, [], ◌∷◌, ◌++◌, drop, filter, map, slice_get, IsSomeAnd}
+use Rattle.std.specs.Prelude.{ℕ, ◌≡◌, ◌+◌, ◌==◌, ◌&&◌, ◌^◌, not, nat_le, nat_lt, if◌then◌else◌, Bool, false, Option, Some, None, List, [], ◌∷◌, ◌++◌, drop, filter, map, slice_get, IsSomeAnd}
 use Rattle.pn_types.specs.declared.focus.Focus.{Focus}
 use Rattle.mdl_ast.specs.declared.items.Hypothesis.{Hypothesis}
 use Rattle.mdl_ast.specs.declared.items.SearchDecl.{SearchDecl}
@@ -11,7 +11,7 @@ use Rattle.w3_axes.specs.Refining.{children, roots, threshold_of}
 use Rattle.w3_search.specs.declared.node.Node.{Node}
 use Rattle.w3_search.specs.declared.node.NodeSample.{NodeSample}
 use Rattle.w3_search.specs.declared.node.NodeState.{NodeState}
-use Rattle.w3_search.specs.declared.node.NodeState.TheVariants.{Active, Confirmed, Rejected, Waiting}
+use Rattle.w3_search.specs.declared.node.NodeState.TheVariants.{Confirmed, Rejected, Waiting}
 use Rattle.w3_search.specs.Nodes.{active_of, changed, finished, in_state, is_active, is_active_at, is_confirmed, numbers_from, sampled, unfinished, with_node}
 
 -- what a search goes by: the hypotheses, its window, the phases behind the first, and the tree of the foci
@@ -34,22 +34,17 @@ pub record SearchData : Type 0 where
 abbrev pub judged : List Hypothesis → ℕ → Node → Node
 judged hs window n = record n { state = if n.seen == window then (if holds n.value n.ticks (threshold_of hs n.hypothesis) then Confirmed else Rejected) else n.state }
 
+-- a node takes a sample where it is under test, and its ticks stay in 64 bits
+abbrev pub may_take : NodeSample → Node → Bool
+may_take s n = is_active n.state && nat_lt (n.ticks + s.ticks) (2 ^ 64)
+
 -- one sample, which ends at t
 abbrev pub with_sample : List Hypothesis → ℕ → ℕ → NodeSample → List Node → List Node
-with_sample hs window t s ns = changed (λ n. judged hs window (sampled t s n)) s.node ns
+with_sample hs window t s ns = changed (λ n. if may_take s n then judged hs window (sampled t s n) else n) s.node ns
 
 abbrev pub with_samples : List Hypothesis → ℕ → ℕ → List NodeSample → List Node → List Node
 with_samples hs window t [] ns = ns
 with_samples hs window t (s ∷ ss) ns = with_samples hs window t ss (with_sample hs window t s ns)
-
--- the sample is of a node that is under test, whose ticks stay in 64 bits
-abbrev pub IsReady : NodeSample → List Node → Type 0
-IsReady s ns = IsSomeAnd (slice_get ns s.node) (λ n. (n.state ≡ Active) × (n.ticks + s.ticks < 2 ^ 64))
-
--- each in its turn
-abbrev pub AreReady : List Hypothesis → ℕ → ℕ → List NodeSample → List Node → Type 0
-AreReady hs window t [] ns = Unit {0}
-AreReady hs window t (s ∷ ss) ns = IsReady s ns × AreReady hs window t ss (with_sample hs window t s ns)
 
 -- the numbers of the nodes that were under test, and are no more
 abbrev pub ended : List Node → List Node → List ℕ

@@ -1,8 +1,8 @@
 //! A node of the search.
 
-ghost use Rattle.std.specs.Prelude.{◌≡◌, ◌<◌, ◌+◌, ◌^◌};
+ghost use Rattle.std.specs.Prelude.{◌≡◌, ◌<◌, ◌+◌, ◌^◌, if◌then◌else◌, true};
 ghost use Rattle.w3_search.specs.Nodes.{finished, is_active, is_confirmed, is_open, sampled};
-ghost use Rattle.w3_search.specs.Steps.{judged};
+ghost use Rattle.w3_search.specs.Steps.{judged, may_take};
 
 use pn_types::{BarCause, Focus};
 use w3_axes::{Hypotheses, holds};
@@ -49,7 +49,7 @@ pub struct Node {
     pub ticks: u64,
 }
 
-/// A sample of a node that is under test.
+/// A sample of a node.
 #[derive(Clone, Copy, Debug, Drop)]
 pub struct NodeSample {
     /// The node's number.
@@ -86,8 +86,15 @@ impl NodeState {
 }
 
 impl Node {
-    /// Takes a sample, which ends at t.
-    pub(crate) fn add_sample(&mut self, t: u64, sample: &NodeSample)
+    /// Whether it takes a sample: it is under test, and its ticks stay in 64 bits.
+    fn may_take(&self, sample: &NodeSample) -> bool
+        ensures { result ≡ may_take sample.now self.now }
+    {
+        self.state.is_active() && self.ticks.checked_add(sample.ticks).is_some()
+    }
+
+    /// Adds a sample, which ends at t.
+    fn add_sample(&mut self, t: u64, sample: &NodeSample)
         requires seen { self.old.seen + 1 < 2 ^ 32 }
         requires ticks { self.old.ticks + sample.now.ticks < 2 ^ 64 }
         ensures { self.new ≡ sampled t sample.now self.old }
@@ -104,7 +111,7 @@ impl Node {
     }
 
     /// Gives the verdict, where as many samples were taken as the window asks for.
-    pub(crate) fn judge(&mut self, hypotheses: &Hypotheses, window: u32)
+    fn judge(&mut self, hypotheses: &Hypotheses, window: u32)
         ensures { self.new ≡ judged hypotheses.now window self.old }
     {
         if self.seen == window {
@@ -114,6 +121,17 @@ impl Node {
             } else {
                 NodeState::Rejected
             };
+        }
+    }
+
+    /// Takes a sample, which ends at t, with the verdict that it brings, if it may.
+    pub(crate) fn take(&mut self, hypotheses: &Hypotheses, window: u32, t: u64, sample: &NodeSample)
+        requires few { is_open self.old.state ≡ true → self.old.seen < window }
+        ensures { self.new ≡ (if may_take sample.now self.old then judged hypotheses.now window (sampled t sample.now self.old) else self.old) }
+    {
+        if self.may_take(sample) {
+            self.add_sample(t, sample);
+            self.judge(hypotheses, window);
         }
     }
 

@@ -4,7 +4,7 @@ ghost use Rattle.std.specs.Prelude.{◌≡◌, ◌<◌, ◌≤◌, ◌+◌, ◌�
 ghost use Rattle.std.specs.List.{list_any};
 ghost use Rattle.indexmap.specs.IndexSet.{spare};
 ghost use Rattle.w3_search.specs.declared.node.NodeState.TheVariants.{Active};
-ghost use Rattle.w3_search.specs.Steps.{ended, with_samples, AreReady, Waits};
+ghost use Rattle.w3_search.specs.Steps.{ended, with_samples, Waits};
 ghost use Rattle.w3_search.specs.History.{AreFew};
 ghost use Rattle.w3_search.specs.Nodes.{active_of, changed, finished, in_state, is_free, is_open, is_same_place, is_waiting, is_active, place_of, waiting_of, with_node};
 
@@ -130,7 +130,6 @@ impl Nodes {
         samples: &[NodeSample],
         drops: &mut Vec<u32>,
     )
-        requires ready { AreReady hypotheses.now window t samples.now self.old }
         requires few { AreFew window self.old }
         requires empty { drops.old.items ≡ [] }
         requires room { MAX_NODES ≤ vec_capacity drops.old }

@@ -51,10 +51,10 @@ impl Search {
         Ok(Search { state })
     }
 
-    /// A due work at tick t with these samples, each of another node that is under test. It gives the number of instruments
-    /// that are to be dropped.
+    /// A due work at tick t with these samples. One of a node that isn't under test, or of a number that no node has, is
+    /// passed over, and so is one with which the node's ticks would pass 64 bits. It gives the number of instruments that
+    /// are to be dropped.
     pub fn on_sample(&mut self, t: u64, samples: &[NodeSample]) -> u32
-        requires { spec.AreReady self.old.rules.hypotheses self.old.rules.decl.window t samples.now self.old.nodes }
         ensures state { self.new ≡ spec.search_step t samples.now self.old }
         ensures drops { result ≡ length self.new.drops }
     {

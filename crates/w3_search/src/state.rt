@@ -165,7 +165,6 @@ impl State {
 
     /// Takes samples, which end at t.
     fn add_samples(&mut self, t: u64, samples: &[NodeSample])
-        requires { spec.AreReady self.old.rules.hypotheses self.old.rules.decl.window t samples.now self.old.nodes }
         ensures state { self.new ≡ spec.with_all_samples t samples.now self.old }
         ensures here { AreOf self.new.present self.new.drops self.new.nodes }
         ensures room { length self.new.drops + length (active_of self.new.nodes) ≤ MAX_NODES }
@@ -227,7 +226,6 @@ impl State {
     /// A due work at t with these samples.
     #[tactic(auto, unfolding(crate::specs::Steps::search_step))]
     pub(crate) fn step(&mut self, t: u64, samples: &[NodeSample])
-        requires { spec.AreReady self.old.rules.hypotheses self.old.rules.decl.window t samples.now self.old.nodes }
         ensures state { self.new ≡ spec.search_step t samples.now self.old }
         ensures few { length self.new.drops ≤ MAX_NODES }
     {

@@ -3,7 +3,7 @@
 ghost use Rattle.std.specs.Prelude.{◌≡◌, ◌<◌, ◌≤◌, ◌+◌, ◌∷◌, ◌++◌, [], length, map, vec_len, vec_capacity};
 ghost use Rattle.std.specs.List.{AllByRecursion};
 ghost use Rattle.w3_search.specs.Nodes.{active_of, changed, finished, in_state, new_node, waiting_of};
-ghost use Rattle.w3_search.specs.Steps.{with_sample, with_samples, AreReady, IsReady};
+ghost use Rattle.w3_search.specs.Steps.{with_sample, with_samples};
 ghost use Rattle.w3_search.specs.History.{AreFew};
 ghost use Rattle.w3_search.specs.Index.{changed_each};
 
@@ -11,16 +11,16 @@ use crate::node::{Node, NodeSample, NodeState};
 use pn_types::{Focus, NoMemory};
 use w3_axes::Hypotheses;
 
-/// Gives a node a sample, which ends at t, and the verdict that it brings.
+/// Gives a node a sample, which ends at t, and the verdict that it brings, if there is such a node and it takes it.
 fn add_sample(nodes: &mut [Node], hypotheses: &Hypotheses, window: u32, t: u64, sample: &NodeSample)
-    requires ready { IsReady sample.now nodes.old }
     requires few { AreFew window nodes.old }
     ensures nodes { nodes.new ≡ with_sample hypotheses.now window t sample.now nodes.old }
     ensures few { AreFew window nodes.new }
 {
-    let node = &mut nodes[sample.node as usize];
-    node.add_sample(t, sample);
-    node.judge(hypotheses, window);
+    if (sample.node as usize) < nodes.len() {
+        let node = &mut nodes[sample.node as usize];
+        node.take(hypotheses, window, t, sample);
+    }
 }
 
 /// Gives nodes their samples, which end at t, and the verdicts that these bring.
@@ -31,7 +31,6 @@ pub(crate) fn add_samples(
     t: u64,
     samples: &[NodeSample],
 )
-    requires ready { AreReady hypotheses.now window t samples.now nodes.old }
     requires few { AreFew window nodes.old }
     ensures nodes { nodes.new ≡ with_samples hypotheses.now window t samples.now nodes.old }
     ensures few { AreFew window nodes.new }

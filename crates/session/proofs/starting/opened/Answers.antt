@@ -1,11 +1,24 @@
-use Rattle.session.proofs.Begun.{opened_kept, wished_fit, wished_quiet}
+use Rattle.session.specs.Kept.{IsAdmitted}
+use Rattle.session.proofs.Begun.{passed}
+use Rattle.session.proofs.Opened.{opened_kept, wished_fit, wished_places, wished_quiet}
 use Rattle.session.proofs.starting.opened.Goals as goal
 
 pub open-requires-clause-quiet : goal.open-requires-clause-quiet
-open-requires-clause-quiet c = wished_quiet c.args.inputs.now c.in_ok-desk.desk c.in_ok-desk.ensures
+unfolding IsAdmitted
+open-requires-clause-quiet c = wished_quiet c.args.inputs.now c.in_ok-desk.desk c.in_ok-desk.ensures.admitted
+
+pub open-requires-clause-places : goal.open-requires-clause-places
+unfolding IsAdmitted
+open-requires-clause-places c = wished_places c.args.inputs.now c.in_ok-desk.desk c.in_ok-desk.ensures.admitted
 
 pub open-requires-clause-harts : goal.open-requires-clause-harts
-open-requires-clause-harts c = wished_fit c.args.inputs.now c.in_ok-desk.desk c.in_ok-desk.ensures
+unfolding IsAdmitted
+open-requires-clause-harts c = wished_fit c.args.inputs.now c.in_ok-desk.desk c.in_ok-desk.ensures.admitted
 
 pub returns-clause-kept : goal.returns-clause-kept
-returns-clause-kept c = opened_kept c.args.inputs.now c.in_ok-desk.desk c.in_ok-desk.ensures c.requires c.open.new.self c.open.ensures.table c.open.ensures.harts
+unfolding IsAdmitted
+returns-clause-kept c = opened_kept c.args.inputs.now c.in_ok-desk.desk c.in_ok-desk.ensures.admitted c.requires c.open.new.self c.open.ensures.table c.open.ensures.harts
+
+pub returns-in_err-pick-clause-refused : goal.returns-in_err-pick-clause-refused
+returns-in_err-pick-clause-refused c =
+    passed c.args.inputs.now c.from_residual-in_err-pick.result c.in_err-pick.field-0.0 c.from_residual-in_err-pick.ensures.1 c.in_err-pick.ensures.refused

@@ -1,5 +1,5 @@
 use Rattle.std.proofs.Common.{◌∙◌, sym}
-use Rattle.session_kits.proofs.Sampled.{kit_off, latest_now, latest_off, sampled_now}
+use Rattle.session_kits.proofs.Sampled.{bin_now, bin_off, kit_off, sampled_now}
 use Rattle.session_kits.proofs.Arms.{armed_here}
 use Rattle.session_kits.proofs.sampling.sample_kit.Goals as goal
 
@@ -9,8 +9,8 @@ read_kit-reading-requires-clause-there c = armed_here c.args.machine.now.state.p
 pub returns-then-not-is_armed-clause-kit : goal.returns-then-not-is_armed-clause-kit
 returns-then-not-is_armed-clause-kit c = sym (kit_off c.args.machine.now.state c.args.time c.args.kit.now (sym c.is_armed.ensures ∙ c.if-not-is_armed.true))
 
-pub returns-then-not-is_armed-clause-latest : goal.returns-then-not-is_armed-clause-latest
-returns-then-not-is_armed-clause-latest c = latest_off c.args.machine.now.state c.args.time c.args.kit.now c.args.place (sym c.is_armed.ensures ∙ c.if-not-is_armed.true)
+pub returns-then-not-is_armed-clause-bin : goal.returns-then-not-is_armed-clause-bin
+returns-then-not-is_armed-clause-bin c = sym (bin_off c.args.machine.now.state c.args.time c.args.kit.now (sym c.is_armed.ensures ∙ c.if-not-is_armed.true))
 
 pub returns-clause-kit : goal.returns-clause-kit
 returns-clause-kit c =
@@ -18,8 +18,8 @@ returns-clause-kit c =
     let k = c.args.kit.now in
     sampled_now m c.args.time k c.read_kit-reading.result c.added.result c.push.new.self (sym c.is_armed.ensures ∙ c.if-not-is_armed.false) c.read_kit-reading.ensures.reading c.added.ensures c.push.ensures.pushed
 
-pub returns-clause-latest : goal.returns-clause-latest
-returns-clause-latest c =
+pub returns-clause-bin : goal.returns-clause-bin
+returns-clause-bin c =
     let m = c.args.machine.now.state in
     let k = c.args.kit.now in
-    latest_now m c.args.time k c.args.place c.read_kit-reading.result c.added.result (sym c.is_armed.ensures ∙ c.if-not-is_armed.false) c.read_kit-reading.ensures.reading c.added.ensures
+    bin_now m c.args.time k c.read_kit-reading.result c.added.result (sym c.is_armed.ensures ∙ c.if-not-is_armed.false) c.read_kit-reading.ensures.reading c.added.ensures

@@ -29,7 +29,7 @@ loop-place-preserved c =
           (next c.args.inputs.now c.args.wishes.now c.args.plans.now c.args.self.now c.loop-place.place c.loop-place.self c.loop-place.candidates.items c.pop_front.new.self.items w.index-wishes-place.result w.index-plans-place.result w.in-Some.candidate
           c.loop-place.invariant (slice_get_read c.args.wishes.now (length c.args.wishes.now) c.loop-place.place w.index-wishes-place.result refl low w.index-wishes-place.is)
           (slice_get_read c.args.plans.now (length c.args.plans.now) c.loop-place.place w.index-plans-place.result refl (omega arith) w.index-plans-place.is) w.in-Some.ensures.items w.consider.new.self
-          w.consider.ensures.kept w.consider.ensures.kits w.consider.ensures.room w.consider.ensures.latest w.consider.ensures.places w.consider.ensures.core w.consider.ensures.time w.consider.ensures.samples w.consider.ensures.ok w.consider.ensures.err) w.self-is
+          w.consider.ensures.kept w.consider.ensures.kits w.consider.ensures.room w.consider.ensures.same w.consider.ensures.core w.consider.ensures.ok w.consider.ensures.err) w.self-is
       | in_default w ↦
           absurd (none_left c.args.inputs.now c.args.wishes.now c.args.plans.now c.args.self.now c.loop-place.place c.loop-place.self (get_or c.args.wishes.now c.loop-place.place nothing)
           (subst (Considering c.args.inputs.now c.args.wishes.now c.args.plans.now c.args.self.now c.loop-place.place c.loop-place.self) (is_empty c.loop-place.candidates.items c.pop_front.new.self.items w.in_default.ensures.items w.in_default.ensures.rest) c.loop-place.invariant)

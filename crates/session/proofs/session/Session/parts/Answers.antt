@@ -1,4 +1,4 @@
-use Rattle.std.proofs.Common.{◌≡◌, ◌+◌, ◌<◌, ◌≤◌, ◌^◌, Err, Ok, length, subst, sym}
+use Rattle.std.proofs.Common.{◌≡◌, ◌<◌, ◌≤◌, ◌^◌, Err, Ok, length, subst, sym}
 use Rattle.std.specs.Prelude.{IfOk, Result, drop, sum_by}
 use Rattle.pn_types.specs.declared.limits.TheConstants.{MAX_HARTS}
 use Rattle.report.specs.declared.parts.ReportParts.{ReportParts}

@@ -9,10 +9,12 @@ use Rattle.machine.specs.States.{quantum_turns}
 use Rattle.machine.specs.Turns.{is_runnable}
 use Rattle.session.specs.Kept.{IsKept}
 use Rattle.session.specs.Sessions.{SessionData, state_of}
-use Rattle.session.specs.Tables.{IsAdmission, table_tended}
-use Rattle.session.proofs.Halting.{allowed_now, drop_sum, few_now, harts_now, not_halted, program_kept}
+use Rattle.session.specs.Tables.{IsAdmission, Table, table_tended}
+use Rattle.session.proofs.Halting.{allowed_now, can_sample_now, costs, drop_sum, not_halted, program_kept}
 use Rattle.session.proofs.Quanta.{drop_many, quantum_kept}
 use Rattle.session.proofs.session.Session.quantum.Goals as goal
+
+-- ---- the admission
 
 pub admit_from-requires-clause-wishes : goal.admit_from-requires-clause-wishes
 admit_from-requires-clause-wishes c w h = c.self.invariant.0.wishes w (subst (λ (l : List CheckedWish). In w (drop c.self.inside.looked l)) c.deref.ensures.value h)
@@ -22,19 +24,54 @@ admit_from-requires-clause-program c =
     let s = c.self.inside in
     program_kept (record { inputs = s.inputs; quanta = s.quanta.items; closed = s.closed }) (drop s.looked s.wishes.items) s.desk c.self.invariant.0
 
-pub tend-owns-requires-clause-harts : goal.tend-owns-requires-clause-harts
-tend-owns-requires-clause-harts c =
+pub admit_from-requires-clause-few : goal.admit_from-requires-clause-few
+admit_from-requires-clause-few c =
     let s = c.self.inside in
     let few : length s.quanta.items < MAX_QUANTA = subst (λ (x : SessionData). length x.quanta < MAX_QUANTA) (sym c.self.view_is) (c.runnable.ensures.few c.if-not-runnable.false) in
-    harts_now (record { inputs = s.inputs; quanta = s.quanta.items; closed = s.closed }) (drop s.looked s.wishes.items) s.desk c.admit_from.new.desk c.in_ok-looked.looked c.self.invariant.0 few
-    (subst (λ (l : List CheckedWish). IsAdmission s.inputs (drop s.looked l) s.desk c.admit_from.new.desk c.in_ok-looked.looked) c.deref.ensures.value c.in_ok-looked.ensures.ok)
+    let many = c.self.invariant.0.many in
+    let wishes = c.self.invariant.0.given.few_wishes in
+    let items = ap (λ (l : List CheckedWish). length (drop s.looked l)) c.deref.ensures.value in
+    omega arith
 
-pub tend-owns-requires-clause-few : goal.tend-owns-requires-clause-few
-tend-owns-requires-clause-few c =
+pub admit_from-requires-clause-costs : goal.admit_from-requires-clause-costs
+admit_from-requires-clause-costs c = let s = c.self.inside in costs s.inputs s.desk.samples s.desk.kits c.self.invariant.0.kits
+
+-- ---- the turns
+
+pub tend-owns-requires-clause-time : goal.tend-owns-requires-clause-time
+tend-owns-requires-clause-time c =
     let s = c.self.inside in
     let few : length s.quanta.items < MAX_QUANTA = subst (λ (x : SessionData). length x.quanta < MAX_QUANTA) (sym c.self.view_is) (c.runnable.ensures.few c.if-not-runnable.false) in
-    few_now (record { inputs = s.inputs; quanta = s.quanta.items; closed = s.closed }) (drop s.looked s.wishes.items) s.desk c.admit_from.new.desk c.in_ok-looked.looked c.self.invariant.0 few
-    (subst (λ (l : List CheckedWish). IsAdmission s.inputs (drop s.looked l) s.desk c.admit_from.new.desk c.in_ok-looked.looked) c.deref.ensures.value c.in_ok-looked.ensures.ok)
+    let going : s.closed ≡ false = ap (λ (x : SessionData). x.closed) c.self.view_is ∙ c.requires.going in
+    let time = c.self.invariant.0.sooner going in
+    let same = ap (λ (x : Table). x.time) (c.in_ok-looked.ensures.ok.stays).same in
+    omega arith
+
+pub tend-owns-requires-clause-idle : goal.tend-owns-requires-clause-idle
+tend-owns-requires-clause-idle c =
+    let s = c.self.inside in
+    let few : length s.quanta.items < MAX_QUANTA = subst (λ (x : SessionData). length x.quanta < MAX_QUANTA) (sym c.self.view_is) (c.runnable.ensures.few c.if-not-runnable.false) in
+    let going : s.closed ≡ false = ap (λ (x : SessionData). x.closed) c.self.view_is ∙ c.requires.going in
+    let idle = c.self.invariant.0.idle going in
+    let same = ap (λ (x : Table). x.idle) (c.in_ok-looked.ensures.ok.stays).same in
+    omega arith
+
+pub tend-owns-requires-clause-soon : goal.tend-owns-requires-clause-soon
+tend-owns-requires-clause-soon c =
+    let s = c.self.inside in
+    let going : s.closed ≡ false = ap (λ (x : SessionData). x.closed) c.self.view_is ∙ c.requires.going in
+    let soon = c.self.invariant.0.soon going in
+    let last = ap (λ (x : Table). x.last) (c.in_ok-looked.ensures.ok.stays).same in
+    let due = ap (λ (x : Table). x.due) (c.in_ok-looked.ensures.ok.stays).same in
+    omega arith
+
+pub tend-owns-requires-clause-sampled : goal.tend-owns-requires-clause-sampled
+tend-owns-requires-clause-sampled c =
+    let s = c.self.inside in
+    let few : length s.quanta.items < MAX_QUANTA = subst (λ (x : SessionData). length x.quanta < MAX_QUANTA) (sym c.self.view_is) (c.runnable.ensures.few c.if-not-runnable.false) in
+    let going : s.closed ≡ false = ap (λ (x : SessionData). x.closed) c.self.view_is ∙ c.requires.going in
+    can_sample_now (record { inputs = s.inputs; quanta = s.quanta.items; closed = s.closed }) (drop s.looked s.wishes.items) s.desk c.admit_from.new.desk c.in_ok-looked.looked c.self.invariant.0 few
+    (subst (λ (l : List CheckedWish). IsAdmission s.inputs (drop s.looked l) s.desk c.admit_from.new.desk c.in_ok-looked.looked) c.deref.ensures.value c.in_ok-looked.ensures.ok) going
 
 pub invariant_of-self-2 : goal.invariant_of-self-2
 invariant_of-self-2 c =
@@ -54,7 +91,7 @@ invariant_of-self-2 c =
     let hart : c.args.hart < s.inputs.settings.harts = subst (λ (x : SessionData). c.args.hart < x.inputs.settings.harts) (sym c.self.view_is) c.requires.hart in
     let runs : is_runnable (state_of d).kept.machine.core c.args.hart ≡ true = subst (λ (x : SessionData). is_runnable (state_of x).kept.machine.core c.args.hart ≡ true) (sym c.self.view_is) (c.runnable.ensures.open c.if-not-runnable.false) in
     let allowed = allowed_now d later s.desk c.admit_from.new.desk n k few admitted q c.requires.worker hart c.requires.turns.0 c.requires.turns.1 runs own in
-    let kept = quantum_kept d later s.desk c.admit_from.new.desk c.tend-owns.new.self n q going k few admitted table c.tend-owns.ensures.harts c.tend-owns.ensures.later allowed in
+    let kept = quantum_kept d later s.desk c.admit_from.new.desk c.tend-owns.new.self n q going k few admitted table c.tend-owns.ensures.harts c.tend-owns.ensures.later c.tend-owns.ensures.idle c.tend-owns.ensures.soon allowed in
     let quanta : c.put_quantum.new.list.items ≡ s.quanta.items ++ q ∷ [] = c.put_quantum.ensures.items ∙ ap (λ (l : List Quantum). l ++ q ∷ []) c.in_ok-reserve.ensures.items in
     let low = admitted.looked in
     let first = c.self.invariant.1 in

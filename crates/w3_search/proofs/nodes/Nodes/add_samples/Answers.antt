@@ -4,7 +4,7 @@ use Rattle.std.specs.Vec.{with_items}
 use Rattle.w3_search.specs.declared.node.Node.{Node}
 use Rattle.w3_search.specs.Index.{IsIndexed}
 use Rattle.w3_search.specs.Nodes.{active_of, is_active, is_active_at}
-use Rattle.w3_search.specs.Steps.{AreReady, with_samples}
+use Rattle.w3_search.specs.Steps.{with_samples}
 use Rattle.w3_search.proofs.Indexes.{indexed, items_are}
 use Rattle.w3_search.proofs.Numbering.{few_numbers}
 use Rattle.w3_search.proofs.Pairs.{OneSampled, Pairs, all_sampled, pairs_length, parted, sampled_places, sampled_waits, still_active}
@@ -33,8 +33,7 @@ invariant_of-self c =
     let ws = c.add_samples.new.nodes in
     let hs = c.args.hypotheses.now in
     let e : ws ≡ with_samples hs c.args.window c.args.t c.args.samples.now ns = c.add_samples.ensures.nodes ∙ ap (with_samples hs c.args.window c.args.t c.args.samples.now) c.deref_mut.ensures.value in
-    let ready = subst (AreReady hs c.args.window c.args.t c.args.samples.now) (sym c.self.view_is) c.requires.ready in
-    let pairs : Pairs OneSampled ns ws = subst (Pairs OneSampled ns) (sym e) (all_sampled hs c.args.window c.args.t c.args.samples.now ns ready) in
+    let pairs : Pairs OneSampled ns ws = subst (Pairs OneSampled ns) (sym e) (all_sampled hs c.args.window c.args.t c.args.samples.now ns) in
     let len : length ws ≡ length ns = pairs_length OneSampled ns ws pairs in
     let items : (with_items s.list ws).items ≡ ws = items_are s.list ws len in
     let tests : c.swap.new.x.items ≡ active_of ws =
@@ -64,8 +63,7 @@ returns-clause-room c =
     let ws = c.add_samples.new.nodes in
     let hs = c.args.hypotheses.now in
     let e : ws ≡ with_samples hs c.args.window c.args.t c.args.samples.now ns = c.add_samples.ensures.nodes ∙ ap (with_samples hs c.args.window c.args.t c.args.samples.now) c.deref_mut.ensures.value in
-    let ready = subst (AreReady hs c.args.window c.args.t c.args.samples.now) (sym c.self.view_is) c.requires.ready in
-    let pairs : Pairs OneSampled ns ws = subst (Pairs OneSampled ns) (sym e) (all_sampled hs c.args.window c.args.t c.args.samples.now ns ready) in
+    let pairs : Pairs OneSampled ns ws = subst (Pairs OneSampled ns) (sym e) (all_sampled hs c.args.window c.args.t c.args.samples.now ns) in
     let len : length ws ≡ length ns = pairs_length OneSampled ns ws pairs in
     let items : (with_items s.list ws).items ≡ ws = items_are s.list ws len in
     let ended : length c.part_active.new.ended.items ≡ length (filter (λ j. not (is_active_at ws j)) (active_of ns)) =

@@ -1,0 +1,64 @@
+//! Tests that ended are dropped.
+
+ghost use Rattle.std.specs.Prelude.{◌≡◌, Some, find, map, not};
+ghost use Rattle.std.specs.Option.{option_map};
+ghost use Rattle.instrument.specs.Placements.{is_leaving, state_of};
+ghost use Rattle.w3_search.specs.Nodes.{is_same_number};
+ghost use Rattle.session_spec.specs.Verdicts.{tester_of, tests};
+ghost use Rattle.session_kits.specs.Kits.{dropped_by, dropped_tests};
+
+use crate::kit::Kit;
+use instrument::{InstrumentNo, State};
+use instrumented::InstrumentedMachine;
+
+/// Whether the instrument is being placed or armed.
+fn stands(machine: &InstrumentedMachine, number: InstrumentNo) -> bool
+    ensures { result ≡ not (is_leaving (state_of machine.now.state.placer number.n)) }
+{
+    matches!(machine.state(number), State::Placing | State::Armed)
+}
+
+/// Whether an instrument is that of a node.
+fn is_of(kit: &Kit, node: u32) -> bool
+    ensures { result ≡ is_same_number kit.now.shown.node (Some node) }
+{
+    match kit.shown.node {
+        Some(tested) => tested == node,
+        None => false,
+    }
+}
+
+/// Whether a node is tested by an instrument.
+fn tests(machine: &InstrumentedMachine, kit: &Kit, node: u32) -> bool
+    ensures { result ≡ tests machine.now.state.placer node kit.now.shown }
+{
+    is_of(kit, node) && stands(machine, kit.shown.instrument)
+}
+
+/// The instrument that tests a node.
+fn find_tester(machine: &InstrumentedMachine, kits: &[Kit], node: u32) -> Option<InstrumentNo>
+    ensures { result ≡ option_map (λ k. k.shown.instrument) (find (λ k. tests machine.now.state.placer node k.shown) kits.now) }
+{
+    let kit = kits.iter().find(|kit| tests(machine, kit, node))?;
+    Some(kit.shown.instrument)
+}
+
+/// Drops the instrument that tests a node, if there is one.
+fn drop_test(machine: &mut InstrumentedMachine, kits: &[Kit], node: u32)
+    ensures machine { machine.new ≡ record machine.old { state = dropped_by (tester_of machine.old.state.placer node (map (λ k. k.shown) kits.now)) machine.old.state } }
+    ensures core { machine.new.state.core ≡ machine.old.state.core }
+{
+    if let Some(number) = find_tester(machine, kits, node) {
+        machine.drop(number);
+    }
+}
+
+/// Drops the instruments that test these nodes, one after another. It takes no memory.
+pub fn drop_tests(machine: &mut InstrumentedMachine, kits: &[Kit], nodes: &[u32])
+    ensures machine { machine.new ≡ record machine.old { state = dropped_tests nodes.now (map (λ k. k.shown) kits.now) machine.old.state } }
+    ensures core { machine.new.state.core ≡ machine.old.state.core }
+{
+    for node in nodes {
+        drop_test(machine, kits, *node);
+    }
+}

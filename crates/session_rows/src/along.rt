@@ -1,0 +1,77 @@
+//! A session along the quanta of a log.
+
+ghost use Rattle.std.specs.Prelude.{◌≡◌, false};
+ghost use Rattle.std.specs.List.{AllByRecursion};
+ghost use Rattle.quanta_log.specs.Spelling.{CanSpell, IsQuantum};
+ghost use Rattle.quanta_log.specs.declared.version.Version.TheVariants as version;
+ghost use Rattle.session.specs.Given.{AreGiven};
+
+use code_points::procedures;
+use outside::MemFiles;
+use paradyn_top::{find, read_inputs, session_inputs};
+use pn_types::{NoMemory, Settings};
+use quanta_log::{Quantum, read};
+use refusals::{Fault, Refusal, bad_log};
+use report::report;
+use session::{Inputs, Session, StartFault};
+use std::alloc::Global;
+
+/// Lets a session take the quanta. Those that no hart could take are left out.
+fn follow(session: &mut Session, quanta: &[Quantum]) -> Result<(), NoMemory>
+    requires going { session.old.closed ≡ false }
+    requires quanta { AllByRecursion (IsQuantum session.old.inputs.settings.harts) quanta.now }
+    ensures { session.new.closed ≡ false }
+{
+    'quanta: for told in quanta {
+        let _ = session.quantum(told.worker, told.hart, told.turns)?;
+    }
+    Ok(())
+}
+
+/// The text of the report of a session with these inputs that takes the quanta and is closed.
+fn report_of(
+    alloc: Global,
+    inputs: Inputs,
+    quanta: &[Quantum],
+    skipped: u32,
+) -> Result<Vec<u8>, Refusal>
+    requires given { AreGiven inputs }
+    requires quanta { CanSpell version.Two inputs.settings quanta.now }
+{
+    let mut session = match Session::new(alloc, inputs) {
+        Ok(session) => session,
+        Err(StartFault::NoMemory) => return Err(Refusal::NoMemory),
+        Err(StartFault::BadPick(refused)) => {
+            let wish = Fault::BadPick(refused.metric, refused.focus, refused.cause);
+            return Err(Refusal::Fault(wish));
+        }
+    };
+    follow(&mut session, quanta)?;
+    session.close();
+    let parts = session.parts()?;
+    Ok(report(alloc, &parts, skipped)?)
+}
+
+/// The text of the report of the files `p` and `c` along quanta with these settings.
+fn report_from(
+    alloc: Global,
+    files: &mut MemFiles,
+    settings: Settings,
+    quanta: &[Quantum],
+) -> Result<Vec<u8>, Refusal>
+    requires { CanSpell version.Two settings quanta.now }
+{
+    let inputs = read_inputs(alloc, files, "p", "c")?;
+    let found = find(alloc, &inputs.image, settings.harts, &inputs.conf)?;
+    let (_, skipped) = procedures(alloc, &inputs.image)?;
+    let inputs = session_inputs(inputs.image, found, settings);
+    report_of(alloc, inputs, quanta, skipped)
+}
+
+/// The text of the report of the files `p` and `c` along the quanta of a log.
+pub fn report_along(alloc: Global, files: &mut MemFiles, log: &[u8]) -> Result<Vec<u8>, Refusal> {
+    match read(alloc, log) {
+        Ok((settings, quanta)) => report_from(alloc, files, settings, &quanta),
+        Err(fault) => Err(bad_log(fault)),
+    }
+}
