@@ -3,9 +3,9 @@
 #![tactic(auto)]
 
 use command_words::{
-    PlanRequest, ReplayRequest, Request, RunRequest, WordFault, log_name, read_request,
+    LiveRequest, PlanRequest, ReplayRequest, Request, RunRequest, WordFault, log_name, read_request,
 };
-use pn_types::{NoMemory, Start};
+use pn_types::{NoMemory, Settings, Start};
 use std::alloc::Global;
 use std::io;
 
@@ -27,9 +27,8 @@ fn start_text(start: Start) -> &'static str {
     }
 }
 
-/// What `run` is asked for.
-fn run_text(alloc: Global, run: &RunRequest<'_>) -> Result<String, NoMemory> {
-    let settings = run.settings;
+/// The numbers of a run.
+fn settings_text(alloc: Global, settings: Settings) -> Result<String, NoMemory> {
     let harts = settings.harts;
     let budget = settings.budget;
     let bins = settings.bins;
@@ -37,12 +36,27 @@ fn run_text(alloc: Global, run: &RunRequest<'_>) -> Result<String, NoMemory> {
     let start = start_text(settings.start);
     let instruments = settings.instruments;
     let numbers = format!(in alloc; "harts {harts} budget {budget} bins {bins} width {width}")?;
-    let rest = format!(in alloc; "{start} instruments {instruments}")?;
+    format!(in alloc; "{numbers} {start} instruments {instruments}")
+}
+
+/// What `run` is asked for.
+fn run_text(alloc: Global, run: &RunRequest<'_>) -> Result<String, NoMemory> {
+    let settings = settings_text(alloc, run.settings)?;
     let program = run.program;
     let conf = run.conf;
     let seed = run.seed;
     let quantum = run.quantum;
-    format!(in alloc; "run [{program}] [{conf}] {numbers} {rest} seed {seed} quantum {quantum}")
+    format!(in alloc; "run [{program}] [{conf}] {settings} seed {seed} quantum {quantum}")
+}
+
+/// What `live` is asked for.
+fn live_text(alloc: Global, live: &LiveRequest<'_>) -> Result<String, NoMemory> {
+    let settings = settings_text(alloc, live.settings)?;
+    let program = live.program;
+    let conf = live.conf;
+    let workers = live.workers;
+    let quantum = live.quantum;
+    format!(in alloc; "live [{program}] [{conf}] {settings} workers {workers} quantum {quantum}")
 }
 
 /// What `replay` is asked for.
@@ -67,6 +81,7 @@ fn plan_text(alloc: Global, plan: &PlanRequest<'_>) -> Result<String, NoMemory> 
 fn request_text(alloc: Global, words: &[String]) -> Result<String, NoMemory> {
     match read_request(alloc, words) {
         Ok(Request::Run(run)) => run_text(alloc, &run),
+        Ok(Request::Live(live)) => live_text(alloc, &live),
         Ok(Request::Replay(replay)) => replay_text(alloc, &replay),
         Ok(Request::Plan(plan)) => plan_text(alloc, &plan),
         Ok(Request::Asm(text)) => format!(in alloc; "asm [{text}]"),

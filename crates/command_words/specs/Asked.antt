@@ -5,13 +5,17 @@ use Rattle.clap.specs.declared.parser.matches.ArgMatches.{ArgMatches}
 use Rattle.command_words.specs.Grammar.{Text, Form, Given, Taken, given_in, taken_of}
 use Rattle.command_words.specs.Requests as request
 use Rattle.command_words.specs.declared.requests.Request.{Request}
-use Rattle.command_words.specs.declared.requests.Request.TheVariants.{Run, Replay, Plan, Asm, Points, Relog, Later}
+use Rattle.command_words.specs.declared.requests.Request.TheVariants.{Run, Live, Replay, Plan, Asm, Points, Relog, Later}
 use Rattle.command_words.specs.declared.requests.RunRequest.{RunRequest}
+use Rattle.command_words.specs.declared.requests.LiveRequest.{LiveRequest}
 use Rattle.command_words.specs.declared.requests.ReplayRequest.{ReplayRequest}
 use Rattle.command_words.specs.declared.requests.PlanRequest.{PlanRequest}
 
 abbrev pub asked_run : RunRequest → request.RunRequest
 asked_run r = record { program = r.program.now; conf = r.conf.now; settings = r.settings; seed = r.seed; quantum = r.quantum; log = option_map (λ s. s.now) r.log }
+
+abbrev pub asked_live : LiveRequest → request.LiveRequest
+asked_live r = record { program = r.program.now; conf = r.conf.now; settings = r.settings; workers = r.workers; quantum = r.quantum; log = option_map (λ s. s.now) r.log }
 
 abbrev pub asked_replay : ReplayRequest → request.ReplayRequest
 asked_replay r = record { program = r.program.now; conf = r.conf.now; log = r.log.now }
@@ -21,6 +25,7 @@ asked_plan p = record { program = p.program.now; conf = p.conf.now; metric = p.m
 
 abbrev pub asked : Request → request.Request
 asked (Run r) = request.run (asked_run r)
+asked (Live r) = request.live (asked_live r)
 asked (Replay r) = request.replay (asked_replay r)
 asked (Plan p) = request.make_plan (asked_plan p)
 asked (Asm text) = request.assemble text.now

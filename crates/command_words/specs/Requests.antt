@@ -1,8 +1,9 @@
 -- What the words ask for.
-use Rattle.std.specs.Prelude.{◌≤◌, ℕ, List, [], ◌∷◌, Option, Some, None, codes, option_map, unwrap_or}
+use Rattle.std.specs.Prelude.{◌≤◌, ℕ, Bool, false, List, [], ◌∷◌, Option, Some, None, codes, option_map, unwrap_or}
 use Rattle.std.specs.Option.{option_and_then}
+use Rattle.std.specs.Str.{bytes_eq}
 use Rattle.pn_types.specs.Settings.{AreInRange}
-use Rattle.pn_types.specs.declared.limits.TheConstants.{MAX_HARTS, MAX_QUANTUM}
+use Rattle.pn_types.specs.declared.limits.TheConstants.{MAX_HARTS, MAX_QUANTUM, MAX_WORKERS}
 use Rattle.pn_types.specs.declared.settings.Settings.{Settings}
 use Rattle.pn_types.specs.declared.settings.Start.TheVariants.{Cold}
 use Rattle.command_words.specs.Grammar.{Text, Given, given_in, taken_of}
@@ -41,6 +42,15 @@ pub record RunRequest : Type 0 where
   pub quantum : ℕ
   pub log : Option Text
 
+pub record LiveRequest : Type 0 where
+  pub program : Text
+  pub conf : Text
+  pub settings : Settings
+  -- how many workers there are
+  pub workers : ℕ
+  pub quantum : ℕ
+  pub log : Option Text
+
 pub record ReplayRequest : Type 0 where
   pub program : Text
   pub conf : Text
@@ -55,6 +65,7 @@ pub record PlanRequest : Type 0 where
 
 pub data Request : Type 0 where
   run : RunRequest → Request
+  live : LiveRequest → Request
   replay : ReplayRequest → Request
   make_plan : PlanRequest → Request
   assemble : Text → Request
@@ -74,7 +85,8 @@ run_request given =
 
 abbrev pub live_request : Given → Option Request
 live_request given =
-    option_and_then (λ settings. option_and_then (λ quantum. option_map (λ workers. later)
+    option_and_then (λ settings. option_and_then (λ quantum. option_map (λ workers.
+    live (record { program = place_in given (codes "program"); conf = place_in given (codes "conf"); settings = settings; workers = workers; quantum = quantum; log = given (codes "log") }))
     (number_given given workers_option))
     (number_given given quantum_option))
     (settings_of given)
@@ -102,9 +114,26 @@ abbrev pub request_of : List Text → Option Request
 request_of [] = None
 request_of (word ∷ words) = option_and_then (λ name. option_and_then (λ taken. request_from name (given_in taken)) (taken_of (form_of name) words)) (command_named word)
 
+-- The words begin with `live`.
+abbrev pub begins_live : List Text → Bool
+begins_live [] = false
+begins_live (word ∷ words) = bytes_eq (codes "live") word
+
+-- the request is for another command than `live`
+abbrev pub IsNotLive : Request → Type 0
+IsNotLive (run r) = Unit {0}
+IsNotLive (live r) = ⊥
+IsNotLive (replay r) = Unit {0}
+IsNotLive (make_plan p) = Unit {0}
+IsNotLive (assemble text) = Unit {0}
+IsNotLive (list_points program) = Unit {0}
+IsNotLive (relog log) = Unit {0}
+IsNotLive later = Unit {0}
+
 -- the numbers of a request are in their ranges
 abbrev pub HasRanges : Request → Type 0
 HasRanges (run r) = AreInRange r.settings × (1 ≤ r.quantum) × (r.quantum ≤ MAX_QUANTUM)
+HasRanges (live r) = AreInRange r.settings × ((1 ≤ r.workers) × (r.workers ≤ MAX_WORKERS)) × ((1 ≤ r.quantum) × (r.quantum ≤ MAX_QUANTUM))
 HasRanges (replay r) = Unit {0}
 HasRanges (make_plan p) = (1 ≤ p.harts) × (p.harts ≤ MAX_HARTS)
 HasRanges (assemble text) = Unit {0}

@@ -17,4 +17,6 @@ mod word_kind;
 pub use commands::CommandName;
 pub use logging::log_name;
 pub use matching::WordFault;
-pub use requests::{PlanRequest, ReplayRequest, Request, RunRequest, read_request};
+pub use requests::{
+    LiveRequest, PlanRequest, ReplayRequest, Request, RunRequest, begin_live, read_request,
+};

@@ -1,7 +1,7 @@
 ghost use Rattle.std.specs.Prelude.{◌≡◌, ◌≤◌, MatchResult, IfOk, IfSome, Some, None, map, option_map, string_bytes};
 ghost use Rattle.command_words.specs.Asked.{asked};
 ghost use Rattle.command_words.specs.Numbers.{number_between, number_given};
-ghost use Rattle.command_words.specs.Requests.{place_in, settings_of, run_request, live_request, plan_request, stress_request, request_from, request_of, HasRanges};
+ghost use Rattle.command_words.specs.Requests.{place_in, settings_of, run_request, live_request, plan_request, stress_request, request_from, request_of, begins_live, HasRanges};
 ghost use Rattle.command_words.specs.Walked.{option_seen};
 ghost use Rattle.pn_types.specs.Settings.{AreInRange};
 
@@ -26,6 +26,23 @@ pub struct RunRequest<'a> {
     pub settings: Settings,
     /// The seed of the order of quanta; 0 goes round.
     pub seed: u32,
+    /// The most turns of a quantum, from 1 to [`pn_types::MAX_QUANTUM`].
+    pub quantum: u32,
+    /// The name of the log's file, where one is wanted.
+    pub log: Option<&'a str>,
+}
+
+/// What `live` is asked for.
+#[derive(Clone, Copy, Drop)]
+pub struct LiveRequest<'a> {
+    /// The name of the program's file.
+    pub program: &'a str,
+    /// The name of the configuration's file.
+    pub conf: &'a str,
+    /// The numbers of the run.
+    pub settings: Settings,
+    /// How many workers there are, from 1 to [`pn_types::MAX_WORKERS`].
+    pub workers: u32,
     /// The most turns of a quantum, from 1 to [`pn_types::MAX_QUANTUM`].
     pub quantum: u32,
     /// The name of the log's file, where one is wanted.
@@ -63,6 +80,8 @@ pub struct PlanRequest<'a> {
 pub enum Request<'a> {
     /// To run a program.
     Run(RunRequest<'a>),
+    /// To run a program by workers beside each other.
+    Live(LiveRequest<'a>),
     /// To run a program again as its log says.
     Replay(ReplayRequest<'a>),
     /// To show how a metric is measured at a focus.
@@ -145,10 +164,17 @@ fn live_request<'a, G: Given<'a>>(given: &G) -> Option<Request<'a>>
     ensures request { option_map asked result ≡ live_request (G.given given.now) }
     ensures ranges { IfSome result (λ request. HasRanges (asked request)) }
 {
-    settings(given)?;
-    number_given(given, QUANTUM)?;
-    number_given(given, WORKERS)?;
-    Some(Request::Later)
+    let settings = settings(given)?;
+    let quantum = number_given(given, QUANTUM)?;
+    let workers = number_given(given, WORKERS)?;
+    Some(Request::Live(LiveRequest {
+        program: place(given, "program"),
+        conf: place(given, "conf"),
+        settings,
+        workers: workers as u32,
+        quantum: quantum as u32,
+        log: given.value("log"),
+    }))
 }
 
 fn plan_request<'a, G: Given<'a>>(given: &G) -> Option<Request<'a>>
@@ -191,6 +217,16 @@ pub fn request_from<'a, G: Given<'a>>(name: CommandName, given: &G) -> Option<Re
         CommandName::Plan => plan_request(given),
         CommandName::Stress => stress_request(given),
         CommandName::Relog => Some(Request::Relog(place(given, "record"))),
+    }
+}
+
+/// The words begin with `live`.
+pub fn begin_live(words: &[String]) -> bool
+    ensures { result ≡ begins_live (map string_bytes words.now) }
+{
+    match words.first() {
+        Some(first) => "live" == first.as_str(),
+        None => false,
     }
 }
 

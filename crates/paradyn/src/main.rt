@@ -1,7 +1,7 @@
 //! The program: it makes the real files and sinks and hands them to the top call.
 #![tactic(auto)]
 
-use outside::{FileSink, OsFiles, StdSink};
+use outside::{FileSink, OpenGate, OsFiles, StdSink};
 use paradyn_top::{Words, log_name, run_program};
 use pn_types::NoMemory;
 use std::alloc::Global;
@@ -47,5 +47,7 @@ fn main(rt: HostRuntime) -> ExitCode {
     let mut files = OsFiles::new(rt);
     let mut out = StdSink::new(rt);
     let mut log = FileSink::new(rt, name);
-    run_program(alloc, &words, &mut files, &mut out, &mut log)
+    run_program(
+        &rt, alloc, &words, &mut files, &mut out, &mut log, &OpenGate,
+    )
 }

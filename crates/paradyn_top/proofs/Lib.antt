@@ -9,3 +9,4 @@ mod Given
 mod OneDue
 mod Rising
 mod OneOwed
+mod Served

@@ -1,7 +1,10 @@
 -- What is due is unique where each file was seen as one thing.
-use Rattle.std.proofs.Common.{◌≡◌, ℕ, List, Option, Some, None, Result, Ok, Err, sym, ap, ◌∙◌}
-use Rattle.command_words.specs.Requests.{Request, RunRequest, ReplayRequest, PlanRequest, run, replay, make_plan, assemble, list_points, relog, later, request_of}
+use Rattle.std.proofs.Common.{◌≡◌, ℕ, Bool, true, false, List, Option, Some, None, Result, Ok, Err, refl, sym, ap, ◌∙◌, subst}
+use Rattle.std.specs.Prelude.{is_some}
+use Rattle.command_words.specs.Requests.{Request, RunRequest, LiveRequest, ReplayRequest, PlanRequest, run, live, replay, make_plan, assemble, list_points, relog, later, begins_live, request_of}
+use Rattle.command_words.proofs.Lives.{AskNotLive, not_live}
 use Rattle.elf_form.specs.declared.limits.TheConstants.{MAX_PROGRAM_LEN}
+use Rattle.live_run.specs.ByWorkers.{IsShared}
 use Rattle.mdl_ast.specs.declared.items.Conf.{Conf}
 use Rattle.mdl_check.specs.Checking.{OneAnswer}
 use Rattle.mdl_check.specs.declared.checked.Checked.{Checked}
@@ -17,6 +20,7 @@ use Rattle.mdl_plan.specs.declared.fault.PlanFault.TheVariants as cause
 use Rattle.pn_types.specs.declared.code.Proc.{Proc}
 use Rattle.pn_types.specs.declared.image.Image.{Image}
 use Rattle.pn_types.specs.declared.plan.Plan.{Plan}
+use Rattle.pn_types.specs.declared.settings.Settings.{Settings}
 use Rattle.pn_types.specs.declared.settings.Start.{Start}
 use Rattle.pn_types.specs.declared.settings.Start.TheVariants.{Cold, Warm}
 use Rattle.pn_types.specs.declared.code.Point.{Point}
@@ -36,21 +40,23 @@ use Rattle.session_spec.specs.Inputs.{Inputs as SessionInputs}
 use Rattle.session_spec.specs.Opening.{bad_pick}
 use Rattle.session_spec.specs.declared.data.RefusedWish.{RefusedWish}
 use Rattle.whole_run.specs.Replayed.{misfit_of}
-use Rattle.whole_run.specs.Seeded.{OneSeeded}
+use Rattle.whole_run.specs.Seeded.{IsSeeded, OneSeeded}
 use Rattle.paradyn_top.specs.Answers.{output}
-use Rattle.paradyn_top.specs.Due.{texts_of_run, IsOpened, IsRunWith, IsRun, IsRunDue, IsDueFor, IsDue}
+use Rattle.paradyn_top.specs.Due.{texts_of_run, IsPrepared, IsOpened, IsRunWith, IsRunDue, IsLiveWith, IsLiveDue, IsDueFor, IsDue}
 use Rattle.paradyn_top.specs.Found.{resources_of, IsCheck, IsFound}
 use Rattle.paradyn_top.specs.Given.{inputs_with}
 use Rattle.paradyn_top.specs.Inputs.{image_of, file_of, MeansConf, IsProgramContent, IsProgram, IsElfFile, IsConfContent, IsConfiguration, AreInputs}
 use Rattle.paradyn_top.specs.Logs.{or_bad_log, IsLog, IsLogContent, MeansLog}
 use Rattle.paradyn_top.specs.Replays.{replayed, IsReplay, IsReplayDue, IsReplayFrom, IsReplayWith}
 use Rattle.paradyn_top.specs.Plans.{metric_named, or_unknown, or_bad_focus, IsSelected, IsPlanned, IsPlanAt, IsPlan}
+use Rattle.paradyn_top.specs.Serving.{AreAlike, AreOne}
 use Rattle.paradyn_top.specs.Sights.{Sight, limited, IsContent}
 use Rattle.paradyn_top.specs.declared.configuration.TheConstants.{CONFIGURATION_LIMIT}
 use Rattle.paradyn_top.specs.declared.finding.Found.{Found}
 use Rattle.paradyn_top.specs.declared.inputs.Inputs.{Inputs}
 use Rattle.paradyn_top.specs.declared.logs.Log.{Log}
 use Rattle.paradyn_top.specs.declared.logs.TheConstants.{LOG_LIMIT}
+use Rattle.paradyn_top.specs.declared.texts.Texts.{Texts}
 
 -- the laws of what the top call's steps stand upon
 pub record Laws : Type 0 where
@@ -63,6 +69,35 @@ pub record Laws : Type 0 where
 
 equal_once : {A : Type 0} (value : Result A Fault) → IsOne (λ r. r ≡ value)
 equal_once value a b e f = e ∙ sym f
+
+-- ---- answers that are alike
+
+pub of_same : (a b : Result Texts Fault) → a ≡ b → AreAlike a b
+of_same (Ok x) (Ok y) e = tt
+of_same (Ok x) (Err g) e = absurd (cc)
+of_same (Err f) (Ok y) e = absurd (cc)
+of_same (Err f) (Err g) e = cc
+
+alike_then : {A : Type 0} (first : Step A) (next : A → Step Texts) → IsOne first → ((a : A) (r s : Result Texts Fault) → next a r → next a s → AreAlike r s) → (r s : Result Texts Fault) → Then first next r → Then first next s → AreAlike r s
+alike_then first next one each r s (Ok a, f, n) (Ok b, g, m) =
+    let same = one (Ok a) (Ok b) f g in
+    let value : b ≡ a = cc in
+    each a r s n (subst (λ x. next x s) value m)
+alike_then first next one each r s (Ok a, f, n) (Err e, g, m) = let same = one (Ok a) (Err e) f g in absurd cc
+alike_then first next one each r s (Err e, f, n) (Ok b, g, m) = let same = one (Err e) (Ok b) f g in absurd cc
+alike_then first next one each r s (Err e, f, n) (Err d, g, m) =
+    let same = one (Err e) (Err d) f g in
+    let fault : e ≡ d = cc in
+    of_same r s (n ∙ ap (λ x. Err x) fault ∙ sym m)
+
+opened_alike : (pick : Option RefusedWish) (logged : Bool) (i : SessionInputs) (AreRight : List Quantum → Type 0) (a b : Result Texts Fault) → IsOpened pick logged i AreRight a → IsOpened pick logged i AreRight b → AreAlike a b
+opened_alike None logged i AreRight (Ok x) (Ok y) d e = tt
+opened_alike None logged i AreRight (Ok x) (Err g) d (others, right, f) = absurd (cc)
+opened_alike None logged i AreRight (Err f) b (quanta, right, e) d = absurd (cc)
+opened_alike (Some wish) logged i AreRight a b d e = of_same a b (d ∙ sym e)
+
+live_alike : (r : LiveRequest) (i : SessionInputs) (a b : Result Texts Fault) → IsLiveWith r i a → IsLiveWith r i b → AreAlike a b
+live_alike r i = opened_alike (bad_pick i) (is_some r.log) i (IsShared i r.workers r.quantum)
 
 -- ---- configurations
 
@@ -157,13 +192,12 @@ module _ (laws : Laws) where
 
   -- ---- runs
 
-  opened_once : (pick : Option RefusedWish) (r : RunRequest) (image : Image) (i : SessionInputs) → IsOne (IsOpened pick r image i)
-  opened_once None r image i a b (quanta, seeded, e) (others, seeded', f) =
-      e ∙ ap (λ (l : List Quantum). Ok (texts_of_run r image i l)) (laws.seeded i r.seed r.quantum quanta others seeded seeded') ∙ sym f
-  opened_once (Some wish) r image i a b e f = e ∙ sym f
+  opened_once : (pick : Option RefusedWish) (logged : Bool) (i : SessionInputs) (AreRight : List Quantum → Type 0) → ((quanta others : List Quantum) → AreRight quanta → AreRight others → quanta ≡ others) → IsOne (IsOpened pick logged i AreRight)
+  opened_once None logged i AreRight one a b (quanta, right, e) (others, right', f) = e ∙ ap (λ (l : List Quantum). Ok (texts_of_run logged i l)) (one quanta others right right') ∙ sym f
+  opened_once (Some wish) logged i AreRight one a b e f = e ∙ sym f
 
-  run_once : (r : RunRequest) (image : Image) (i : SessionInputs) → IsOne (IsRunWith r image i)
-  run_once r image i a b e f = opened_once (bad_pick i) r image i a b e f
+  run_once : (r : RunRequest) (i : SessionInputs) → IsOne (IsRunWith r i)
+  run_once r i = opened_once (bad_pick i) (is_some r.log) i (IsSeeded i r.seed r.quantum) (laws.seeded i r.seed r.quantum)
 
   -- ---- logs
 
@@ -191,11 +225,17 @@ module _ (laws : Laws) where
         (λ image. one_then (IsConfiguration sees conf) (ended image) (one_then (IsConfContent sees conf) MeansConf (content_once CONFIGURATION_LIMIT (BadConf (fault_at 0 0 TooLongConf)) conf) conf_once)
         (λ c. equal_once (Ok (record { image = image; conf = c }))))
 
+    prepared_once : (program conf : List ℕ) (settings : Settings) → IsOne (IsPrepared program conf settings sees)
+    prepared_once program conf settings =
+        let ended : Inputs → Found → Step SessionInputs = λ read found i. i ≡ Ok (inputs_with read.image found settings) in
+        one_then (AreInputs sees program conf) (λ read. Then (IsFound read.image settings.harts read.conf) (ended read)) (inputs_once program conf)
+        (λ read. one_then (IsFound read.image settings.harts read.conf) (ended read) (found_once read.image settings.harts read.conf) (λ found. equal_once (Ok (inputs_with read.image found settings))))
+
     run_due_once : (r : RunRequest) → IsOne (IsRunDue r sees)
-    run_due_once r =
-        one_then (AreInputs sees r.program r.conf) (λ i. Then (IsFound i.image r.settings.harts i.conf) (IsRun r i.image)) (inputs_once r.program r.conf)
-        (λ i. one_then (IsFound i.image r.settings.harts i.conf) (IsRun r i.image) (found_once i.image r.settings.harts i.conf)
-        (λ found. run_once r i.image (inputs_with i.image found r.settings)))
+    run_due_once r = one_then (IsPrepared r.program r.conf r.settings sees) (IsRunWith r) (prepared_once r.program r.conf r.settings) (run_once r)
+
+    live_due_alike : (r : LiveRequest) (a b : Result Texts Fault) → IsLiveDue r sees a → IsLiveDue r sees b → AreAlike a b
+    live_due_alike r = alike_then (IsPrepared r.program r.conf r.settings sees) (IsLiveWith r) (prepared_once r.program r.conf r.settings) (live_alike r)
 
     log_once : (name : List ℕ) → IsOne (IsLog sees name)
     log_once name = one_then (IsLogContent sees name) MeansLog (content_once LOG_LIMIT (BadLog LOG_LIMIT TooLongLog) name) (λ bytes. equal_once (or_bad_log bytes (meaning_of bytes)))
@@ -205,19 +245,35 @@ module _ (laws : Laws) where
         one_then (AreInputs sees r.program r.conf) (λ i. Then (IsLog sees r.log) (λ log. IsReplayFrom log.settings.start log i)) (inputs_once r.program r.conf)
         (λ i. one_then (IsLog sees r.log) (λ log. IsReplayFrom log.settings.start log i) (log_once r.log) (λ log. replay_from_once log.settings.start log i))
 
-    due_for_once : (asked : Option Request) → IsOne (IsDueFor asked sees)
-    due_for_once None = equal_once (Err Usage)
-    due_for_once (Some (run r)) = run_due_once r
-    due_for_once (Some (replay r)) = replay_due_once r
-    due_for_once (Some (make_plan p)) =
+    due_for_once : (asked : Option Request) → AskNotLive asked → IsOne (IsDueFor asked sees)
+    due_for_once None other = equal_once (Err Usage)
+    due_for_once (Some (run r)) other = run_due_once r
+    due_for_once (Some (live r)) other = absurd other
+    due_for_once (Some (replay r)) other = replay_due_once r
+    due_for_once (Some (make_plan p)) other =
         one_then (AreInputs sees p.program p.conf) (λ i. Then (IsFound i.image p.harts i.conf) (IsPlan p)) (inputs_once p.program p.conf)
         (λ i. one_then (IsFound i.image p.harts i.conf) (IsPlan p) (found_once i.image p.harts i.conf) (plan_once p))
-    due_for_once (Some (list_points name)) = one_then (IsProgram sees name) _ (program_once name) (λ image. equal_once _)
-    due_for_once (Some (assemble name)) =
+    due_for_once (Some (list_points name)) other = one_then (IsProgram sees name) _ (program_once name) (λ image. equal_once _)
+    due_for_once (Some (assemble name)) other =
         one_then (IsElfFile sees name) (λ file texts. texts ≡ Ok (output file))
         (one_then (IsProgramContent sees name) (λ bytes file. file ≡ file_of bytes) (content_once MAX_PROGRAM_LEN (BadProgram TooLong) name) (λ bytes. equal_once (file_of bytes))) (λ file. equal_once (Ok (output file)))
-    due_for_once (Some (relog name)) = one_then (IsLog sees name) _ (log_once name) (λ log. equal_once _)
-    due_for_once (Some later) = equal_once (Err NotYet)
+    due_for_once (Some (relog name)) other = one_then (IsLog sees name) _ (log_once name) (λ log. equal_once _)
+    due_for_once (Some later) other = equal_once (Err NotYet)
 
-    pub due_once : (words : List (List ℕ)) → IsOne (IsDue words sees)
-    due_once words = due_for_once (request_of words)
+    due_for_alike : (asked : Option Request) (a b : Result Texts Fault) → IsDueFor asked sees a → IsDueFor asked sees b → AreAlike a b
+    due_for_alike None a b d e = of_same a b (due_for_once None tt a b d e)
+    due_for_alike (Some (run r)) a b d e = of_same a b (due_for_once (Some (run r)) tt a b d e)
+    due_for_alike (Some (live r)) a b d e = live_due_alike r a b d e
+    due_for_alike (Some (replay r)) a b d e = of_same a b (due_for_once (Some (replay r)) tt a b d e)
+    due_for_alike (Some (make_plan p)) a b d e = of_same a b (due_for_once (Some (make_plan p)) tt a b d e)
+    due_for_alike (Some (list_points name)) a b d e = of_same a b (due_for_once (Some (list_points name)) tt a b d e)
+    due_for_alike (Some (assemble name)) a b d e = of_same a b (due_for_once (Some (assemble name)) tt a b d e)
+    due_for_alike (Some (relog name)) a b d e = of_same a b (due_for_once (Some (relog name)) tt a b d e)
+    due_for_alike (Some later) a b d e = of_same a b (due_for_once (Some later) tt a b d e)
+
+    by_kind : (words : List (List ℕ)) (is : Bool) → begins_live words ≡ is → (a b : Result Texts Fault) → IsDue words sees a → IsDue words sees b → AreOne is a b
+    by_kind words true e a b due other = due_for_alike (request_of words) a b due other
+    by_kind words false e a b due other = due_for_once (request_of words) (not_live words e) a b due other
+
+    pub due_once : (words : List (List ℕ)) (a b : Result Texts Fault) → IsDue words sees a → IsDue words sees b → AreOne (begins_live words) a b
+    due_once words = by_kind words (begins_live words) refl

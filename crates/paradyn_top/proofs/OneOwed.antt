@@ -1,17 +1,18 @@
--- Over files that are told one answer is owed.
+-- Over files that are told one answer is owed; under `live` the texts may be others.
 use Rattle.std.proofs.Common.{◌≡◌, ◌≢◌, ℕ, ◌+◌, ◌-◌, ◌^◌, ◌<◌, List, Some, None, Bool, true, false, Result, Ok, Err, refl, sym, ap, ◌∙◌, arith}
 use Rattle.std.proofs.Math.Nat.{min-eq_left}
 use Rattle.std.proofs.lemmas.Slice.Eq.{bytes_eq-Decides}
 use Rattle.std.specs.Prelude.{IsSome}
 use Rattle.std.specs.Str.{bytes_eq}
+use Rattle.command_words.specs.Requests.{begins_live}
 use Rattle.outside.specs.Causes.{count_up, Rose}
 use Rattle.outside.specs.Outside.{Holding, IsWhole, IsCalm}
 use Rattle.refusals.proofs.Steps.{IsOne}
 use Rattle.refusals.specs.declared.fault.Fault.{Fault}
 use Rattle.refusals.specs.declared.fault.Fault.TheVariants.{Usage, FileFault, BadProgram, BadConf, BadPick, BadLog, NotYet}
-use Rattle.paradyn_top.proofs.OneDue.{Laws, due_once}
+use Rattle.paradyn_top.proofs.OneDue.{Laws, due_once, of_same}
 use Rattle.paradyn_top.proofs.Rising.{NotFile, rises}
-use Rattle.paradyn_top.specs.Serving.{IsOwed, AreTold}
+use Rattle.paradyn_top.specs.Serving.{AreOne, AreTold, IsOwed}
 use Rattle.paradyn_top.specs.Sights.{seen, Counted}
 use Rattle.paradyn_top.specs.declared.texts.Texts.{Texts}
 
@@ -59,7 +60,14 @@ module _ {F : Type 0} (holds : F → List ℕ → Holding) (faults : F → List 
     abbrev Owed : Result Texts Fault → Type 0
     Owed = IsOwed holds faults old new words
 
-    calm_once : IsCalm faults old new → (a b : Result Texts Fault) → Owed a → Owed b → a ≡ b
+    abbrev Same : Result Texts Fault → Result Texts Fault → Type 0
+    Same = AreOne (begins_live words)
+
+    of_equal : (live : Bool) (a b : Result Texts Fault) → a ≡ b → AreOne live a b
+    of_equal true a b e = of_same a b e
+    of_equal false a b e = e
+
+    calm_once : IsCalm faults old new → (a b : Result Texts Fault) → Owed a → Owed b → Same a b
     calm_once calm a b owed other = due_once laws (seen (holds old) (faults old) (faults new)) (seen_once calm) words a b owed.due other.due
 
     risen : (name : List ℕ) → Owed (Err (FileFault name)) → Rose (faults old name) (faults new name)
@@ -74,12 +82,13 @@ module _ {F : Type 0} (holds : F → List ℕ → Holding) (faults : F → List 
     abbrev refused : Fault → Result Texts Fault
     refused fault = Err fault
 
-    fault_once : (f g : Fault) → Naming f → Naming g → Owed (refused f) → Owed (refused g) → refused f ≡ refused g
+    fault_once : (f g : Fault) → Naming f → Naming g → Owed (refused f) → Owed (refused g) → Same (refused f) (refused g)
     fault_once f g (Other e h) y a b = calm_once (calm_of f h a.counts) (Err f) (Err g) a b
     fault_once f g (File m) (Other e h) a b = absurd (not_risen (faults old m) (faults new m) (told m).1 (calm_of g h b.counts m) (risen m a))
-    fault_once f g (File m) (File n) a b = ap (λ (name : List ℕ). refused (FileFault name)) (same_name m n a b (bytes_eq m n) refl)
+    fault_once f g (File m) (File n) a b =
+        of_equal (begins_live words) (refused (FileFault m)) (refused (FileFault n)) (ap (λ (name : List ℕ). refused (FileFault name)) (same_name m n a b (bytes_eq m n) refl))
 
-    pub owed_once : (a b : Result Texts Fault) → Owed a → Owed b → a ≡ b
+    pub owed_once : (a b : Result Texts Fault) → Owed a → Owed b → Same a b
     owed_once (Ok x) b owed other = calm_once owed.counts (Ok x) b owed other
     owed_once (Err f) (Ok y) owed other = calm_once other.counts (Err f) (Ok y) owed other
     owed_once (Err f) (Err g) owed other = fault_once f g (naming f) (naming g) owed other

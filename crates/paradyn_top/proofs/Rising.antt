@@ -1,11 +1,12 @@
 -- The count of faults of a file that the answer names as unread has risen.
 use Rattle.std.proofs.Common.{◌≡◌, ℕ, List, length, Option, Some, None, Bool, true, false, cond, Result, Ok, Err, sym, subst}
-use Rattle.std.specs.Prelude.{⊤, nat_lt}
+use Rattle.std.specs.Prelude.{⊤, is_some, nat_lt}
 use Rattle.asm_file.specs.Made.{elf_of}
-use Rattle.command_words.specs.Requests.{Request, RunRequest, ReplayRequest, PlanRequest, run, replay, make_plan, assemble, list_points, relog, later, request_of}
+use Rattle.command_words.specs.Requests.{Request, RunRequest, LiveRequest, ReplayRequest, PlanRequest, run, live, replay, make_plan, assemble, list_points, relog, later, request_of}
 use Rattle.elf_form.specs.Meaning.{meaning_of}
 use Rattle.elf_form.specs.declared.fault.ElfFault.{ElfFault}
 use Rattle.elf_form.specs.declared.limits.TheConstants.{MAX_PROGRAM_LEN}
+use Rattle.live_run.specs.ByWorkers.{IsShared}
 use Rattle.mdl_ast.specs.declared.items.Conf.{Conf}
 use Rattle.mdl_ast.specs.declared.metric.Metric.{Metric}
 use Rattle.mdl_plan.specs.Plans.{plan_of}
@@ -39,11 +40,12 @@ use Rattle.session_spec.specs.Inputs.{Inputs as SessionInputs}
 use Rattle.session_spec.specs.Opening.{bad_pick}
 use Rattle.session_spec.specs.declared.data.RefusedWish.{RefusedWish}
 use Rattle.whole_run.specs.Replayed.{misfit_of}
+use Rattle.whole_run.specs.Seeded.{IsSeeded}
 use Rattle.whole_run.specs.declared.misfit.Misfit.{Misfit}
 use Rattle.whole_run.specs.declared.misfit.Misfit.TheVariants as misfit
 use Rattle.paradyn_top.specs.Given.{inputs_with}
 use Rattle.paradyn_top.specs.Answers.{output}
-use Rattle.paradyn_top.specs.Due.{IsOpened, IsRunWith, IsRun, IsRunDue, IsDueFor, IsDue}
+use Rattle.paradyn_top.specs.Due.{IsPrepared, IsOpened, IsRunWith, IsRunDue, IsLiveWith, IsLiveDue, IsDueFor, IsDue}
 use Rattle.paradyn_top.specs.Found.{resources_of, IsCheck, IsFound}
 use Rattle.paradyn_top.specs.Inputs.{begins_elf, or_bad_elf, or_bad_text, image_of, file_of, MeansConf, IsProgramContent, IsProgram, IsElfFile, IsConfContent, IsConfiguration, AreInputs}
 use Rattle.paradyn_top.specs.Logs.{or_bad_log, IsLog, IsLogContent, MeansLog}
@@ -114,12 +116,9 @@ plan_spared metric focus (Err (cause.NoConstraint axis)) name e = cc
 plan_spared metric focus (Err (cause.TooManySites n)) name e = cc
 plan_spared metric focus (Err (cause.TooManyStmts at)) name e = cc
 
-opened_spared : (pick : Option RefusedWish) (r : RunRequest) (image : Image) (i : SessionInputs) (name : List ℕ) → IsOpened pick r image i (Err (FileFault name)) → ⊥
-opened_spared None r image i name (quanta, seeded, e) = cc
-opened_spared (Some wish) r image i name e = cc
-
-run_spared : (r : RunRequest) (image : Image) (i : SessionInputs) (name : List ℕ) → IsRunWith r image i (Err (FileFault name)) → ⊥
-run_spared r image i name e = opened_spared (bad_pick i) r image i name e
+opened_spared : (pick : Option RefusedWish) (logged : Bool) (i : SessionInputs) (AreRight : List Quantum → Type 0) (name : List ℕ) → IsOpened pick logged i AreRight (Err (FileFault name)) → ⊥
+opened_spared None logged i AreRight name (quanta, right, e) = cc
+opened_spared (Some wish) logged i AreRight name e = cc
 
 log_spared : (bytes : List ℕ) (r : Result (Settings × List Quantum) LogFault) → Spares (or_bad_log bytes r)
 log_spared bytes (Ok log) = tt
@@ -195,13 +194,22 @@ module _ (holds : List ℕ → Holding) (before now : List ℕ → ℕ) (name : 
   no_usage : due_texts (FileFault name) ≡ due_texts Usage → Rises
   no_usage e = absurd (cc)
 
+  at_prepared : (program conf : List ℕ) (settings : Settings) → IsPrepared program conf settings sees (Err (FileFault name)) → Rises
+  at_prepared program conf settings =
+      let ended : Inputs → Found → Result SessionInputs Fault → Type 0 = λ read found i. i ≡ Ok (inputs_with read.image found settings) in
+      of_either Rises (AreInputs sees program conf) (λ read. Then (IsFound read.image settings.harts read.conf) (ended read)) (FileFault name) (at_inputs program conf)
+      (λ read. of_either Rises (IsFound read.image settings.harts read.conf) (ended read) (FileFault name)
+      (λ wrong. absurd (check_spared (resources_of read.image settings.harts read.conf) read.conf name wrong)) (λ found e. absurd (cc)))
+
   at_run : (r : RunRequest) → IsRunDue r sees (Err (FileFault name)) → Rises
   at_run r =
-      of_either Rises (AreInputs sees r.program r.conf) (λ i. Then (IsFound i.image r.settings.harts i.conf) (IsRun r i.image)) (FileFault name)
-      (at_inputs r.program r.conf)
-      (λ i. of_either Rises (IsFound i.image r.settings.harts i.conf) (IsRun r i.image) (FileFault name)
-      (λ wrong. absurd (check_spared (resources_of i.image r.settings.harts i.conf) i.conf name wrong))
-      (λ found e. absurd (run_spared r i.image (inputs_with i.image found r.settings) name e)))
+      of_either Rises (IsPrepared r.program r.conf r.settings sees) (IsRunWith r) (FileFault name) (at_prepared r.program r.conf r.settings)
+      (λ i e. absurd (opened_spared (bad_pick i) (is_some r.log) i (IsSeeded i r.seed r.quantum) name e))
+
+  at_live : (r : LiveRequest) → IsLiveDue r sees (Err (FileFault name)) → Rises
+  at_live r =
+      of_either Rises (IsPrepared r.program r.conf r.settings sees) (IsLiveWith r) (FileFault name) (at_prepared r.program r.conf r.settings)
+      (λ i e. absurd (opened_spared (bad_pick i) (is_some r.log) i (IsShared i r.workers r.quantum) name e))
 
   at_log : (other : List ℕ) → IsLog sees other (Err (FileFault name)) → Rises
   at_log other =
@@ -223,6 +231,7 @@ module _ (holds : List ℕ → Holding) (before now : List ℕ → ℕ) (name : 
   at_request : (asked : Option Request) → IsDueFor asked sees (Err (FileFault name)) → Rises
   at_request None = no_usage
   at_request (Some (run r)) = at_run r
+  at_request (Some (live r)) = at_live r
   at_request (Some (replay r)) = at_replay r
   at_request (Some (make_plan p)) =
       of_either Rises (AreInputs sees p.program p.conf) (λ i. Then (IsFound i.image p.harts i.conf) (IsPlan p)) (FileFault name) (at_inputs p.program p.conf)

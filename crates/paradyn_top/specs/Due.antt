@@ -1,9 +1,10 @@
 -- What the top call owes for words and files.
-use Rattle.std.specs.Prelude.{◌≡◌, ℕ, is_some, List, Option, None, Some, Ok, Err}
+use Rattle.std.specs.Prelude.{◌≡◌, ℕ, Bool, is_some, List, Option, None, Some, Ok, Err}
 use Rattle.code_points.specs.Points.{points_of}
 use Rattle.code_points.specs.Procedures.{procedures_of, skipped_of}
-use Rattle.command_words.specs.Requests.{Request, RunRequest, PlanRequest, run, replay, make_plan, assemble, list_points, relog, later, request_of}
-use Rattle.pn_types.specs.declared.image.Image.{Image}
+use Rattle.command_words.specs.Requests.{Request, RunRequest, LiveRequest, PlanRequest, run, live, replay, make_plan, assemble, list_points, relog, later, request_of}
+use Rattle.live_run.specs.ByWorkers.{IsShared}
+use Rattle.pn_types.specs.declared.settings.Settings.{Settings}
 use Rattle.refusals.specs.Refusals.{Step, Then}
 use Rattle.quanta_log.specs.declared.quantum.Quantum.{Quantum}
 use Rattle.refusals.specs.declared.fault.Fault.TheVariants.{Usage, NotYet}
@@ -20,29 +21,37 @@ use Rattle.paradyn_top.specs.Inputs.{IsProgram, IsElfFile, AreInputs}
 use Rattle.paradyn_top.specs.Plans.{IsPlan}
 use Rattle.paradyn_top.specs.Replays.{IsRelogDue, IsReplayDue}
 use Rattle.paradyn_top.specs.Sights.{Sight}
-use Rattle.paradyn_top.specs.declared.finding.Found.{Found}
 use Rattle.paradyn_top.specs.declared.texts.Texts.{Texts}
 
--- ---- run
+-- ---- run and live
+
+-- A program and a configuration, as a session is given them.
+abbrev pub IsPrepared : List ℕ → List ℕ → Settings → Sight → Step Inputs
+IsPrepared program conf settings sees =
+    Then (AreInputs sees program conf) (λ read. Then (IsFound read.image settings.harts read.conf) (λ found i. i ≡ Ok (inputs_with read.image found settings)))
 
 -- the report of these quanta, and their log if one is asked for
-abbrev pub texts_of_run : RunRequest → Image → Inputs → List Quantum → Texts
-texts_of_run r image i quanta = record { out = report_of i quanta (skipped_of image); log = log_of (is_some r.log) i quanta }
+abbrev pub texts_of_run : Bool → Inputs → List Quantum → Texts
+texts_of_run logged i quanta = record { out = report_of i quanta (skipped_of i.image); log = log_of logged i quanta }
 
--- those of the whole list of quanta in the order of the seed; or the first wish at tick 0 that is refused
-abbrev pub IsOpened : Option RefusedWish → RunRequest → Image → Inputs → Step Texts
-IsOpened None r image i texts = (quanta : List Quantum) × IsSeeded i r.seed r.quantum quanta × (texts ≡ Ok (texts_of_run r image i quanta))
-IsOpened (Some wish) r image i texts = texts ≡ Err (pick_fault i wish)
+-- Those of a list of quanta as it must be; or the first wish at tick 0 that is refused.
+abbrev pub IsOpened : Option RefusedWish → Bool → Inputs → (List Quantum → Type 0) → Step Texts
+IsOpened None logged i AreRight texts = (quanta : List Quantum) × AreRight quanta × (texts ≡ Ok (texts_of_run logged i quanta))
+IsOpened (Some wish) logged i AreRight texts = texts ≡ Err (pick_fault i wish)
 
-abbrev pub IsRunWith : RunRequest → Image → Inputs → Step Texts
-IsRunWith r image i = IsOpened (bad_pick i) r image i
+-- the whole list of quanta in the order of the seed
+abbrev pub IsRunWith : RunRequest → Inputs → Step Texts
+IsRunWith r i = IsOpened (bad_pick i) (is_some r.log) i (IsSeeded i r.seed r.quantum)
 
--- a run of the image with what was found of it
-abbrev pub IsRun : RunRequest → Image → Found → Step Texts
-IsRun r image found = IsRunWith r image (inputs_with image found r.settings)
+-- a whole list of quanta that the workers shared
+abbrev pub IsLiveWith : LiveRequest → Inputs → Step Texts
+IsLiveWith r i = IsOpened (bad_pick i) (is_some r.log) i (IsShared i r.workers r.quantum)
 
 abbrev pub IsRunDue : RunRequest → Sight → Step Texts
-IsRunDue r sees = Then (AreInputs sees r.program r.conf) (λ i. Then (IsFound i.image r.settings.harts i.conf) (IsRun r i.image))
+IsRunDue r sees = Then (IsPrepared r.program r.conf r.settings sees) (IsRunWith r)
+
+abbrev pub IsLiveDue : LiveRequest → Sight → Step Texts
+IsLiveDue r sees = Then (IsPrepared r.program r.conf r.settings sees) (IsLiveWith r)
 
 -- ---- the other commands
 
@@ -63,6 +72,7 @@ IsAssembled name sees = Then (IsElfFile sees name) (λ file texts. texts ≡ Ok 
 abbrev pub IsDueFor : Option Request → Sight → Step Texts
 IsDueFor None sees texts = texts ≡ Err Usage
 IsDueFor (Some (run r)) sees texts = IsRunDue r sees texts
+IsDueFor (Some (live r)) sees texts = IsLiveDue r sees texts
 IsDueFor (Some (replay r)) sees texts = IsReplayDue r sees texts
 IsDueFor (Some (make_plan p)) sees texts = IsPlanDue p sees texts
 IsDueFor (Some (list_points name)) sees texts = ArePoints name sees texts

@@ -1,8 +1,11 @@
 -- What the top call leaves in its sinks.
-use Rattle.std.specs.Prelude.{◌≡◌, ◌⊎◌, ℕ, ◌<◌, ◌-◌, ◌^◌, IsSome, List, [], map, string_bytes, Option, Some, None, Result, Err}
+use Rattle.std.specs.Prelude.{◌≡◌, ◌⊎◌, ℕ, ◌<◌, ◌-◌, ◌^◌, IsSome, Bool, true, false, List, [], map, string_bytes, Option, Some, None, Result, Ok, Err}
+use Rattle.command_words.specs.Requests.{begins_live}
 use Rattle.outside.specs.Outside.{Holding, IsCalm}
 use Rattle.refusals.specs.declared.fault.Fault.{Fault}
 use Rattle.refusals.specs.declared.fault.Fault.TheVariants.{FileFault}
+use Rattle.refusals.specs.declared.refusal.Refusal.{Refusal}
+use Rattle.refusals.specs.declared.refusal.Refusal.TheVariants as refusal
 use Rattle.paradyn_top.specs.Answers.{status_of, texts_of}
 use Rattle.paradyn_top.specs.Delivery.{IsTorn, Gained}
 use Rattle.paradyn_top.specs.Due.{IsDue}
@@ -23,10 +26,22 @@ pub record IsOwed {F : Type 0} (holds : F → List ℕ → Holding) (faults : F 
 abbrev pub AreTold : {F : Type 0} → (F → List ℕ → Holding) → (F → List ℕ → ℕ) → F → Type 0
 AreTold holds faults files = (name : List ℕ) → IsSome (holds files name) × (faults files name < 2 ^ 64 - 1)
 
--- Over files that are told one answer is owed.
+-- two answers are both texts, or the same
+abbrev pub AreAlike : Result Texts Fault → Result Texts Fault → Type 0
+AreAlike (Ok texts) (Ok others) = Unit {0}
+AreAlike (Ok texts) (Err fault) = ⊥
+AreAlike (Err fault) (Ok texts) = ⊥
+AreAlike (Err fault) (Err other) = fault ≡ other
+
+-- under `live` they are alike, and else the same
+abbrev pub AreOne : Bool → Result Texts Fault → Result Texts Fault → Type 0
+AreOne true a b = AreAlike a b
+AreOne false a b = a ≡ b
+
+-- Over files that are told one answer is owed; under `live` the texts may be others.
 abbrev pub OneOwed : {F : Type 0} → (F → List ℕ → Holding) → (F → List ℕ → ℕ) → Type 0
 OneOwed {F} holds faults = (old new : F) (words : List (List ℕ)) (a b : Result Texts Fault) →
-    AreTold holds faults old → IsOwed holds faults old new words a → IsOwed holds faults old new words b → a ≡ b
+    AreTold holds faults old → IsOwed holds faults old new words a → IsOwed holds faults old new words b → AreOne (begins_live words) a b
 
 -- Nothing was read beyond what is due: no count of faults rose, or the answer that is due names a file as unread.
 abbrev pub IsUntold : {F : Type 0} → (F → List ℕ → Holding) → (F → List ℕ → ℕ) → F → F → List (List ℕ) → Type 0
@@ -47,6 +62,12 @@ abbrev pub words_read : Words → Option (List (List ℕ))
 words_read (Read words) = Some (map string_bytes words.items)
 words_read NotText = Some []
 words_read NoMemory = None
+
+-- for proofs alone: what an answer comes to, where memory wasn't wanting
+abbrev pub told_of : Result Texts Refusal → Option (Result Texts Fault)
+told_of (Ok texts) = Some (Ok texts)
+told_of (Err (refusal.Fault fault)) = Some (Err fault)
+told_of (Err refusal.NoMemory) = None
 
 -- for proofs alone: the status and the bytes of an answer
 pub record IsReply (answer : Result Texts Fault) (reply : Reply) : Type 0 where

@@ -1,34 +1,39 @@
 //! The answers for requests and words.
 
-ghost use Rattle.std.specs.Prelude.{◌≡◌, Some, map, string_bytes};
+ghost use Rattle.std.specs.Prelude.{◌≡◌, false, Some, map, string_bytes};
 ghost use Rattle.command_words.specs.Asked.{asked};
-ghost use Rattle.command_words.specs.Requests.{HasRanges};
+ghost use Rattle.command_words.specs.Requests.{begins_live, HasRanges, IsNotLive};
 ghost use Rattle.paradyn_top.specs.Due.{IsDue, IsDueFor};
 ghost use Rattle.paradyn_top.specs.Sights.{seen, Looks};
 ghost use Rattle.refusals.specs.Refusals.{Comes};
 
 use crate::listing::{list_points, write_elf};
+use crate::live::live;
 use crate::planning::show_plan;
 use crate::replaying::{relog, replay};
 use crate::running::run;
 use crate::texts::Texts;
 use command_words::{Request, WordFault, read_request};
-use outside::Files;
+use outside::{Files, Gate};
 use refusals::{Fault, Refusal};
 use std::alloc::Global;
+use std::sync::Wait;
+use std::thread::Threads;
 
-/// What is due for a request.
+/// What is due for a request that isn't for workers.
 fn answer_request<F: Files>(
     alloc: Global,
     request: &Request<'_>,
     files: &mut F,
 ) -> Result<Texts, Refusal>
-    requires { HasRanges (asked request.now) }
+    requires ranges { HasRanges (asked request.now) }
+    requires other { IsNotLive (asked request.now) }
     ensures due { Comes result (IsDueFor (Some (asked request.now)) (seen (F.holds files.old) (F.faults files.old) (F.faults files.new))) }
     ensures looks { Looks F.holds F.faults files.old files.new result }
 {
     match request {
         Request::Run(request) => run(alloc, request, files),
+        Request::Live(_) => unreachable!(),
         Request::Replay(request) => replay(alloc, request, files),
         Request::Plan(request) => show_plan(alloc, request, files),
         Request::Points(program) => list_points(alloc, program, files),
@@ -38,16 +43,36 @@ fn answer_request<F: Files>(
     }
 }
 
-/// What is due for words.
+/// What is due for words that don't begin with `live`.
 pub(crate) fn answer<F: Files>(
     alloc: Global,
     words: &[String],
     files: &mut F,
 ) -> Result<Texts, Refusal>
+    requires { begins_live (map string_bytes words.now) ≡ false }
     ensures due { Comes result (IsDue (map string_bytes words.now) (seen (F.holds files.old) (F.faults files.old) (F.faults files.new))) }
     ensures looks { Looks F.holds F.faults files.old files.new result }
 {
     match read_request(alloc, words) {
+        Ok(request) => answer_request(alloc, &request, files),
+        Err(WordFault::Usage) => Err(Refusal::Fault(Fault::Usage)),
+        Err(WordFault::NoMemory) => Err(Refusal::NoMemory),
+    }
+}
+
+/// What is due for words, and `live`'s are among them.
+pub(crate) fn answer_live<F: Files, R: Threads + Wait + Sync, G: Gate + Sync>(
+    rt: &R,
+    alloc: Global,
+    words: &[String],
+    files: &mut F,
+    gate: &G,
+) -> Result<Texts, Refusal>
+    ensures due { Comes result (IsDue (map string_bytes words.now) (seen (F.holds files.old) (F.faults files.old) (F.faults files.new))) }
+    ensures looks { Looks F.holds F.faults files.old files.new result }
+{
+    match read_request(alloc, words) {
+        Ok(Request::Live(request)) => live(rt, alloc, &request, files, gate),
         Ok(request) => answer_request(alloc, &request, files),
         Err(WordFault::Usage) => Err(Refusal::Fault(Fault::Usage)),
         Err(WordFault::NoMemory) => Err(Refusal::NoMemory),

@@ -3,10 +3,8 @@
 ghost use Rattle.std.specs.Prelude.{◌≡◌, ◌<◌, ◌≤◌, ◌^◌, IfOk, Ok, Err, length, map};
 ghost use Rattle.std.specs.List.{AllByRecursion};
 ghost use Rattle.std.specs.List.Sorted.{IsStrictlyIncreasing};
-ghost use Rattle.code_points.specs.Points.{points_of};
 ghost use Rattle.code_points.specs.Procedures.{procedures_of, AreModulesGood, AreProcsOf};
 ghost use Rattle.mdl_ast.specs.Small.{HasSmall};
-ghost use Rattle.mdl_check.specs.Checking.{IsAnswer};
 ghost use Rattle.mdl_check.specs.Sound.{IsSound};
 ghost use Rattle.mdl_check.specs.Spots.{spots};
 ghost use Rattle.mdl_parse.specs.Shipped.{shipped_conf};

@@ -1,6 +1,6 @@
 //! What commands read: programs and configurations.
 
-ghost use Rattle.std.specs.Prelude.{◌≡◌, ◌≤◌, IfOk, length};
+ghost use Rattle.std.specs.Prelude.{◌≤◌, IfOk, length};
 ghost use Rattle.std.specs.List.{AllByRecursion};
 ghost use Rattle.code_points.specs.Procedures.{AreModulesGood};
 ghost use Rattle.mdl_ast.specs.Small.{HasSmall};

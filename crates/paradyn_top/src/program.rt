@@ -6,10 +6,12 @@ ghost use Rattle.paradyn_top.specs.Serving.{IsOwed, IsUntold, AreGained, AreTorn
 ghost use Rattle.paradyn_top.specs.declared.texts.Texts.{Texts as texts};
 ghost use Rattle.refusals.specs.declared.fault.Fault.{Fault as fault};
 
-use crate::top::serve;
-use outside::{Files, Sink};
+use crate::top::paradyn;
+use outside::{Files, Gate, Sink};
 use std::alloc::Global;
 use std::process::ExitCode;
+use std::sync::Wait;
+use std::thread::Threads;
 
 /// The words of the command line without the program's name, as far as they could be read.
 #[derive(Drop)]
@@ -23,14 +25,16 @@ pub enum Words {
 }
 
 /// Serves the words of a command line, and gives the status with which the program ends.
-pub fn run_program<F: Files, K: Sink, L: Sink>(
+pub fn run_program<R: Threads + Wait + Sync, F: Files, K: Sink, L: Sink, G: Gate + Sync>(
+    rt: &R,
     alloc: Global,
     words: &Words,
     files: &mut F,
     out: &mut K,
     log: &mut L,
+    gate: &G,
 ) -> ExitCode
-    // As `serve` says for these words.
+    // As `paradyn` says for these words.
     ensures answered { exit_status result ≢ 7 → exit_status result ≢ 8 → (read : List (List ℕ)) × (words_read words.now ≡ Some read)
         × (answer : Result texts fault)
         × IsOwed F.holds F.faults files.old files.new read answer
@@ -45,8 +49,10 @@ pub fn run_program<F: Files, K: Sink, L: Sink>(
         × MatchOption (words_read words.now) (IsCalm F.faults files.old files.new) (λ read. IsUntold F.holds F.faults files.old files.new read) }
 {
     match words {
-        Words::Read(words) => ExitCode::from(serve(alloc, words, files, out, log)),
-        Words::NotText => ExitCode::from(serve(alloc, &Vec::new(alloc), files, out, log)),
+        Words::Read(words) => ExitCode::from(paradyn(rt, alloc, words, files, out, log, gate)),
+        Words::NotText => {
+            ExitCode::from(paradyn(rt, alloc, &Vec::new(alloc), files, out, log, gate))
+        },
         Words::NoMemory => ExitCode::from(8),
     }
 }

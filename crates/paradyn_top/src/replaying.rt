@@ -1,8 +1,8 @@
 //! The commands `replay` and `relog`.
 
-ghost use Rattle.std.specs.Prelude.{◌≡◌, ◌≤◌, IfOk, length};
+ghost use Rattle.std.specs.Prelude.{◌≤◌, length};
 ghost use Rattle.std.specs.List.{AllByRecursion};
-ghost use Rattle.code_points.specs.Procedures.{skipped_of, AreModulesGood};
+ghost use Rattle.code_points.specs.Procedures.{AreModulesGood};
 ghost use Rattle.command_words.specs.Asked.{asked_replay};
 ghost use Rattle.mdl_ast.specs.Small.{HasSmall};
 ghost use Rattle.paradyn_top.specs.Given.{CanRun, IsUnscratched};
@@ -17,7 +17,8 @@ ghost use Rattle.session.specs.Given.{AreGiven};
 use crate::finding::{Found, find};
 use crate::inputs::{Inputs, read_inputs};
 use crate::logs::{Log, misfit_fault, read_log};
-use crate::running::{bad_pick, session_inputs};
+use crate::preparing::session_inputs;
+use crate::running::bad_pick;
 use crate::texts::Texts;
 use code_points::procedures;
 use command_words::ReplayRequest;

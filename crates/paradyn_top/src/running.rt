@@ -4,21 +4,18 @@ ghost use Rattle.std.specs.Prelude.{◌≡◌, ◌≤◌, is_some, IfOk};
 ghost use Rattle.code_points.specs.Procedures.{skipped_of};
 ghost use Rattle.command_words.specs.Asked.{asked_run};
 ghost use Rattle.command_words.specs.Requests.{HasRanges, run};
-ghost use Rattle.paradyn_top.specs.Due.{IsRun, IsRunDue, IsRunWith};
-ghost use Rattle.paradyn_top.specs.Given.{inputs_with, CanRun};
+ghost use Rattle.paradyn_top.specs.Due.{IsRunDue, IsRunWith};
 ghost use Rattle.paradyn_top.specs.Sights.{seen, Looks};
 ghost use Rattle.pn_types.specs.Images.{IsImage};
-ghost use Rattle.pn_types.specs.Settings.{AreInRange};
 ghost use Rattle.refusals.specs.Refusals.{Comes};
 ghost use Rattle.session.specs.Given.{AreGiven};
 
-use crate::finding::{Found, find};
-use crate::inputs::read_inputs;
+use crate::preparing::prepare;
 use crate::texts::Texts;
 use code_points::procedures;
 use command_words::RunRequest;
 use outside::Files;
-use pn_types::{Image, MAX_QUANTUM, NoMemory, Seq, Settings};
+use pn_types::{Image, MAX_QUANTUM, NoMemory, Seq};
 use refusals::{Fault, Refusal};
 use report::RefusedPart;
 use session::{Inputs, StartFault};
@@ -40,7 +37,7 @@ fn course(alloc: Global, request: &RunRequest<'_>, image: &Image) -> Result<Cour
 }
 
 /// The texts of what is left of a run.
-fn texts_of(recorded: Recorded) -> Texts
+pub(crate) fn texts_of(recorded: Recorded) -> Texts
     ensures { result ≡ record { out = recorded.report.items; log = recorded.log.items } }
 {
     Texts {
@@ -56,25 +53,11 @@ pub(crate) fn bad_pick(refused: RefusedPart) -> Refusal
     Refusal::Fault(Fault::BadPick(refused.metric, refused.focus, refused.cause))
 }
 
-/// What a session is given: an image, what was found of it, and settings.
-pub fn session_inputs(image: Image, found: Found, settings: Settings) -> Inputs
-    ensures { result ≡ inputs_with image found settings }
-{
-    Inputs {
-        image,
-        checked: found.checked,
-        tree: found.tree,
-        procs: found.procs,
-        points: found.points,
-        settings,
-    }
-}
-
 /// What is due of a run with these inputs.
 fn run_inputs(alloc: Global, request: &RunRequest<'_>, inputs: Inputs) -> Result<Texts, Refusal>
     requires given { AreGiven inputs }
     requires quantum { (1 ≤ request.now.quantum) × (request.now.quantum ≤ MAX_QUANTUM) }
-    ensures { Comes result (IsRunWith (asked_run request.now) inputs.image inputs) }
+    ensures { Comes result (IsRunWith (asked_run request.now) inputs) }
 {
     let course = course(alloc, request, &inputs.image)?;
     match record_run(alloc, inputs, &course) {
@@ -82,24 +65,6 @@ fn run_inputs(alloc: Global, request: &RunRequest<'_>, inputs: Inputs) -> Result
         Err(StartFault::NoMemory) => Err(Refusal::NoMemory),
         Err(StartFault::BadPick(refused)) => Err(bad_pick(refused)),
     }
-}
-
-/// What is due of a run of the image with what was found of it.
-fn run_found(
-    alloc: Global,
-    request: &RunRequest<'_>,
-    image: Image,
-    found: Found,
-) -> Result<Texts, Refusal>
-    requires ranges { HasRanges (run (asked_run request.now)) }
-    requires runs { CanRun image request.now.settings.harts found }
-    ensures { Comes result (IsRun (asked_run request.now) image found) }
-{
-    run_inputs(
-        alloc,
-        request,
-        session_inputs(image, found, request.settings),
-    )
 }
 
 /// What is due for `run`.
@@ -112,7 +77,12 @@ pub(crate) fn run<F: Files>(
     ensures due { Comes result (IsRunDue (asked_run request.now) (seen (F.holds files.old) (F.faults files.old) (F.faults files.new))) }
     ensures looks { Looks F.holds F.faults files.old files.new result }
 {
-    let inputs = read_inputs(alloc, files, request.program, request.conf)?;
-    let found = find(alloc, &inputs.image, request.settings.harts, &inputs.conf)?;
-    run_found(alloc, request, inputs.image, found)
+    let inputs = prepare(
+        alloc,
+        files,
+        request.program,
+        request.conf,
+        request.settings,
+    )?;
+    run_inputs(alloc, request, inputs)
 }

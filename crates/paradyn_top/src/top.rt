@@ -1,16 +1,20 @@
-ghost use Rattle.std.specs.Prelude.{◌≡◌, ◌≢◌, IfOk, OnErr, Result, Err, map, string_bytes};
+ghost use Rattle.std.specs.Prelude.{◌≡◌, ◌≢◌, false, IfOk, Result, Err, Some, map, string_bytes};
+ghost use Rattle.command_words.specs.Requests.{begins_live};
 ghost use Rattle.paradyn_top.specs.Answers.{status_of, texts_of};
-ghost use Rattle.paradyn_top.specs.Serving.{IsOwed, IsUntold, IsReply, AreGained, AreTorn};
+ghost use Rattle.paradyn_top.specs.Serving.{IsOwed, IsUntold, IsReply, AreGained, AreTorn, told_of};
 ghost use Rattle.paradyn_top.specs.declared.texts.Texts.{Texts as texts};
 ghost use Rattle.refusals.specs.declared.fault.Fault.{Fault as fault};
 
-use crate::answering::answer;
+use crate::answering::{answer, answer_live};
 use crate::delivery::deliver;
 use crate::texts::Texts;
-use outside::{Files, Sink};
+use command_words::begin_live;
+use outside::{Files, Gate, Sink};
 use pn_types::NoMemory;
 use refusals::{Fault, Refusal, faults_text};
 use std::alloc::Global;
+use std::sync::Wait;
+use std::thread::Threads;
 
 /// A status with the bytes that go with it.
 #[derive(Drop)]
@@ -29,17 +33,66 @@ fn refuse(alloc: Global, fault: &Fault) -> Result<Reply, NoMemory>
     })
 }
 
-/// The reply for words and files.
-fn reply_to<F: Files>(alloc: Global, words: &[String], files: &mut F) -> Result<Reply, NoMemory>
-    ensures owed { IfOk result (λ reply. (answer : Result texts fault)
-        × IsOwed F.holds F.faults files.old files.new (map string_bytes words.now) answer × IsReply answer reply) }
-    ensures untold { OnErr result (IsUntold F.holds F.faults files.old files.new (map string_bytes words.now)) }
+/// The reply for an answer.
+fn reply_to(alloc: Global, answered: Result<Texts, Refusal>) -> Result<Reply, NoMemory>
+    ensures { IfOk result (λ reply. (answer : Result texts fault) × (told_of answered ≡ Some answer) × IsReply answer reply) }
 {
-    match answer(alloc, words, files) {
+    match answered {
         Ok(texts) => Ok(Reply { status: 0, texts }),
-        Err(Refusal::Fault(fault)) => Ok(refuse(alloc, &fault)?),
+        Err(Refusal::Fault(fault)) => refuse(alloc, &fault),
         Err(Refusal::NoMemory) => Err(NoMemory {}),
     }
+}
+
+/// Gives an answer to the sinks, and tells the status.
+fn give<K: Sink, L: Sink>(
+    alloc: Global,
+    answered: Result<Texts, Refusal>,
+    out: &mut K,
+    log: &mut L,
+) -> u8
+    ensures answered { result ≢ 7 → result ≢ 8 → (answer : Result texts fault)
+        × (told_of answered ≡ Some answer)
+        × (result ≡ status_of answer)
+        × AreGained K.has K.faults out.old out.new L.has L.faults log.old log.new (texts_of answer) }
+    ensures torn { result ≡ 7 → (answer : Result texts fault)
+        × (told_of answered ≡ Some answer)
+        × AreTorn K.has K.faults out.old out.new L.has L.faults log.old log.new (texts_of answer) }
+    ensures memory { result ≡ 8 → (out.new ≡ out.old) × (log.new ≡ log.old) }
+{
+    match reply_to(alloc, answered) {
+        Err(_) => 8,
+        Ok(reply) => match deliver(&reply.texts, out, log) {
+            Ok(()) => reply.status,
+            Err(_) => 7,
+        },
+    }
+}
+
+/// What [`paradyn`] does, for words that don't begin with `live`. It waits for nothing.
+pub fn serve<F: Files, K: Sink, L: Sink>(
+    alloc: Global,
+    words: &[String],
+    files: &mut F,
+    out: &mut K,
+    log: &mut L,
+) -> u8
+    requires { begins_live (map string_bytes words.now) ≡ false }
+    // All but 7 and 8: the answer that is due was given, and both sinks gained its bytes.
+    ensures answered { result ≢ 7 → result ≢ 8 → (answer : Result texts fault)
+        × IsOwed F.holds F.faults files.old files.new (map string_bytes words.now) answer
+        × (result ≡ status_of answer)
+        × AreGained K.has K.faults out.old out.new L.has L.faults log.old log.new (texts_of answer) }
+    // 7: a sink lacks a part of what was due, and its count of faults rose.
+    ensures torn { result ≡ 7 → (answer : Result texts fault)
+        × IsOwed F.holds F.faults files.old files.new (map string_bytes words.now) answer
+        × AreTorn K.has K.faults out.old out.new L.has L.faults log.old log.new (texts_of answer) }
+    // 8: nothing was written, and nothing was read beyond what is due.
+    ensures memory { result ≡ 8 → (out.new ≡ out.old) × (log.new ≡ log.old)
+        × IsUntold F.holds F.faults files.old files.new (map string_bytes words.now) }
+{
+    let answered = answer(alloc, words, files);
+    give(alloc, answered, out, log)
 }
 
 /// All that the program does: it takes the words of the command line without the program's name, reads the files that
@@ -58,12 +111,14 @@ fn reply_to<F: Files>(alloc: Global, words: &[String], files: &mut F) -> Result<
 /// - 8: memory was wanting; both sinks are as before.
 /// - 9: the log is faulty, or its quanta aren't those of a whole run, and the output gained the line of that fault.
 /// - 10: the command, the program or the configuration isn't supported yet, and the output gained the line of that fault.
-pub fn serve<F: Files, K: Sink, L: Sink>(
+pub fn paradyn<R: Threads + Wait + Sync, F: Files, K: Sink, L: Sink, G: Gate + Sync>(
+    rt: &R,
     alloc: Global,
     words: &[String],
     files: &mut F,
     out: &mut K,
     log: &mut L,
+    gate: &G,
 ) -> u8
     // All but 7 and 8: the answer that is due was given, and both sinks gained its bytes.
     ensures answered { result ≢ 7 → result ≢ 8 → (answer : Result texts fault)
@@ -78,11 +133,10 @@ pub fn serve<F: Files, K: Sink, L: Sink>(
     ensures memory { result ≡ 8 → (out.new ≡ out.old) × (log.new ≡ log.old)
         × IsUntold F.holds F.faults files.old files.new (map string_bytes words.now) }
 {
-    match reply_to(alloc, words, files) {
-        Err(_) => 8,
-        Ok(reply) => match deliver(&reply.texts, out, log) {
-            Ok(()) => reply.status,
-            Err(_) => 7,
-        },
+    if begin_live(words) {
+        let answered = answer_live(rt, alloc, words, files, gate);
+        give(alloc, answered, out, log)
+    } else {
+        serve(alloc, words, files, out, log)
     }
 }

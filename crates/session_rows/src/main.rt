@@ -22,7 +22,7 @@ fn main(rt: HostRuntime) -> io::Result<()> {
         let text = line.as_str();
         if let Some(options) = text.strip_prefix("row ") {
             println!(rt; "{text}")?;
-            row.show(rt, alloc, options)?;
+            row.show(rt, &rt, alloc, options)?;
         } else {
             row.read(alloc, text)?;
         }

@@ -1,11 +1,13 @@
 //! A program, a configuration, and what is made of them.
 
 use crate::along::report_along;
-use outside::{MemFiles, MemSink, StdSink, write_all};
+use outside::{MemFiles, MemSink, OpenGate, StdSink, write_all};
 use paradyn_top::{Words, run_program};
 use pn_types::NoMemory;
 use std::alloc::Global;
 use std::io;
+use std::sync::Wait;
+use std::thread::Threads;
 
 /// The room of each sink in bytes.
 const ROOM: u64 = 2_000_000;
@@ -29,11 +31,16 @@ fn words(alloc: Global, line: &str) -> Result<Words, NoMemory> {
 }
 
 /// What the sinks gain when the words of a line are served: the output and the log.
-fn served(alloc: Global, files: &mut MemFiles, line: &str) -> Result<(MemSink, MemSink), NoMemory> {
+fn served<R: Threads + Wait + Sync>(
+    threads: &R,
+    alloc: Global,
+    files: &mut MemFiles,
+    line: &str,
+) -> Result<(MemSink, MemSink), NoMemory> {
     let words = words(alloc, line)?;
     let mut out = MemSink::new(alloc, ROOM, ROOM, Vec::new(alloc))?;
     let mut log = MemSink::new(alloc, ROOM, ROOM, Vec::new(alloc))?;
-    let _ = run_program(alloc, &words, files, &mut out, &mut log);
+    let _ = run_program(threads, alloc, &words, files, &mut out, &mut log, &OpenGate);
     Ok((out, log))
 }
 
@@ -83,13 +90,19 @@ impl Row {
     }
 
     /// Runs the program, replays it, and lets a session take the quanta of its log. It prints the session's report.
-    pub fn show(&self, rt: HostRuntime, alloc: Global, options: &str) -> io::Result<()> {
+    pub fn show<R: Threads + Wait + Sync>(
+        &self,
+        rt: HostRuntime,
+        threads: &R,
+        alloc: Global,
+        options: &str,
+    ) -> io::Result<()> {
         let mut files = self.files(alloc)?;
         let line = format!(in alloc; "run p c {options} --log l")?;
-        let (run, log) = served(alloc, &mut files, line.as_str())?;
+        let (run, log) = served(threads, alloc, &mut files, line.as_str())?;
         let kept = Vec::from_slice(alloc, log.bytes())?;
         files.give(alloc, "l", Some(kept), Vec::new(alloc))?;
-        let (replay, _) = served(alloc, &mut files, "replay p c l")?;
+        let (replay, _) = served(threads, alloc, &mut files, "replay p c l")?;
         let Ok(report) = report_along(alloc, &mut files, log.bytes()) else {
             return println!(rt; "refused");
         };

@@ -1,10 +1,14 @@
 use crate::given::Given;
+use crate::meeting::Meeting;
 use hex::encode;
-use outside::{MemFiles, MemSink, StdSink, write_all};
+use outside::{Gate, MemFiles, MemSink, OpenGate, StdSink, write_all};
 use paradyn_top::{Texts, Words, deliver, run_program};
 use pn_types::{NoMemory, Seq};
 use std::alloc::Global;
 use std::io;
+use std::process::ExitCode;
+use std::sync::Wait;
+use std::thread::Threads;
 
 /// The room of each sink in bytes.
 const ROOM: u64 = 2_000_000;
@@ -16,6 +20,16 @@ pub struct Case {
     piece: u64,
     out_fails: Vec<u64>,
     log_fails: Vec<u64>,
+    // What the output gained at the last meeting.
+    report: Vec<u8>,
+}
+
+/// How words that were served ended, and what the sinks have.
+#[derive(Drop)]
+struct Served {
+    exit: ExitCode,
+    out: MemSink,
+    log: MemSink,
 }
 
 /// The words of a line, between single spaces.
@@ -53,6 +67,7 @@ impl Case {
             piece: ROOM,
             out_fails: Vec::new(alloc),
             log_fails: Vec::new(alloc),
+            report: Vec::new(alloc),
         }
     }
 
@@ -106,13 +121,31 @@ impl Case {
         show(rt, "output", &out)
     }
 
-    /// Serves words, and prints how the program ends and what the output gained. It answers what the log gained.
-    fn served(&self, rt: HostRuntime, alloc: Global, line: Option<&str>) -> io::Result<Vec<u8>> {
+    /// Serves words.
+    fn served<R: Threads + Wait + Sync, G: Gate + Sync>(
+        &self,
+        threads: &R,
+        alloc: Global,
+        line: Option<&str>,
+        gate: &G,
+    ) -> Result<Served, NoMemory> {
         let words = words(alloc, line)?;
         let mut files = self.files(alloc)?;
         let mut out = self.sink(alloc, &self.out_fails)?;
         let mut log = self.sink(alloc, &self.log_fails)?;
-        let exit = run_program(alloc, &words, &mut files, &mut out, &mut log);
+        let exit = run_program(threads, alloc, &words, &mut files, &mut out, &mut log, gate);
+        Ok(Served { exit, out, log })
+    }
+
+    /// Serves words, and prints how the program ends and what the output gained. It answers what the log gained.
+    fn shown<R: Threads + Wait + Sync>(
+        &self,
+        rt: HostRuntime,
+        threads: &R,
+        alloc: Global,
+        line: Option<&str>,
+    ) -> io::Result<Vec<u8>> {
+        let Served { exit, out, log } = self.served(threads, alloc, line, &OpenGate)?;
         let count = out.bytes().len();
         let logged = log.bytes().len();
         println!(rt; "{exit:?} out {count} log {logged}")?;
@@ -122,8 +155,14 @@ impl Case {
     }
 
     /// Serves words, and prints how the program ends and what the sinks gained.
-    pub fn serve(&self, rt: HostRuntime, alloc: Global, line: Option<&str>) -> io::Result<()> {
-        let log = self.served(rt, alloc, line)?;
+    pub fn serve<R: Threads + Wait + Sync>(
+        &self,
+        rt: HostRuntime,
+        threads: &R,
+        alloc: Global,
+        line: Option<&str>,
+    ) -> io::Result<()> {
+        let log = self.shown(rt, threads, alloc, line)?;
         if log.is_empty() {
             return println!(rt; "");
         }
@@ -132,10 +171,52 @@ impl Case {
 
     /// Serves the words behind a name, and prints how the program ends and what the output gained. What the log gained is the file of
     /// that name from then on.
-    pub fn keep(&mut self, rt: HostRuntime, alloc: Global, rest: &str) -> io::Result<()> {
+    pub fn keep<R: Threads + Wait + Sync>(
+        &mut self,
+        rt: HostRuntime,
+        threads: &R,
+        alloc: Global,
+        rest: &str,
+    ) -> io::Result<()> {
         let (name, line) = rest.split_once(' ').unwrap_or((rest, ""));
-        let log = self.served(rt, alloc, Some(line))?;
+        let log = self.shown(rt, threads, alloc, Some(line))?;
         self.files.push(Given::of(alloc, name, log)?)?;
         println!(rt; "")
+    }
+
+    /// Serves the words behind a name at a gate where two workers meet, and prints how the program ends, and whether they met. What
+    /// the log gained is the file of that name from then on.
+    pub fn meet<R: Threads + Wait + Sync>(
+        &mut self,
+        rt: HostRuntime,
+        threads: &R,
+        alloc: Global,
+        rest: &str,
+    ) -> io::Result<()> {
+        let (name, line) = rest.split_once(' ').unwrap_or((rest, ""));
+        let gate = Meeting::new();
+        let Served { exit, out, log } = self.served(threads, alloc, Some(line), &gate)?;
+        let log = Vec::from_slice(alloc, log.bytes())?;
+        self.files.push(Given::of(alloc, name, log)?)?;
+        self.report = Vec::from_slice(alloc, out.bytes())?;
+        let met = if gate.missed() { "missed" } else { "met" };
+        println!(rt; "{exit:?} {met}\n")
+    }
+
+    /// Serves words, and prints how the program ends, and whether the output gained the same as at the last meeting.
+    pub fn compare<R: Threads + Wait + Sync>(
+        &self,
+        rt: HostRuntime,
+        threads: &R,
+        alloc: Global,
+        line: &str,
+    ) -> io::Result<()> {
+        let Served { exit, out, log: _ } = self.served(threads, alloc, Some(line), &OpenGate)?;
+        let same = if out.bytes() == self.report.as_slice() {
+            "same"
+        } else {
+            "other"
+        };
+        println!(rt; "{exit:?} {same} report\n")
     }
 }

@@ -7,6 +7,10 @@ pub enum Line<'a> {
     Served(Option<&'a str>),
     /// A name, and words that are served, whose log is the file of that name from then on.
     Kept(&'a str),
+    /// A name, and words that are served where two workers meet, whose log is the file of that name from then on.
+    Met(&'a str),
+    /// Words that are served, whose output is compared.
+    Compared(&'a str),
     /// Texts that are delivered.
     Delivered(&'a str),
     /// Nothing.
@@ -26,6 +30,8 @@ impl<'a> Line<'a> {
         match word {
             "words" => Line::Served(Some(rest)),
             "keep" => Line::Kept(rest),
+            "meet" => Line::Met(rest),
+            "compare" => Line::Compared(rest),
             "not-text" => Line::Served(None),
             "deliver" => Line::Delivered(rest),
             "" | "#" => Line::Nothing,

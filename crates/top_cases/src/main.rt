@@ -9,6 +9,8 @@
 //! - `piece COUNT`: a writing takes at most so many bytes. `fail-out NUMBER`, `fail-log NUMBER`: this writing fails.
 //! - `words WORDS`: the words, between single spaces, are served. `not-text`: words that aren't text are.
 //! - `keep NAME WORDS`: these words are served, and the log that they leave isn't printed, but is the file NAME from then on.
+//! - `meet NAME WORDS`: the same, and two workers meet before the second quantum of each; of what is left only the status is printed,
+//!   and whether they met. `compare WORDS`: these words are served, and it is printed whether the output gains the same as then.
 //! - `deliver LOG OUTPUT`: these two texts are delivered, and what the log and the output gained is printed.
 //!
 //! Other lines say nothing.
@@ -17,6 +19,7 @@
 mod case;
 mod given;
 mod line;
+mod meeting;
 
 use crate::case::Case;
 use crate::line::Line;
@@ -32,11 +35,19 @@ fn main(rt: HostRuntime) -> io::Result<()> {
             Line::Given(word, rest) => case = case.with(alloc, word, rest)?,
             Line::Served(words) => {
                 println!(rt; "{text}")?;
-                case.serve(rt, alloc, words)?;
+                case.serve(rt, &rt, alloc, words)?;
             }
             Line::Kept(rest) => {
                 println!(rt; "{text}")?;
-                case.keep(rt, alloc, rest)?;
+                case.keep(rt, &rt, alloc, rest)?;
+            }
+            Line::Met(rest) => {
+                println!(rt; "{text}")?;
+                case.meet(rt, &rt, alloc, rest)?;
+            }
+            Line::Compared(words) => {
+                println!(rt; "{text}")?;
+                case.compare(rt, &rt, alloc, words)?;
             }
             Line::Delivered(texts) => {
                 println!(rt; "{text}")?;

@@ -20,9 +20,13 @@ abbrev pub log_of : Bool → Inputs → List Quantum → List ℕ
 log_of true i quanta = spelled Two i.settings quanta
 log_of false i quanta = []
 
--- What is left of the whole list of quanta in the order of a seed.
+-- The report and the log of these quanta.
+pub record IsRecordOf (i : Inputs) (quanta : List Quantum) (skipped : ℕ) (logged : Bool) (r : Recorded) : Type 0 where
+  pub report : r.report.items ≡ report_of i quanta skipped
+  pub log : r.log.items ≡ log_of logged i quanta
+
+-- Those of the whole list of quanta in the order of a seed.
 pub record IsRecorded (i : Inputs) (c : Course) (r : Recorded) : Type 0 where
   pub quanta : List Quantum
   pub seeded : IsSeeded i c.seed c.turns quanta
-  pub report : r.report.items ≡ report_of i quanta c.skipped
-  pub log : r.log.items ≡ log_of c.logged i quanta
+  pub record_of : IsRecordOf i quanta c.skipped c.logged r

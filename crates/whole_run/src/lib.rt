@@ -10,5 +10,5 @@ mod replay;
 pub use laws::{one_seeded, whole_quanta_fit};
 pub use misfit::{Misfit, ReplayFault};
 pub use order::take_quanta;
-pub use recorded::{Course, Recorded, record_run};
+pub use recorded::{Course, Recorded, record_end, record_run};
 pub use replay::replay_run;

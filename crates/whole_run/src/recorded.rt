@@ -4,7 +4,7 @@ ghost use Rattle.std.specs.Prelude.{◌≡◌, ◌≤◌, false, IfErr, IfOk, No
 ghost use Rattle.session.specs.Given.{AreGiven};
 ghost use Rattle.session.specs.Sessions.{begun, IsStartFault};
 ghost use Rattle.session_spec.specs.Opening.{bad_pick};
-ghost use Rattle.whole_run.specs.Recorded.{IsRecorded, log_of};
+ghost use Rattle.whole_run.specs.Recorded.{IsRecorded, IsRecordOf, log_of};
 
 use crate::order::take_quanta;
 use pn_types::{MAX_QUANTUM, NoMemory, Settings};
@@ -54,6 +54,31 @@ fn log_of(
     }
 }
 
+/// Ends a session, and answers the report of its quanta, in which so many function symbols are no procedures, and its log if one is
+/// asked for.
+///
+/// # Errors
+///
+/// `NoMemory` where memory is wanting.
+pub fn record_end(
+    alloc: Global,
+    settings: &Settings,
+    session: &mut Session,
+    skipped: u32,
+    logged: bool,
+) -> Result<Recorded, NoMemory>
+    requires given { AreGiven session.old.inputs }
+    requires going { session.old.closed ≡ false }
+    requires settings { settings.now ≡ session.old.inputs.settings }
+    ensures { IfOk result (IsRecordOf session.old.inputs session.old.quanta skipped logged) }
+{
+    let log = log_of(alloc, settings, session, logged)?;
+    session.close();
+    let parts = session.parts()?;
+    let report = report(alloc, &parts, skipped)?;
+    Ok(Recorded { report, log })
+}
+
 /// Runs a session that just began to its end.
 fn run_on(
     alloc: Global,
@@ -68,11 +93,7 @@ fn run_on(
     ensures { IfOk result (IsRecorded session.old.inputs course.now) }
 {
     take_quanta(alloc, session, settings.harts, course.seed, course.turns)?;
-    let log = log_of(alloc, settings, session, course.logged)?;
-    session.close();
-    let parts = session.parts()?;
-    let report = report(alloc, &parts, course.skipped)?;
-    Ok(Recorded { report, log })
+    record_end(alloc, settings, session, course.skipped, course.logged)
 }
 
 /// Runs a program with its instruments: its harts take quanta in the order of a seed until none can follow. It answers the report

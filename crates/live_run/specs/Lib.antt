@@ -1,0 +1,3 @@
+pub mod ByWorkers
+pub mod Recorded
+pub mod Serving

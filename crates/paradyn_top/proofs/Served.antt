@@ -1,0 +1,42 @@
+-- What is owed for words, from what their answer came to.
+use Rattle.std.proofs.Common.{◌≡◌, inl, inr, ℕ, List, Some, Result, Ok, Err, subst}
+use Rattle.outside.specs.Outside.{Holding}
+use Rattle.refusals.specs.Refusals.{Comes}
+use Rattle.refusals.specs.declared.fault.Fault.{Fault}
+use Rattle.refusals.specs.declared.fault.Fault.TheVariants.{Usage, FileFault, BadProgram, BadConf, BadPick, BadLog, NotYet}
+use Rattle.refusals.specs.declared.refusal.Refusal.{Refusal}
+use Rattle.refusals.specs.declared.refusal.Refusal.TheVariants as refusal
+use Rattle.paradyn_top.specs.Due.{IsDue}
+use Rattle.paradyn_top.specs.Serving.{IsOwed, IsUntold, told_of}
+use Rattle.paradyn_top.specs.Sights.{seen, Looks}
+use Rattle.paradyn_top.specs.declared.texts.Texts.{Texts}
+
+module _ {F : Type 0} (holds : F → List ℕ → Holding) (faults : F → List ℕ → ℕ) (old new : F) (words : List (List ℕ)) where
+  abbrev Owed : Result Texts Fault → Type 0
+  Owed = IsOwed holds faults old new words
+
+  abbrev IsComing : Result Texts Refusal → Type 0
+  IsComing r = Comes r (IsDue words (seen (holds old) (faults old) (faults new)))
+
+  pub owed : (r : Result Texts Refusal) (answer : Result Texts Fault) → IsComing r → Looks holds faults old new r → told_of r ≡ Some answer → Owed answer
+  owed (Ok texts) answer due looks e =
+      let same : Ok texts ≡ answer = cc in
+      subst Owed same (record { due = due; same = looks.same; counts = looks.counts })
+  owed (Err (refusal.Fault fault)) answer due looks e =
+      let same : Err fault ≡ answer = cc in
+      subst Owed same (record { due = due; same = looks.same; counts = looks.counts })
+  owed (Err refusal.NoMemory) answer due looks e = absurd (cc)
+
+  untold_fault : (fault : Fault) → IsComing (Err (refusal.Fault fault)) → Looks {A = Texts} holds faults old new (Err (refusal.Fault fault)) → IsUntold holds faults old new words
+  untold_fault Usage due looks = inl looks.counts
+  untold_fault (FileFault name) due looks = inr (name, record { due = due; same = looks.same; counts = looks.counts })
+  untold_fault (BadProgram fault) due looks = inl looks.counts
+  untold_fault (BadConf fault) due looks = inl looks.counts
+  untold_fault (BadPick metric focus why) due looks = inl looks.counts
+  untold_fault (BadLog place why) due looks = inl looks.counts
+  untold_fault NotYet due looks = inl looks.counts
+
+  pub untold : (r : Result Texts Refusal) → IsComing r → Looks holds faults old new r → IsUntold holds faults old new words
+  untold (Ok texts) due looks = inl looks.counts
+  untold (Err (refusal.Fault fault)) due looks = untold_fault fault due looks
+  untold (Err refusal.NoMemory) due looks = inl looks.counts

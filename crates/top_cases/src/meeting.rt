@@ -1,0 +1,50 @@
+use outside::Gate;
+use std::sync::atomic::{AtomicBool, Ordering};
+use std::thread;
+
+/// How often a worker looks whether the other has come.
+const POLLS: u32 = 10_000_000;
+
+/// A gate at which the workers 0 and 1 meet before their second quantum: each waits for the other, but no longer than it looks.
+#[derive(Drop)]
+pub struct Meeting {
+    came: [AtomicBool; 2],
+    missed: AtomicBool,
+}
+
+impl Meeting {
+    /// No worker has come yet.
+    pub fn new() -> Meeting {
+        Meeting {
+            came: [AtomicBool::new(false), AtomicBool::new(false)],
+            missed: AtomicBool::new(false),
+        }
+    }
+
+    /// A worker gave up waiting.
+    pub fn missed(&self) -> bool {
+        self.missed.load(Ordering::SeqCst)
+    }
+}
+
+impl Gate for Meeting {
+    fn pass(&self, worker: u32, n: u64) {
+        if n != 1 {
+            return;
+        }
+        let [first, second] = &self.came;
+        let (own, other) = if worker == 0 {
+            (first, second)
+        } else {
+            (second, first)
+        };
+        own.store(true, Ordering::SeqCst);
+        for _ in 0..POLLS {
+            if other.load(Ordering::SeqCst) {
+                return;
+            }
+            thread::yield_now();
+        }
+        self.missed.store(true, Ordering::SeqCst);
+    }
+}
