@@ -3,7 +3,8 @@
 #![tactic(auto)]
 
 use command_words::{
-    LiveRequest, PlanRequest, ReplayRequest, Request, RunRequest, WordFault, log_name, read_request,
+    LiveRequest, PlanRequest, ReplayRequest, Request, RunRequest, StressRequest, WordFault,
+    log_name, read_request,
 };
 use pn_types::{NoMemory, Settings, Start};
 use std::alloc::Global;
@@ -77,6 +78,13 @@ fn plan_text(alloc: Global, plan: &PlanRequest<'_>) -> Result<String, NoMemory> 
     format!(in alloc; "plan [{program}] [{conf}] [{metric}] [{focus}] harts {harts}")
 }
 
+/// What `stress` is asked for.
+fn stress_text(alloc: Global, stress: StressRequest) -> Result<String, NoMemory> {
+    let procs = stress.procs;
+    let seed = stress.seed;
+    format!(in alloc; "stress procs {procs} seed {seed}")
+}
+
 /// What words ask for.
 fn request_text(alloc: Global, words: &[String]) -> Result<String, NoMemory> {
     match read_request(alloc, words) {
@@ -87,7 +95,7 @@ fn request_text(alloc: Global, words: &[String]) -> Result<String, NoMemory> {
         Ok(Request::Asm(text)) => format!(in alloc; "asm [{text}]"),
         Ok(Request::Points(program)) => format!(in alloc; "points [{program}]"),
         Ok(Request::Relog(log)) => format!(in alloc; "relog [{log}]"),
-        Ok(Request::Later) => String::from_str(alloc, "later"),
+        Ok(Request::Stress(stress)) => stress_text(alloc, stress),
         Err(WordFault::Usage) => String::from_str(alloc, "usage"),
         Err(WordFault::NoMemory) => Err(NoMemory {}),
     }

@@ -1,5 +1,5 @@
 -- What the words ask for.
-use Rattle.std.specs.Prelude.{◌≤◌, ℕ, Bool, false, List, [], ◌∷◌, Option, Some, None, codes, option_map, unwrap_or}
+use Rattle.std.specs.Prelude.{◌≤◌, ◌<◌, ◌^◌, ℕ, Bool, false, List, [], ◌∷◌, Option, Some, None, codes, option_map, unwrap_or}
 use Rattle.std.specs.Option.{option_and_then}
 use Rattle.std.specs.Str.{bytes_eq}
 use Rattle.pn_types.specs.Settings.{AreInRange}
@@ -63,6 +63,12 @@ pub record PlanRequest : Type 0 where
   pub focus : Text
   pub harts : ℕ
 
+pub record StressRequest : Type 0 where
+  -- how many procedures the program has beside those of the lock, of writing and of main
+  pub procs : ℕ
+  -- the seed of the program, and of the order of quanta
+  pub seed : ℕ
+
 pub data Request : Type 0 where
   run : RunRequest → Request
   live : LiveRequest → Request
@@ -72,8 +78,7 @@ pub data Request : Type 0 where
   list_points : Text → Request
   -- to write the log of this name anew
   relog : Text → Request
-  -- a command that isn't supported yet
-  later : Request
+  stress : StressRequest → Request
 
 abbrev pub run_request : Given → Option Request
 run_request given =
@@ -96,7 +101,7 @@ plan_request given = option_map (λ harts. make_plan (record { program = place_i
 
 abbrev pub stress_request : Given → Option Request
 stress_request given =
-    option_and_then (λ procs. option_map (λ seed. later) (number_between 0 4294967295 (place_in given (codes "seed"))))
+    option_and_then (λ procs. option_map (λ seed. stress (record { procs = procs; seed = seed })) (number_between 0 4294967295 (place_in given (codes "seed"))))
     (number_between 1 200 (place_in given (codes "procs")))
 
 abbrev pub request_from : CommandName → Given → Option Request
@@ -128,7 +133,7 @@ IsNotLive (make_plan p) = Unit {0}
 IsNotLive (assemble text) = Unit {0}
 IsNotLive (list_points program) = Unit {0}
 IsNotLive (relog log) = Unit {0}
-IsNotLive later = Unit {0}
+IsNotLive (stress r) = Unit {0}
 
 -- the numbers of a request are in their ranges
 abbrev pub HasRanges : Request → Type 0
@@ -139,4 +144,4 @@ HasRanges (make_plan p) = (1 ≤ p.harts) × (p.harts ≤ MAX_HARTS)
 HasRanges (assemble text) = Unit {0}
 HasRanges (list_points program) = Unit {0}
 HasRanges (relog log) = Unit {0}
-HasRanges later = Unit {0}
+HasRanges (stress r) = (r.procs ≤ 200) × (r.seed < 2 ^ 32)

@@ -75,6 +75,15 @@ pub struct PlanRequest<'a> {
     pub harts: u32,
 }
 
+/// What `stress` is asked for.
+#[derive(Clone, Copy, Drop)]
+pub struct StressRequest {
+    /// How many procedures are drawn, from 1 to 200.
+    pub procs: u32,
+    /// The seed of the program, and of the order of quanta.
+    pub seed: u32,
+}
+
 /// What the words ask for.
 #[derive(Clone, Copy, Drop)]
 pub enum Request<'a> {
@@ -92,8 +101,8 @@ pub enum Request<'a> {
     Points(&'a str),
     /// To write the log of this name anew.
     Relog(&'a str),
-    /// A command that isn't supported yet.
-    Later,
+    /// To run a program that is made from a seed, and sum the run up.
+    Stress(StressRequest),
 }
 
 /// A positional word.
@@ -195,9 +204,12 @@ fn stress_request<'a, G: Given<'a>>(given: &G) -> Option<Request<'a>>
     ensures request { option_map asked result ≡ stress_request (G.given given.now) }
     ensures ranges { IfSome result (λ request. HasRanges (asked request)) }
 {
-    number_between(place(given, "procs"), 1, 200)?;
-    number_between(place(given, "seed"), 0, 4_294_967_295)?;
-    Some(Request::Later)
+    let procs = number_between(place(given, "procs"), 1, 200)?;
+    let seed = number_between(place(given, "seed"), 0, 4_294_967_295)?;
+    Some(Request::Stress(StressRequest {
+        procs: procs as u32,
+        seed: seed as u32,
+    }))
 }
 
 pub fn request_from<'a, G: Given<'a>>(name: CommandName, given: &G) -> Option<Request<'a>>

@@ -1,7 +1,7 @@
 -- What is due is unique where each file was seen as one thing.
 use Rattle.std.proofs.Common.{◌≡◌, ℕ, Bool, true, false, List, Option, Some, None, Result, Ok, Err, refl, sym, ap, ◌∙◌, subst}
-use Rattle.std.specs.Prelude.{is_some}
-use Rattle.command_words.specs.Requests.{Request, RunRequest, LiveRequest, ReplayRequest, PlanRequest, run, live, replay, make_plan, assemble, list_points, relog, later, begins_live, request_of}
+use Rattle.std.specs.Prelude.{codes, is_some}
+use Rattle.command_words.specs.Requests.{Request, RunRequest, LiveRequest, ReplayRequest, PlanRequest, StressRequest, run, live, replay, make_plan, assemble, list_points, relog, stress, begins_live, request_of}
 use Rattle.command_words.proofs.Lives.{AskNotLive, not_live}
 use Rattle.elf_form.specs.declared.limits.TheConstants.{MAX_PROGRAM_LEN}
 use Rattle.live_run.specs.ByWorkers.{IsShared}
@@ -42,12 +42,13 @@ use Rattle.session_spec.specs.declared.data.RefusedWish.{RefusedWish}
 use Rattle.whole_run.specs.Replayed.{misfit_of}
 use Rattle.whole_run.specs.Seeded.{IsSeeded, OneSeeded}
 use Rattle.paradyn_top.specs.Answers.{output}
-use Rattle.paradyn_top.specs.Due.{texts_of_run, IsPrepared, IsOpened, IsRunWith, IsRunDue, IsLiveWith, IsLiveDue, IsDueFor, IsDue}
+use Rattle.paradyn_top.specs.Due.{IsDueFor, IsDue}
 use Rattle.paradyn_top.specs.Found.{resources_of, IsCheck, IsFound}
 use Rattle.paradyn_top.specs.Given.{inputs_with}
 use Rattle.paradyn_top.specs.Inputs.{image_of, file_of, MeansConf, IsProgramContent, IsProgram, IsElfFile, IsConfContent, IsConfiguration, AreInputs}
 use Rattle.paradyn_top.specs.Logs.{or_bad_log, IsLog, IsLogContent, MeansLog}
 use Rattle.paradyn_top.specs.Replays.{replayed, IsReplay, IsReplayDue, IsReplayFrom, IsReplayWith}
+use Rattle.paradyn_top.specs.Runs.{texts_of_run, IsPrepared, IsOpened, IsRunWith, IsRunDue, IsLiveWith, IsLiveDue, IsStressWith, IsStressDue, stress_settings, stress_sight, summary_of}
 use Rattle.paradyn_top.specs.Plans.{metric_named, or_unknown, or_bad_focus, IsSelected, IsPlanned, IsPlanAt, IsPlan}
 use Rattle.paradyn_top.specs.Serving.{AreAlike, AreOne}
 use Rattle.paradyn_top.specs.Sights.{Sight, limited, IsContent}
@@ -90,14 +91,14 @@ alike_then first next one each r s (Err e, f, n) (Err d, g, m) =
     let fault : e ≡ d = cc in
     of_same r s (n ∙ ap (λ x. Err x) fault ∙ sym m)
 
-opened_alike : (pick : Option RefusedWish) (logged : Bool) (i : SessionInputs) (AreRight : List Quantum → Type 0) (a b : Result Texts Fault) → IsOpened pick logged i AreRight a → IsOpened pick logged i AreRight b → AreAlike a b
-opened_alike None logged i AreRight (Ok x) (Ok y) d e = tt
-opened_alike None logged i AreRight (Ok x) (Err g) d (others, right, f) = absurd (cc)
-opened_alike None logged i AreRight (Err f) b (quanta, right, e) d = absurd (cc)
-opened_alike (Some wish) logged i AreRight a b d e = of_same a b (d ∙ sym e)
+opened_alike : (pick : Option RefusedWish) (i : SessionInputs) (AreRight : List Quantum → Type 0) (texts_of : List Quantum → Texts) (a b : Result Texts Fault) → IsOpened pick i AreRight texts_of a → IsOpened pick i AreRight texts_of b → AreAlike a b
+opened_alike None i AreRight texts_of (Ok x) (Ok y) d e = tt
+opened_alike None i AreRight texts_of (Ok x) (Err g) d (others, right, f) = absurd (cc)
+opened_alike None i AreRight texts_of (Err f) b (quanta, right, e) d = absurd (cc)
+opened_alike (Some wish) i AreRight texts_of a b d e = of_same a b (d ∙ sym e)
 
 live_alike : (r : LiveRequest) (i : SessionInputs) (a b : Result Texts Fault) → IsLiveWith r i a → IsLiveWith r i b → AreAlike a b
-live_alike r i = opened_alike (bad_pick i) (is_some r.log) i (IsShared i r.workers r.quantum)
+live_alike r i = opened_alike (bad_pick i) i (IsShared i r.workers r.quantum) (texts_of_run (is_some r.log) i)
 
 -- ---- configurations
 
@@ -192,12 +193,15 @@ module _ (laws : Laws) where
 
   -- ---- runs
 
-  opened_once : (pick : Option RefusedWish) (logged : Bool) (i : SessionInputs) (AreRight : List Quantum → Type 0) → ((quanta others : List Quantum) → AreRight quanta → AreRight others → quanta ≡ others) → IsOne (IsOpened pick logged i AreRight)
-  opened_once None logged i AreRight one a b (quanta, right, e) (others, right', f) = e ∙ ap (λ (l : List Quantum). Ok (texts_of_run logged i l)) (one quanta others right right') ∙ sym f
-  opened_once (Some wish) logged i AreRight one a b e f = e ∙ sym f
+  opened_once : (pick : Option RefusedWish) (i : SessionInputs) (AreRight : List Quantum → Type 0) (texts_of : List Quantum → Texts) → ((quanta others : List Quantum) → AreRight quanta → AreRight others → quanta ≡ others) → IsOne (IsOpened pick i AreRight texts_of)
+  opened_once None i AreRight texts_of one a b (quanta, right, e) (others, right', f) = e ∙ ap (λ (l : List Quantum). Ok (texts_of l)) (one quanta others right right') ∙ sym f
+  opened_once (Some wish) i AreRight texts_of one a b e f = e ∙ sym f
 
   run_once : (r : RunRequest) (i : SessionInputs) → IsOne (IsRunWith r i)
-  run_once r i = opened_once (bad_pick i) (is_some r.log) i (IsSeeded i r.seed r.quantum) (laws.seeded i r.seed r.quantum)
+  run_once r i = opened_once (bad_pick i) i (IsSeeded i r.seed r.quantum) (texts_of_run (is_some r.log) i) (laws.seeded i r.seed r.quantum)
+
+  stress_once : (r : StressRequest) (i : SessionInputs) → IsOne (IsStressWith r i)
+  stress_once r i = opened_once (bad_pick i) i (IsSeeded i r.seed 50) (summary_of r.procs i) (laws.seeded i r.seed 50)
 
   -- ---- logs
 
@@ -231,18 +235,24 @@ module _ (laws : Laws) where
         one_then (AreInputs sees program conf) (λ read. Then (IsFound read.image settings.harts read.conf) (ended read)) (inputs_once program conf)
         (λ read. one_then (IsFound read.image settings.harts read.conf) (ended read) (found_once read.image settings.harts read.conf) (λ found. equal_once (Ok (inputs_with read.image found settings))))
 
+  stress_due_once : (r : StressRequest) → IsOne (IsStressDue r)
+  stress_due_once r =
+      one_then (IsPrepared (codes "program") (codes "configuration") stress_settings (stress_sight r)) (IsStressWith r)
+      (prepared_once (stress_sight r) (λ name a b e f. e ∙ sym f) (codes "program") (codes "configuration") stress_settings) (stress_once r)
+
+  module _ (sees : Sight) (once : (name : List ℕ) → IsOne (sees name)) where
     run_due_once : (r : RunRequest) → IsOne (IsRunDue r sees)
-    run_due_once r = one_then (IsPrepared r.program r.conf r.settings sees) (IsRunWith r) (prepared_once r.program r.conf r.settings) (run_once r)
+    run_due_once r = one_then (IsPrepared r.program r.conf r.settings sees) (IsRunWith r) (prepared_once sees once r.program r.conf r.settings) (run_once r)
 
     live_due_alike : (r : LiveRequest) (a b : Result Texts Fault) → IsLiveDue r sees a → IsLiveDue r sees b → AreAlike a b
-    live_due_alike r = alike_then (IsPrepared r.program r.conf r.settings sees) (IsLiveWith r) (prepared_once r.program r.conf r.settings) (live_alike r)
+    live_due_alike r = alike_then (IsPrepared r.program r.conf r.settings sees) (IsLiveWith r) (prepared_once sees once r.program r.conf r.settings) (live_alike r)
 
     log_once : (name : List ℕ) → IsOne (IsLog sees name)
-    log_once name = one_then (IsLogContent sees name) MeansLog (content_once LOG_LIMIT (BadLog LOG_LIMIT TooLongLog) name) (λ bytes. equal_once (or_bad_log bytes (meaning_of bytes)))
+    log_once name = one_then (IsLogContent sees name) MeansLog (content_once sees once LOG_LIMIT (BadLog LOG_LIMIT TooLongLog) name) (λ bytes. equal_once (or_bad_log bytes (meaning_of bytes)))
 
     replay_due_once : (r : ReplayRequest) → IsOne (IsReplayDue r sees)
     replay_due_once r =
-        one_then (AreInputs sees r.program r.conf) (λ i. Then (IsLog sees r.log) (λ log. IsReplayFrom log.settings.start log i)) (inputs_once r.program r.conf)
+        one_then (AreInputs sees r.program r.conf) (λ i. Then (IsLog sees r.log) (λ log. IsReplayFrom log.settings.start log i)) (inputs_once sees once r.program r.conf)
         (λ i. one_then (IsLog sees r.log) (λ log. IsReplayFrom log.settings.start log i) (log_once r.log) (λ log. replay_from_once log.settings.start log i))
 
     due_for_once : (asked : Option Request) → AskNotLive asked → IsOne (IsDueFor asked sees)
@@ -251,14 +261,14 @@ module _ (laws : Laws) where
     due_for_once (Some (live r)) other = absurd other
     due_for_once (Some (replay r)) other = replay_due_once r
     due_for_once (Some (make_plan p)) other =
-        one_then (AreInputs sees p.program p.conf) (λ i. Then (IsFound i.image p.harts i.conf) (IsPlan p)) (inputs_once p.program p.conf)
+        one_then (AreInputs sees p.program p.conf) (λ i. Then (IsFound i.image p.harts i.conf) (IsPlan p)) (inputs_once sees once p.program p.conf)
         (λ i. one_then (IsFound i.image p.harts i.conf) (IsPlan p) (found_once i.image p.harts i.conf) (plan_once p))
-    due_for_once (Some (list_points name)) other = one_then (IsProgram sees name) _ (program_once name) (λ image. equal_once _)
+    due_for_once (Some (list_points name)) other = one_then (IsProgram sees name) _ (program_once sees once name) (λ image. equal_once _)
     due_for_once (Some (assemble name)) other =
         one_then (IsElfFile sees name) (λ file texts. texts ≡ Ok (output file))
-        (one_then (IsProgramContent sees name) (λ bytes file. file ≡ file_of bytes) (content_once MAX_PROGRAM_LEN (BadProgram TooLong) name) (λ bytes. equal_once (file_of bytes))) (λ file. equal_once (Ok (output file)))
+        (one_then (IsProgramContent sees name) (λ bytes file. file ≡ file_of bytes) (content_once sees once MAX_PROGRAM_LEN (BadProgram TooLong) name) (λ bytes. equal_once (file_of bytes))) (λ file. equal_once (Ok (output file)))
     due_for_once (Some (relog name)) other = one_then (IsLog sees name) _ (log_once name) (λ log. equal_once _)
-    due_for_once (Some later) other = equal_once (Err NotYet)
+    due_for_once (Some (stress r)) other = stress_due_once r
 
     due_for_alike : (asked : Option Request) (a b : Result Texts Fault) → IsDueFor asked sees a → IsDueFor asked sees b → AreAlike a b
     due_for_alike None a b d e = of_same a b (due_for_once None tt a b d e)
@@ -269,7 +279,7 @@ module _ (laws : Laws) where
     due_for_alike (Some (list_points name)) a b d e = of_same a b (due_for_once (Some (list_points name)) tt a b d e)
     due_for_alike (Some (assemble name)) a b d e = of_same a b (due_for_once (Some (assemble name)) tt a b d e)
     due_for_alike (Some (relog name)) a b d e = of_same a b (due_for_once (Some (relog name)) tt a b d e)
-    due_for_alike (Some later) a b d e = of_same a b (due_for_once (Some later) tt a b d e)
+    due_for_alike (Some (stress r)) a b d e = of_same a b (due_for_once (Some (stress r)) tt a b d e)
 
     by_kind : (words : List (List ℕ)) (is : Bool) → begins_live words ≡ is → (a b : Result Texts Fault) → IsDue words sees a → IsDue words sees b → AreOne is a b
     by_kind words true e a b due other = due_for_alike (request_of words) a b due other

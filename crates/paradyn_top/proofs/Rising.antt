@@ -1,8 +1,8 @@
 -- The count of faults of a file that the answer names as unread has risen.
 use Rattle.std.proofs.Common.{◌≡◌, ℕ, List, length, Option, Some, None, Bool, true, false, cond, Result, Ok, Err, sym, subst}
-use Rattle.std.specs.Prelude.{⊤, is_some, nat_lt}
+use Rattle.std.specs.Prelude.{⊤, codes, is_some, nat_lt}
 use Rattle.asm_file.specs.Made.{elf_of}
-use Rattle.command_words.specs.Requests.{Request, RunRequest, LiveRequest, ReplayRequest, PlanRequest, run, live, replay, make_plan, assemble, list_points, relog, later, request_of}
+use Rattle.command_words.specs.Requests.{Request, RunRequest, LiveRequest, ReplayRequest, PlanRequest, StressRequest, run, live, replay, make_plan, assemble, list_points, relog, stress, request_of}
 use Rattle.elf_form.specs.Meaning.{meaning_of}
 use Rattle.elf_form.specs.declared.fault.ElfFault.{ElfFault}
 use Rattle.elf_form.specs.declared.limits.TheConstants.{MAX_PROGRAM_LEN}
@@ -45,7 +45,8 @@ use Rattle.whole_run.specs.declared.misfit.Misfit.{Misfit}
 use Rattle.whole_run.specs.declared.misfit.Misfit.TheVariants as misfit
 use Rattle.paradyn_top.specs.Given.{inputs_with}
 use Rattle.paradyn_top.specs.Answers.{output}
-use Rattle.paradyn_top.specs.Due.{IsPrepared, IsOpened, IsRunWith, IsRunDue, IsLiveWith, IsLiveDue, IsDueFor, IsDue}
+use Rattle.paradyn_top.specs.Due.{IsDueFor, IsDue}
+use Rattle.paradyn_top.specs.Runs.{texts_of_run, IsPrepared, IsOpened, IsRunWith, IsRunDue, IsLiveWith, IsLiveDue, IsStressWith, IsStressDue, stress_settings, stress_sight, summary_of}
 use Rattle.paradyn_top.specs.Found.{resources_of, IsCheck, IsFound}
 use Rattle.paradyn_top.specs.Inputs.{begins_elf, or_bad_elf, or_bad_text, image_of, file_of, MeansConf, IsProgramContent, IsProgram, IsElfFile, IsConfContent, IsConfiguration, AreInputs}
 use Rattle.paradyn_top.specs.Logs.{or_bad_log, IsLog, IsLogContent, MeansLog}
@@ -116,9 +117,9 @@ plan_spared metric focus (Err (cause.NoConstraint axis)) name e = cc
 plan_spared metric focus (Err (cause.TooManySites n)) name e = cc
 plan_spared metric focus (Err (cause.TooManyStmts at)) name e = cc
 
-opened_spared : (pick : Option RefusedWish) (logged : Bool) (i : SessionInputs) (AreRight : List Quantum → Type 0) (name : List ℕ) → IsOpened pick logged i AreRight (Err (FileFault name)) → ⊥
-opened_spared None logged i AreRight name (quanta, right, e) = cc
-opened_spared (Some wish) logged i AreRight name e = cc
+opened_spared : (pick : Option RefusedWish) (i : SessionInputs) (AreRight : List Quantum → Type 0) (texts_of : List Quantum → Texts) (name : List ℕ) → IsOpened pick i AreRight texts_of (Err (FileFault name)) → ⊥
+opened_spared None i AreRight texts_of name (quanta, right, e) = cc
+opened_spared (Some wish) i AreRight texts_of name e = cc
 
 log_spared : (bytes : List ℕ) (r : Result (Settings × List Quantum) LogFault) → Spares (or_bad_log bytes r)
 log_spared bytes (Ok log) = tt
@@ -140,43 +141,32 @@ replay_spared log image i name e = spared (replayed (bad_pick i) (misfit_of i lo
 
 -- ---- where a file was read
 
-module _ (holds : List ℕ → Holding) (before now : List ℕ → ℕ) (name : List ℕ) where
-  abbrev Rises : Type 0
-  Rises = Rose (before name) (now name)
-
-  abbrev sees : Sight
-  sees = seen holds before now
-
-  at_file : (other : List ℕ) → sees other (Err (FileFault name)) → Rises
-  at_file other h =
-      let e = h.0 in
-      let same : other ≡ name = cc in
-      subst (λ (x : List ℕ). Rose (before x) (now x)) same h.1
-
-  at_content : (most : ℕ) (too_long : Fault) (other : List ℕ) → NotFile too_long → IsContent sees most too_long other (Err (FileFault name)) → Rises
+-- P follows from each file that was seen as unread
+module _ (name : List ℕ) (P : Type 0) (sees : Sight) (at_file : (other : List ℕ) → sees other (Err (FileFault name)) → P) where
+  at_content : (most : ℕ) (too_long : Fault) (other : List ℕ) → NotFile too_long → IsContent sees most too_long other (Err (FileFault name)) → P
   at_content most too_long other spare =
-      of_either Rises (sees other) (λ bytes content. content ≡ limited most too_long bytes) (FileFault name) (at_file other)
+      of_either P (sees other) (λ bytes content. content ≡ limited most too_long bytes) (FileFault name) (at_file other)
       (λ bytes e. absurd (spared (limited most too_long bytes) name (limited_spared most too_long bytes spare) e))
 
-  at_program : (other : List ℕ) → IsProgram sees other (Err (FileFault name)) → Rises
+  at_program : (other : List ℕ) → IsProgram sees other (Err (FileFault name)) → P
   at_program other =
-      of_either Rises (IsProgramContent sees other) (λ bytes image. image ≡ image_of bytes) (FileFault name) (at_content MAX_PROGRAM_LEN (BadProgram TooLong) other tt)
+      of_either P (IsProgramContent sees other) (λ bytes image. image ≡ image_of bytes) (FileFault name) (at_content MAX_PROGRAM_LEN (BadProgram TooLong) other tt)
       (λ bytes e. absurd (spared (image_of bytes) name (image_spared bytes) e))
 
-  at_text : (other : List ℕ) → IsElfFile sees other (Err (FileFault name)) → Rises
+  at_text : (other : List ℕ) → IsElfFile sees other (Err (FileFault name)) → P
   at_text other =
-      of_either Rises (IsProgramContent sees other) (λ bytes file. file ≡ file_of bytes) (FileFault name) (at_content MAX_PROGRAM_LEN (BadProgram TooLong) other tt)
+      of_either P (IsProgramContent sees other) (λ bytes file. file ≡ file_of bytes) (FileFault name) (at_content MAX_PROGRAM_LEN (BadProgram TooLong) other tt)
       (λ bytes e. absurd (spared (file_of bytes) name (text_spared (elf_of bytes)) e))
 
-  at_configuration : (other : List ℕ) → IsConfiguration sees other (Err (FileFault name)) → Rises
+  at_configuration : (other : List ℕ) → IsConfiguration sees other (Err (FileFault name)) → P
   at_configuration other =
-      of_either Rises (IsConfContent sees other) MeansConf (FileFault name) (at_content CONFIGURATION_LIMIT (BadConf (fault_at 0 0 TooLongConf)) other tt) (λ bytes wrong. absurd (conf_spared bytes name wrong))
+      of_either P (IsConfContent sees other) MeansConf (FileFault name) (at_content CONFIGURATION_LIMIT (BadConf (fault_at 0 0 TooLongConf)) other tt) (λ bytes wrong. absurd (conf_spared bytes name wrong))
 
-  at_inputs : (program conf : List ℕ) → AreInputs sees program conf (Err (FileFault name)) → Rises
+  at_inputs : (program conf : List ℕ) → AreInputs sees program conf (Err (FileFault name)) → P
   at_inputs program conf =
       let ended : Image → Conf → Result Inputs Fault → Type 0 = λ image c inputs. inputs ≡ Ok (record { image = image; conf = c }) in
-      of_either Rises (IsProgram sees program) (λ image. Then (IsConfiguration sees conf) (ended image)) (FileFault name) (at_program program)
-      (λ image. of_either Rises (IsConfiguration sees conf) (ended image) (FileFault name) (at_configuration conf) (λ c e. absurd (cc)))
+      of_either P (IsProgram sees program) (λ image. Then (IsConfiguration sees conf) (ended image)) (FileFault name) (at_program program)
+      (λ image. of_either P (IsConfiguration sees conf) (ended image) (FileFault name) (at_configuration conf) (λ c e. absurd (cc)))
 
   at_plan : (p : PlanRequest) (found : Found) → IsPlan p found (Err (FileFault name)) → ⊥
   at_plan p found =
@@ -188,59 +178,75 @@ module _ (holds : List ℕ → Holding) (before now : List ℕ → ℕ) (name : 
   abbrev due_texts : Fault → Result Texts Fault
   due_texts fault = Err fault
 
-  not_yet : due_texts (FileFault name) ≡ due_texts NotYet → Rises
+  not_yet : due_texts (FileFault name) ≡ due_texts NotYet → P
   not_yet e = absurd (cc)
 
-  no_usage : due_texts (FileFault name) ≡ due_texts Usage → Rises
+  no_usage : due_texts (FileFault name) ≡ due_texts Usage → P
   no_usage e = absurd (cc)
 
-  at_prepared : (program conf : List ℕ) (settings : Settings) → IsPrepared program conf settings sees (Err (FileFault name)) → Rises
+  at_prepared : (program conf : List ℕ) (settings : Settings) → IsPrepared program conf settings sees (Err (FileFault name)) → P
   at_prepared program conf settings =
       let ended : Inputs → Found → Result SessionInputs Fault → Type 0 = λ read found i. i ≡ Ok (inputs_with read.image found settings) in
-      of_either Rises (AreInputs sees program conf) (λ read. Then (IsFound read.image settings.harts read.conf) (ended read)) (FileFault name) (at_inputs program conf)
-      (λ read. of_either Rises (IsFound read.image settings.harts read.conf) (ended read) (FileFault name)
+      of_either P (AreInputs sees program conf) (λ read. Then (IsFound read.image settings.harts read.conf) (ended read)) (FileFault name) (at_inputs program conf)
+      (λ read. of_either P (IsFound read.image settings.harts read.conf) (ended read) (FileFault name)
       (λ wrong. absurd (check_spared (resources_of read.image settings.harts read.conf) read.conf name wrong)) (λ found e. absurd (cc)))
 
-  at_run : (r : RunRequest) → IsRunDue r sees (Err (FileFault name)) → Rises
+stress_spared : (r : StressRequest) (name : List ℕ) → IsStressDue r (Err (FileFault name)) → ⊥
+stress_spared r name =
+    of_either ⊥ (IsPrepared (codes "program") (codes "configuration") stress_settings (stress_sight r)) (IsStressWith r) (FileFault name)
+    (at_prepared name ⊥ (stress_sight r) (λ other e. absurd (cc)) (codes "program") (codes "configuration") stress_settings)
+    (λ i e. opened_spared (bad_pick i) i (IsSeeded i r.seed 50) (summary_of r.procs i) name e)
+
+module _ (name : List ℕ) (P : Type 0) (sees : Sight) (at_file : (other : List ℕ) → sees other (Err (FileFault name)) → P) where
+  at_run : (r : RunRequest) → IsRunDue r sees (Err (FileFault name)) → P
   at_run r =
-      of_either Rises (IsPrepared r.program r.conf r.settings sees) (IsRunWith r) (FileFault name) (at_prepared r.program r.conf r.settings)
-      (λ i e. absurd (opened_spared (bad_pick i) (is_some r.log) i (IsSeeded i r.seed r.quantum) name e))
+      of_either P (IsPrepared r.program r.conf r.settings sees) (IsRunWith r) (FileFault name) (at_prepared name P sees at_file r.program r.conf r.settings)
+      (λ i e. absurd (opened_spared (bad_pick i) i (IsSeeded i r.seed r.quantum) (texts_of_run (is_some r.log) i) name e))
 
-  at_live : (r : LiveRequest) → IsLiveDue r sees (Err (FileFault name)) → Rises
+  at_live : (r : LiveRequest) → IsLiveDue r sees (Err (FileFault name)) → P
   at_live r =
-      of_either Rises (IsPrepared r.program r.conf r.settings sees) (IsLiveWith r) (FileFault name) (at_prepared r.program r.conf r.settings)
-      (λ i e. absurd (opened_spared (bad_pick i) (is_some r.log) i (IsShared i r.workers r.quantum) name e))
+      of_either P (IsPrepared r.program r.conf r.settings sees) (IsLiveWith r) (FileFault name) (at_prepared name P sees at_file r.program r.conf r.settings)
+      (λ i e. absurd (opened_spared (bad_pick i) i (IsShared i r.workers r.quantum) (texts_of_run (is_some r.log) i) name e))
 
-  at_log : (other : List ℕ) → IsLog sees other (Err (FileFault name)) → Rises
+  at_log : (other : List ℕ) → IsLog sees other (Err (FileFault name)) → P
   at_log other =
-      of_either Rises (IsLogContent sees other) MeansLog (FileFault name) (at_content LOG_LIMIT (BadLog LOG_LIMIT TooLongLog) other tt)
+      of_either P (IsLogContent sees other) MeansLog (FileFault name) (at_content name P sees at_file LOG_LIMIT (BadLog LOG_LIMIT TooLongLog) other tt)
       (λ bytes e. absurd (spared (or_bad_log bytes (log_of bytes)) name (log_spared bytes (log_of bytes)) e))
 
-  at_replay_from : (start : Start) (log : Log) (i : Inputs) → IsReplayFrom start log i (Err (FileFault name)) → Rises
-  at_replay_from Warm log i = not_yet
+  at_replay_from : (start : Start) (log : Log) (i : Inputs) → IsReplayFrom start log i (Err (FileFault name)) → P
+  at_replay_from Warm log i = not_yet name P sees at_file
   at_replay_from Cold log i =
-      of_either Rises (IsFound i.image log.settings.harts i.conf) (IsReplay log i.image) (FileFault name)
+      of_either P (IsFound i.image log.settings.harts i.conf) (IsReplay log i.image) (FileFault name)
       (λ wrong. absurd (check_spared (resources_of i.image log.settings.harts i.conf) i.conf name wrong))
       (λ found e. absurd (replay_spared log i.image (inputs_with i.image found log.settings) name e))
 
-  at_replay : (r : ReplayRequest) → IsReplayDue r sees (Err (FileFault name)) → Rises
+  at_replay : (r : ReplayRequest) → IsReplayDue r sees (Err (FileFault name)) → P
   at_replay r =
-      of_either Rises (AreInputs sees r.program r.conf) (λ i. Then (IsLog sees r.log) (λ log. IsReplayFrom log.settings.start log i)) (FileFault name) (at_inputs r.program r.conf)
-      (λ i. of_either Rises (IsLog sees r.log) (λ log. IsReplayFrom log.settings.start log i) (FileFault name) (at_log r.log) (λ log. at_replay_from log.settings.start log i))
+      of_either P (AreInputs sees r.program r.conf) (λ i. Then (IsLog sees r.log) (λ log. IsReplayFrom log.settings.start log i)) (FileFault name) (at_inputs name P sees at_file r.program r.conf)
+      (λ i. of_either P (IsLog sees r.log) (λ log. IsReplayFrom log.settings.start log i) (FileFault name) (at_log r.log) (λ log. at_replay_from log.settings.start log i))
 
-  at_request : (asked : Option Request) → IsDueFor asked sees (Err (FileFault name)) → Rises
-  at_request None = no_usage
+  at_request : (asked : Option Request) → IsDueFor asked sees (Err (FileFault name)) → P
+  at_request None = no_usage name P sees at_file
   at_request (Some (run r)) = at_run r
   at_request (Some (live r)) = at_live r
   at_request (Some (replay r)) = at_replay r
   at_request (Some (make_plan p)) =
-      of_either Rises (AreInputs sees p.program p.conf) (λ i. Then (IsFound i.image p.harts i.conf) (IsPlan p)) (FileFault name) (at_inputs p.program p.conf)
-      (λ i. of_either Rises (IsFound i.image p.harts i.conf) (IsPlan p) (FileFault name)
-      (λ wrong. absurd (check_spared (resources_of i.image p.harts i.conf) i.conf name wrong)) (λ found e. absurd (at_plan p found e)))
-  at_request (Some (list_points other)) = of_either Rises (IsProgram sees other) _ (FileFault name) (at_program other) (λ image e. absurd (cc))
-  at_request (Some (assemble other)) = of_either Rises (IsElfFile sees other) (λ file texts. texts ≡ Ok (output file)) (FileFault name) (at_text other) (λ file e. absurd (cc))
-  at_request (Some (relog other)) = of_either Rises (IsLog sees other) _ (FileFault name) (at_log other) (λ log e. absurd (cc))
-  at_request (Some later) = not_yet
+      of_either P (AreInputs sees p.program p.conf) (λ i. Then (IsFound i.image p.harts i.conf) (IsPlan p)) (FileFault name) (at_inputs name P sees at_file p.program p.conf)
+      (λ i. of_either P (IsFound i.image p.harts i.conf) (IsPlan p) (FileFault name)
+      (λ wrong. absurd (check_spared (resources_of i.image p.harts i.conf) i.conf name wrong)) (λ found e. absurd (at_plan name P sees at_file p found e)))
+  at_request (Some (list_points other)) = of_either P (IsProgram sees other) _ (FileFault name) (at_program name P sees at_file other) (λ image e. absurd (cc))
+  at_request (Some (assemble other)) = of_either P (IsElfFile sees other) (λ file texts. texts ≡ Ok (output file)) (FileFault name) (at_text name P sees at_file other) (λ file e. absurd (cc))
+  at_request (Some (relog other)) = of_either P (IsLog sees other) _ (FileFault name) (at_log other) (λ log e. absurd (cc))
+  at_request (Some (stress r)) = λ e. absurd (stress_spared r name e)
 
-  pub rises : (words : List (List ℕ)) → IsDue words sees (Err (FileFault name)) → Rises
-  rises words = at_request (request_of words)
+  at_words : (words : List (List ℕ)) → IsDue words sees (Err (FileFault name)) → P
+  at_words words = at_request (request_of words)
+
+pub rises : (holds : List ℕ → Holding) (before now : List ℕ → ℕ) (name : List ℕ) (words : List (List ℕ)) → IsDue words (seen holds before now) (Err (FileFault name)) → Rose (before name) (now name)
+rises holds before now name words = at_words name (Rose (before name) (now name)) (seen holds before now) at words
+  where
+    at : (other : List ℕ) → seen holds before now other (Err (FileFault name)) → Rose (before name) (now name)
+    at other h =
+        let e = h.0 in
+        let same : other ≡ name = cc in
+        subst (λ (x : List ℕ). Rose (before x) (now x)) same h.1

@@ -1,5 +1,5 @@
 -- What is owed for words, from what their answer came to.
-use Rattle.std.proofs.Common.{◌≡◌, inl, inr, ℕ, List, Some, Result, Ok, Err, subst}
+use Rattle.std.proofs.Common.{◌≡◌, inl, inr, ℕ, List, Some, Result, Ok, Err, refl, subst, arith}
 use Rattle.outside.specs.Outside.{Holding}
 use Rattle.refusals.specs.Refusals.{Comes}
 use Rattle.refusals.specs.declared.fault.Fault.{Fault}
@@ -8,7 +8,7 @@ use Rattle.refusals.specs.declared.refusal.Refusal.{Refusal}
 use Rattle.refusals.specs.declared.refusal.Refusal.TheVariants as refusal
 use Rattle.paradyn_top.specs.Due.{IsDue}
 use Rattle.paradyn_top.specs.Serving.{IsOwed, IsUntold, told_of}
-use Rattle.paradyn_top.specs.Sights.{seen, Looks}
+use Rattle.paradyn_top.specs.Sights.{seen, Counted, Looks}
 use Rattle.paradyn_top.specs.declared.texts.Texts.{Texts}
 
 module _ {F : Type 0} (holds : F → List ℕ → Holding) (faults : F → List ℕ → ℕ) (old new : F) (words : List (List ℕ)) where
@@ -40,3 +40,18 @@ module _ {F : Type 0} (holds : F → List ℕ → Holding) (faults : F → List 
   untold (Ok texts) due looks = inl looks.counts
   untold (Err (refusal.Fault fault)) due looks = untold_fault fault due looks
   untold (Err refusal.NoMemory) due looks = inl looks.counts
+
+-- an answer for which no file was read
+pub unlooked : {A F : Type 0} (holds : F → List ℕ → Holding) (faults : F → List ℕ → ℕ) (files : F) (r : Result A Refusal) → Looks holds faults files files r
+unlooked holds faults files (Ok a) = record { same = λ name. refl; counts = λ name. refl }
+unlooked holds faults files (Err refusal.NoMemory) = record { same = λ name. refl; counts = λ name. refl }
+unlooked {A} {F} holds faults files (Err (refusal.Fault fault)) = record { same = λ name. refl; counts = by fault }
+  where
+    by : (fault : Fault) → Counted holds faults files files fault
+    by Usage = λ name. refl
+    by (FileFault name) = record { same = λ other. refl; rising = λ other. omega arith; others = λ other apart told. refl }
+    by (BadProgram fault) = λ name. refl
+    by (BadConf fault) = λ name. refl
+    by (BadPick metric focus why) = λ name. refl
+    by (BadLog place why) = λ name. refl
+    by NotYet = λ name. refl

@@ -1,5 +1,5 @@
 -- What was seen of files, step by step.
-use Rattle.std.proofs.Common.{◌≡◌, ℕ, ◌+◌, ◌<◌, ◌≤◌, List, length, Some, None, Result, Ok, Err, refl, sym, subst, arith}
+use Rattle.std.proofs.Common.{◌≡◌, ℕ, ◌+◌, ◌<◌, ◌≤◌, List, length, Some, None, Result, Ok, Err, refl, sym, ap, subst, arith}
 use Rattle.std.specs.Prelude.{nat_lt, replicate}
 use Rattle.std.proofs.lemmas.Bool.{lt-ltb, le-ltb, cond-true, cond-false}
 use Rattle.std.proofs.lemmas.List.{length-replicate}
@@ -7,12 +7,15 @@ use Rattle.outside.specs.Causes.{Rose}
 use Rattle.outside.specs.Outside.{Holding, IsWhole, IsLonger}
 use Rattle.mdl_ast.specs.declared.items.Conf.{Conf}
 use Rattle.pn_types.specs.declared.image.Image.{Image}
-use Rattle.refusals.specs.Refusals.{Refuses}
+use Rattle.pn_types.specs.declared.settings.Settings.{Settings}
+use Rattle.refusals.specs.Refusals.{Comes, Refuses, Step}
 use Rattle.refusals.specs.declared.fault.Fault.{Fault}
 use Rattle.refusals.specs.declared.refusal.Refusal.{Refusal}
 use Rattle.refusals.specs.declared.refusal.Refusal.TheVariants as refusal
+use Rattle.session_spec.specs.Inputs.{Inputs as SessionInputs}
 use Rattle.paradyn_top.specs.Inputs.{IsProgram, IsConfiguration, AreInputs}
 use Rattle.paradyn_top.specs.Logs.{IsLog}
+use Rattle.paradyn_top.specs.Runs.{IsPrepared}
 use Rattle.paradyn_top.specs.Sights.{Sight, seen, IsContent}
 use Rattle.paradyn_top.specs.declared.inputs.Inputs.{Inputs}
 use Rattle.paradyn_top.specs.declared.logs.Log.{Log}
@@ -62,6 +65,28 @@ seen_from holds later before then now name same count (Err fault) h = (h.0, subs
 
 pub configuration_from : (sees also : Sight) (name : List ℕ) → ((r : Result (List ℕ) Fault) → sees name r → also name r) → (conf : Result Conf Fault) → IsConfiguration sees name conf → IsConfiguration also name conf
 configuration_from sees also name more conf (content, (bytes, h, short), means) = (content, (bytes, more bytes h, short), means)
+
+program_from : (sees also : Sight) (name : List ℕ) → ((r : Result (List ℕ) Fault) → sees name r → also name r) → (image : Result Image Fault) → IsProgram sees name image → IsProgram also name image
+program_from sees also name more image (content, (bytes, h, short), is) = (content, (bytes, more bytes h, short), is)
+
+inputs_from : (sees also : Sight) (program conf : List ℕ) → ((r : Result (List ℕ) Fault) → sees program r → also program r) → ((r : Result (List ℕ) Fault) → sees conf r → also conf r) →
+    (i : Result Inputs Fault) → AreInputs sees program conf i → AreInputs also program conf i
+inputs_from sees also program conf more most i (Ok image, p, (c, q, is)) = (Ok image, program_from sees also program more (Ok image) p, (c, configuration_from sees also conf most c q, is))
+inputs_from sees also program conf more most i (Err fault, p, is) = (Err fault, program_from sees also program more (Err fault) p, is)
+
+pub prepared_from : (sees also : Sight) (program conf : List ℕ) (settings : Settings) → ((r : Result (List ℕ) Fault) → sees program r → also program r) → ((r : Result (List ℕ) Fault) → sees conf r → also conf r) →
+    (i : Result SessionInputs Fault) → IsPrepared program conf settings sees i → IsPrepared program conf settings also i
+prepared_from sees also program conf settings more most i (read, h, rest) = (read, inputs_from sees also program conf more most read h, rest)
+
+pub comes_as : {A : Type 0} (step other : Step A) → ((a : Result A Fault) → step a → other a) → (r : Result A Refusal) → Comes r step → Comes r other
+comes_as step other more (Ok a) h = more (Ok a) h
+comes_as step other more (Err (refusal.Fault fault)) h = more (Err fault) h
+comes_as step other more (Err refusal.NoMemory) h = tt
+
+-- what was seen of a file in memory that never fails
+pub seen_sure : (holds : List ℕ → Holding) (name text : List ℕ) → holds name ≡ Some (Some text) → (r : Result (List ℕ) Fault) → seen holds (λ name. 0) (λ name. 0) name r → r ≡ Ok text
+seen_sure holds name text is (Ok bytes) h = ap (λ (b : List ℕ). Ok b) (subst (λ x. IsWhole x bytes) is h)
+seen_sure holds name text is (Err fault) h = absurd (omega (arith, h.1))
 
 pub log_from : (sees also : Sight) (name : List ℕ) → ((r : Result (List ℕ) Fault) → sees name r → also name r) → (log : Result Log Fault) → IsLog sees name log → IsLog also name log
 log_from sees also name more log (content, (bytes, h, short), means) = (content, (bytes, more bytes h, short), means)

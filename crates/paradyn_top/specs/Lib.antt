@@ -6,6 +6,7 @@ pub mod Given
 pub mod Plans
 pub mod Logs
 pub mod Replays
+pub mod Runs
 pub mod Due
 pub mod Delivery
 pub mod Serving

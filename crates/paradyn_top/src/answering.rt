@@ -12,6 +12,7 @@ use crate::live::live;
 use crate::planning::show_plan;
 use crate::replaying::{relog, replay};
 use crate::running::run;
+use crate::stressing::stress;
 use crate::texts::Texts;
 use command_words::{Request, WordFault, read_request};
 use outside::{Files, Gate};
@@ -39,7 +40,7 @@ fn answer_request<F: Files>(
         Request::Points(program) => list_points(alloc, program, files),
         Request::Asm(text) => write_elf(alloc, text, files),
         Request::Relog(log) => relog(alloc, log, files),
-        Request::Later => Err(Refusal::Fault(Fault::NotYet)),
+        Request::Stress(request) => stress(alloc, *request),
     }
 }
 

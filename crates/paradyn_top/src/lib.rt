@@ -17,6 +17,7 @@ mod preparing;
 mod program;
 mod replaying;
 mod running;
+mod stressing;
 mod texts;
 mod top;
 

@@ -1,7 +1,7 @@
 //! What a session is given.
 
 ghost use Rattle.std.specs.Prelude.{◌≡◌, IfOk};
-ghost use Rattle.paradyn_top.specs.Due.{IsPrepared};
+ghost use Rattle.paradyn_top.specs.Runs.{IsPrepared};
 ghost use Rattle.paradyn_top.specs.Given.{inputs_with};
 ghost use Rattle.paradyn_top.specs.Sights.{seen, Looks};
 ghost use Rattle.pn_types.specs.Settings.{AreInRange};

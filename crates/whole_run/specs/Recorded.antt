@@ -4,6 +4,7 @@ use Rattle.quanta_log.specs.declared.quantum.Quantum.{Quantum}
 use Rattle.quanta_log.specs.declared.version.Version.TheVariants.{Two}
 use Rattle.quanta_log.specs.Spelling.{spelled}
 use Rattle.report.specs.Text.{report_text}
+use Rattle.report.specs.declared.parts.ReportParts.{ReportParts}
 use Rattle.session_spec.specs.Inputs.{Inputs}
 use Rattle.session_spec.specs.Work.{closed, work}
 use Rattle.session.specs.Parts.{parts_of}
@@ -19,6 +20,12 @@ report_of i quanta skipped = report_text (parts_of i (closed i (work i quanta)))
 abbrev pub log_of : Bool → Inputs → List Quantum → List ℕ
 log_of true i quanta = spelled Two i.settings quanta
 log_of false i quanta = []
+
+-- The parts of the report of the whole list of quanta in the order of a seed.
+pub record AreSeededParts (i : Inputs) (seed turns : ℕ) (p : ReportParts) : Type 0 where
+  pub quanta : List Quantum
+  pub seeded : IsSeeded i seed turns quanta
+  pub parts : p ≡ parts_of i (closed i (work i quanta))
 
 -- The report and the log of these quanta.
 pub record IsRecordOf (i : Inputs) (quanta : List Quantum) (skipped : ℕ) (logged : Bool) (r : Recorded) : Type 0 where

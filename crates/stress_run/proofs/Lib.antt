@@ -1,0 +1,2 @@
+pub mod FirstDraws
+pub mod Texts
