@@ -144,4 +144,4 @@ HasRanges (make_plan p) = (1 ≤ p.harts) × (p.harts ≤ MAX_HARTS)
 HasRanges (assemble text) = Unit {0}
 HasRanges (list_points program) = Unit {0}
 HasRanges (relog log) = Unit {0}
-HasRanges (stress r) = (r.procs ≤ 200) × (r.seed < 2 ^ 32)
+HasRanges (stress r) = ((1 ≤ r.procs) × (r.procs ≤ 200)) × (r.seed < 2 ^ 32)

@@ -6,7 +6,7 @@ use crate::texts::{shown, split};
 use mdl_ast::Conf;
 use mdl_check::Checked;
 use mdl_parse::{parse, shipped};
-use mdl_plan::plan;
+use mdl_plan::{PlanIndex, plan};
 use pn_types::{CodePart, Focus, Plan, Point, Proc};
 use resource_tree::Tree;
 use std::alloc::Global;
@@ -64,6 +64,7 @@ fn print_planned(
     if asked.metric as usize >= checked.metrics.as_slice().len() || asked.procs.len() > 1 {
         return println!(rt; "no metric");
     }
+    let index = PlanIndex::new(alloc, asked.procs, &POINTS)?;
     match plan(
         alloc,
         checked,
@@ -72,6 +73,7 @@ fn print_planned(
         asked.tree,
         asked.procs,
         &POINTS,
+        &index,
     ) {
         Ok(plan) => print_sites(rt, &plan),
         Err(fault) => println!(rt; "{fault:?}"),

@@ -2,13 +2,18 @@ mod Elements
 mod PieceOrder
 mod NameNumbers
 mod Marks
+mod SparseLists
 mod PieceNumbers
 mod Selected
 mod SiteList
 mod Numbered
 mod PointStmts
 mod Outcomes
+mod PointPlaces
 pub mod Limits
+mod GatheredPoints
+mod ChosenPlaces
+mod Counts
 pub mod Costs
 pub mod Suiting
 pub mod FittingStmts

@@ -1,9 +1,9 @@
 -- How lists of numbers grow.
-use Rattle.std.proofs.Common.{◌≡◌, ℕ, ◌+◌, ◌-◌, ◌<◌, ◌≤◌, ◌==◌, ◌||◌, cond, Bool, true, false, Option, List, [], ◌∷◌, ◌++◌, length, map, set, take, get_or, slice_get, refl, sym, ap, ◌∙◌, subst, arith, inl, inr, ◌⊎◌, eq-eqb}
+use Rattle.std.proofs.Common.{◌≡◌, ℕ, ◌+◌, ◌-◌, ◌<◌, ◌≤◌, ◌==◌, ◌||◌, cond, Bool, true, false, Option, List, [], ◌∷◌, ◌++◌, length, take, get_or, slice_get, refl, sym, ap, ◌∙◌, subst, arith, eq-eqb}
 use Rattle.std.specs.List.{list_any}
 use Rattle.std.specs.Option.{option_map_or}
-use Rattle.std.proofs.lemmas.Bool.{cases_eq, ne_eqb}
-use Rattle.std.proofs.lemmas.List.{take_more, length_push, length-map, length-set, get_or-map, get_or-set_same, get_or-set_other, map-set}
+use Rattle.std.proofs.lemmas.Bool.{ne_eqb}
+use Rattle.std.proofs.lemmas.List.{take_more, length_push}
 use Rattle.std.proofs.lemmas.List.Folds.{list_any-append}
 use Rattle.mdl_plan.proofs.Elements.{get_behind}
 use Rattle.mdl_plan.specs.Numbers.{Marked, ends_with, once}
@@ -44,32 +44,6 @@ mark_more i q qs a b c h k = record {
 pub next_mark : (i j q : ℕ) (qs : List ℕ) (a b c : List (List ℕ)) → j < length qs → q ≡ get_or qs j 0 → Marked i (take j qs) a b → Marked i (q ∷ []) b c → Marked i (take (j + 1) qs) a c
 next_mark i j q qs a b c lt is h k =
     subst (λ (ps : List ℕ). Marked i ps a c) (sym (take_more qs j 0 lt ∙ ap (λ (p : ℕ). take j qs ++ p ∷ []) (sym is))) (mark_more i q (take j qs) a b c h k)
-
--- a list is put back with one more number
-put_here : {V : Type 0} (items : V → List ℕ) (vs : List V) (q i : ℕ) (v w : V) → q < length vs → v ≡ get_or vs q v → items w ≡ once i (items v)
-    → get_or (map items (set vs q w)) q [] ≡ once i (get_or (map items vs) q [])
-put_here items vs q i v w lt is e =
-    get_or-map items (set vs q w) q w [] (rw length-set lt) ∙ ap items (get_or-set_same vs q w w lt) ∙ e ∙ ap (once i) (ap items is ∙ sym (get_or-map items vs q v [] lt))
-
-put_other : {V : Type 0} (items : V → List ℕ) (vs : List V) (q r : ℕ) (w : V) → (q ≡ r → ⊥) → get_or (map items (set vs q w)) r [] ≡ get_or (map items vs) r []
-put_other items vs q r w other =
-    ap (λ (l : List (List ℕ)). get_or l r []) (map-set items vs q w) ∙ get_or-set_other (map items vs) q r (items w) [] (λ (e : r ≡ q). other (sym e))
-
-pub mark_there : {V : Type 0} (items : V → List ℕ) (vs : List V) (q i : ℕ) (v w : V) → q < length vs → v ≡ get_or vs q v → items w ≡ once i (items v)
-    → Marked i (q ∷ []) (map items vs) (map items (set vs q w))
-mark_there {V = V} items vs q i v w lt is e = record {
-  len = simp (length-map, length-set);
-  at = λ r h. by r (cases_eq q r);
-}
-  where
-    by : (r : ℕ) → (q ≡ r) ⊎ (q ≡ r → ⊥) → get_or (map items (set vs q w)) r [] ≡ cond ((q == r) || false) (once i (get_or (map items vs) r [])) (get_or (map items vs) r [])
-    by r (inl same) =
-        ap (λ (k : ℕ). get_or (map items (set vs q w)) k []) (sym same) ∙ put_here items vs q i v w lt is e
-        ∙ ap (λ (k : ℕ). once i (get_or (map items vs) k [])) same
-        ∙ sym (ap (λ (b : Bool). cond (b || false) (once i (get_or (map items vs) r [])) (get_or (map items vs) r [])) (eq-eqb q r same))
-    by r (inr other) =
-        put_other items vs q r w other
-        ∙ sym (ap (λ (b : Bool). cond (b || false) (once i (get_or (map items vs) r [])) (get_or (map items vs) r [])) (ne_eqb q r other))
 
 -- there is no such list
 pub mark_past : (lists : List (List ℕ)) (q i : ℕ) → length lists ≤ q → Marked i (q ∷ []) lists lists

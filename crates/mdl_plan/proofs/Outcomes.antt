@@ -1,5 +1,5 @@
 -- How sites make a plan.
-use Rattle.std.proofs.Common.{◌≡◌, ℕ, ◌<◌, ◌≤◌, cond, ltb, Bool, true, Option, Some, None, Result, Ok, Err, List, length, sym, ap, ◌∙◌, subst, arith}
+use Rattle.std.proofs.Common.{◌≡◌, ℕ, ◌<◌, ◌≤◌, cond, ltb, Bool, true, Option, Some, None, Result, Ok, Err, List, length, map, sym, ap, ◌∙◌, subst, arith}
 use Rattle.std.specs.List.{filter, find}
 use Rattle.std.specs.Option.{option_map}
 use Rattle.std.proofs.lemmas.Bool.{lt-ltb, ltb-true, false_from_ne_true}
@@ -19,11 +19,13 @@ use Rattle.mdl_plan.specs.declared.fault.PlanFault.TheVariants.{NoMemory, NoCons
 use Rattle.mdl_plan.specs.declared.table.Table.{Table}
 use Rattle.mdl_plan.proofs.PointStmts.{sites_are}
 
--- the sites of a scene
-pub scene_sites : (s : Scene) (terms : Terms) (pieces : List Piece) (t : Table) (points : List Point)
-    → pieces ≡ busy s.pieces → IsTable (scope s.selected s.procs) pieces t → terms ≡ s.terms → sites_with terms pieces t points ≡ sites_of s points
-scene_sites s terms pieces t points e h f =
-    ap (λ (x : Terms). sites_with x pieces t points) f
+-- the sites of a scene, where the points at which a piece is chosen are reached
+pub scene_sites : (s : Scene) (terms : Terms) (pieces : List Piece) (t : Table) (reached points : List Point)
+    → filter (has_numbers t) reached ≡ filter (has_numbers t) points → pieces ≡ busy s.pieces → IsTable (scope s.selected s.procs) pieces t → terms ≡ s.terms
+    → sites_with terms pieces t reached ≡ sites_of s points
+scene_sites s terms pieces t reached points all e h f =
+    ap (map (site_with terms pieces t)) all
+    ∙ ap (λ (x : Terms). sites_with x pieces t points) f
     ∙ ap (λ (ps : List Piece). sites_with s.terms ps t points) e
     ∙ sites_are s t (subst (λ (ps : List Piece). IsTable (scope s.selected s.procs) ps t) e h) points
 

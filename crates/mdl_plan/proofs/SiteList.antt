@@ -20,17 +20,22 @@ module _ (terms : Terms) (pieces : List Piece) (t : Table) where
   both a b = ap (map (site_with terms pieces t)) (filter-append (has_numbers t) a b) ∙ map-append (site_with terms pieces t) (filter (has_numbers t) a) (filter (has_numbers t) b)
 
   -- one more point
-  pub sites_more : (points : List Point) (i : ℕ) (d : Point) → i < length points
-      → sites_with terms pieces t (take i points) ++ sites_with terms pieces t (get_or points i d ∷ []) ≡ sites_with terms pieces t (take (i + 1) points)
-  sites_more points i d lt = sym (both (take i points) (get_or points i d ∷ [])) ∙ ap (sites_with terms pieces t) (sym (take_more points i d lt))
+  pub sites_more : (points : List Point) (i : ℕ) (p : Point) → i < length points → get_or points i p ≡ p
+      → sites_with terms pieces t (take i points) ++ sites_with terms pieces t (p ∷ []) ≡ sites_with terms pieces t (take (i + 1) points)
+  sites_more points i p lt is =
+      sym (both (take i points) (p ∷ []))
+      ∙ ap (λ (q : Point). sites_with terms pieces t (take i points ++ q ∷ [])) (sym is)
+      ∙ ap (sites_with terms pieces t) (sym (take_more points i p lt))
 
   -- the sites before a point, of the point and behind it
-  pub sites_around : (points : List Point) (i : ℕ) (d : Point) → i < length points
-      → sites_with terms pieces t (take i points) ++ (sites_with terms pieces t (get_or points i d ∷ []) ++ sites_with terms pieces t (drop (i + 1) points)) ≡ sites_with terms pieces t points
-  sites_around points i d lt =
-      ap (λ (l : List Site). sites_with terms pieces t (take i points) ++ l) (sym (both (get_or points i d ∷ []) (drop (i + 1) points)))
-      ∙ sym (both (take i points) (get_or points i d ∷ drop (i + 1) points))
-      ∙ ap (sites_with terms pieces t) (ap (λ (l : List Point). take i points ++ l) (sym (drop_more points i d lt)) ∙ take-append-drop i points)
+  pub sites_around : (points : List Point) (i : ℕ) (p : Point) → i < length points → get_or points i p ≡ p
+      → sites_with terms pieces t (take i points) ++ (sites_with terms pieces t (p ∷ []) ++ sites_with terms pieces t (drop (i + 1) points)) ≡ sites_with terms pieces t points
+  sites_around points i p lt is =
+      let behind = drop (i + 1) points in
+      ap (λ (l : List Site). sites_with terms pieces t (take i points) ++ l) (sym (both (p ∷ []) behind))
+      ∙ sym (both (take i points) (p ∷ behind))
+      ∙ ap (λ (q : Point). sites_with terms pieces t (take i points ++ q ∷ behind)) (sym is)
+      ∙ ap (sites_with terms pieces t) (ap (λ (l : List Point). take i points ++ l) (sym (drop_more points i p lt)) ∙ take-append-drop i points)
 
 -- none of two lists has too many
 pub few_both : (a b : List Site) → find is_crowded a ≡ None → find is_crowded b ≡ None → find is_crowded (a ++ b) ≡ None

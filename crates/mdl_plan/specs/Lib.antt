@@ -6,5 +6,7 @@ pub mod Plans
 pub mod Fitting
 pub mod Busy
 pub mod Selecting
+pub mod Indexes
+pub mod Sparse
 pub mod Numbers
 pub mod Tables

@@ -1,6 +1,7 @@
 -- For proofs alone: the pieces that are chosen at points.
-use Rattle.std.specs.Prelude.{ℕ, ◌≡◌, ◌||◌, nat_lt, Some, Bool, if◌then◌else◌, List, [], ◌++◌, length, slice_index_or, map, flat_map}
-use Rattle.std.specs.List.{filter, find}
+use Rattle.std.specs.Prelude.{ℕ, ◌≡◌, ◌<◌, ◌==◌, ◌||◌, nat_lt, true, Some, Bool, if◌then◌else◌, List, [], ◌++◌, length, slice_index_or, map, flat_map}
+use Rattle.std.specs.List.{filter, find, list_any}
+use Rattle.std.specs.List.Sorted.{IsStrictlyIncreasing}
 use Rattle.std.specs.Option.{option_map}
 use Rattle.pn_types.specs.declared.code.Point.{Point}
 use Rattle.pn_types.specs.declared.plan.Site.{Site}
@@ -39,6 +40,15 @@ has_numbers t p =
     || (is_some_number (numbers_if p.after t.after p.proc_no)
     || (is_some_number (numbers_if p.ret t.ret p.proc_no)
     || is_some_number (numbers_if p.call t.call p.proc_no)))
+
+-- pieces are chosen at points of the first n procedures alone
+abbrev pub IsOver : ℕ → Table → Type 0
+IsOver n t = (p : Point) → has_numbers t p ≡ true → p.proc_no < n
+
+-- The places ascend, and those of the procedure of each point at which a piece is chosen are among them.
+pub record HavePlaces (t : Table) (by_proc : List (List ℕ)) (places : List ℕ) : Type 0 where
+  pub ascend : IsStrictlyIncreasing places
+  pub each : (p : Point) (i : ℕ) → has_numbers t p ≡ true → list_any (λ j. j == i) (slice_index_or by_proc p.proc_no []) ≡ true → list_any (λ j. j == i) places ≡ true
 
 -- the numbers of the pieces that are chosen at the point, kind by kind
 abbrev pub numbers_at : Table → Point → List ℕ

@@ -3,6 +3,7 @@
 
 mod active;
 mod fault;
+mod index;
 mod lists;
 mod names;
 mod pieces;
@@ -14,4 +15,5 @@ mod table;
 mod variables;
 
 pub use fault::PlanFault;
+pub use index::PlanIndex;
 pub use planning::plan;

@@ -4,13 +4,15 @@ ghost use Rattle.std.specs.Prelude.{◌≡◌, ◌≤◌, ◌<◌, ◌^◌, ◌+
 ghost use Rattle.std.specs.List.{filter, find};
 ghost use Rattle.resource_tree.specs.Foci.{part};
 ghost use Rattle.mdl_plan.specs.Busy.{busy};
-ghost use Rattle.mdl_plan.specs.Selecting.{scope};
+ghost use Rattle.mdl_plan.specs.Selecting.{scope, AreNames};
+ghost use Rattle.mdl_plan.specs.Indexes.{AreByProcedure};
 ghost use Rattle.mdl_plan.specs.Pieces as spec;
 ghost use Rattle.mdl_plan.specs.Plans.{is_crowded, terms_of};
-ghost use Rattle.mdl_plan.specs.Tables.{has_numbers, numbers_at, sites_in, stmts_in, IsTable, Refuses};
+ghost use Rattle.mdl_plan.specs.Tables.{has_numbers, numbers_at, sites_in, stmts_in, IsOver, IsTable, Refuses};
 
 use crate::active::Active;
 use crate::fault::PlanFault;
+use crate::index::{PlanIndex, points_at};
 use crate::pieces::{Piece, pieces};
 use crate::scope::Scope;
 use crate::statements::Terms;
@@ -44,7 +46,8 @@ fn add(sites: &mut Vec<Site>, at: u64, stmts: Vec<Stmt>) -> Result<(), NoMemory>
 }
 
 impl<'a> Planner<'a> {
-    /// The planner of a metric with its active constraints at a focus. The counters are the active ones.
+    /// The planner of a metric with its active constraints at a focus. The counters are the active ones, and the index is
+    /// that of the procedures.
     pub(crate) fn of(
         alloc: Global,
         metric: &'a Metric,
@@ -53,16 +56,18 @@ impl<'a> Planner<'a> {
         focus: &Focus,
         tree: &Tree,
         procs: &[Proc],
+        index: &PlanIndex,
     ) -> Result<Planner<'a>, NoMemory>
         requires few { length counters.now ≤ 2 }
         requires active { map (λ c. c.now) counters.now ≡ spec.counters active.now }
         requires procs { length procs.now < 2 ^ 32 }
+        requires index { AreNames procs.now index.now.names }
         ensures pieces { IfOk result (λ s. s.pieces.items ≡ busy (spec.pieces metric.now active.now)) }
         ensures table { IfOk result (λ s. IsTable (scope (part tree.now focus.now).procs procs.now) s.pieces.items s.table) }
         ensures terms { IfOk result (λ s. s.terms ≡ terms_of (part tree.now focus.now) active.now) }
     {
         let pieces = pieces(alloc, metric, active, counters)?;
-        let scope = Scope::new(alloc, tree, focus, procs)?;
+        let scope = Scope::new(tree, focus, procs, index);
         let table = Table::build(alloc, &scope, &pieces)?;
         let terms = Terms::new(alloc, counters, tree.object_at(focus))?;
         Ok(Planner {
@@ -72,10 +77,25 @@ impl<'a> Planner<'a> {
         })
     }
 
+    /// The points of the procedures for which a piece is chosen: all points at which one is chosen are among them.
+    pub(crate) fn reached<'p>(
+        &self,
+        alloc: Global,
+        points: &'p [Point],
+        index: &PlanIndex,
+    ) -> Result<Vec<&'p Point>, NoMemory>
+        requires points { AreByProcedure points.now index.now.places }
+        requires procs { IsOver (length index.now.places) self.now.table }
+        ensures { IfOk result (λ found. filter (has_numbers self.now.table) (map (λ p. p.now) found.items) ≡ filter (has_numbers self.now.table) points.now) }
+    {
+        let places = self.table.places(alloc, index)?;
+        points_at(alloc, points, &places)
+    }
+
     /// At how many points a statement stands.
-    pub(crate) fn count(&self, points: &[Point]) -> u32
-        requires { length points.now < 2 ^ 32 }
-        ensures { result ≡ length (filter (has_numbers self.now.table) points.now) }
+    pub(crate) fn count(&self, points: &[&Point]) -> u32
+        requires { length (filter (has_numbers self.now.table) (map (λ p. p.now) points.now)) < 2 ^ 32 }
+        ensures { result ≡ length (filter (has_numbers self.now.table) (map (λ p. p.now) points.now)) }
     {
         let mut count = 0;
         for point in points {
@@ -146,10 +166,10 @@ impl<'a> Planner<'a> {
     }
 
     /// The sites of the points. The first point with too many statements is refused.
-    pub(crate) fn sites(&self, alloc: Global, points: &[Point]) -> Result<Vec<Site>, PlanFault>
-        ensures all { IfOk result (λ sites. sites.items ≡ sites_in self.now points.now) }
-        ensures few { OnOk result (find is_crowded (sites_in self.now points.now) ≡ None) }
-        ensures refused { IfErr result (λ fault. Refuses fault (sites_in self.now points.now)) }
+    pub(crate) fn sites(&self, alloc: Global, points: &[&Point]) -> Result<Vec<Site>, PlanFault>
+        ensures all { IfOk result (λ sites. sites.items ≡ sites_in self.now (map (λ p. p.now) points.now)) }
+        ensures few { OnOk result (find is_crowded (sites_in self.now (map (λ p. p.now) points.now)) ≡ None) }
+        ensures refused { IfErr result (λ fault. Refuses fault (sites_in self.now (map (λ p. p.now) points.now))) }
     {
         let mut sites = Vec::new(alloc);
         for point in points {

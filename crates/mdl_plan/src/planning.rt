@@ -8,10 +8,12 @@ ghost use Rattle.mdl_check.specs.Sound.{IsSound};
 ghost use Rattle.prim_code.specs.Counts.{predicted};
 ghost use Rattle.prim_code.specs.Fitting.{IsMeasurable};
 ghost use Rattle.mdl_plan.specs.Fitting.{most_words, HasFewConds, HasLowObjects};
+ghost use Rattle.mdl_plan.specs.Indexes.{IsIndexOf};
 ghost use Rattle.mdl_plan.specs.Plans.{plan_at, plan_of, Answers, IsPlanOver};
 
 use crate::active::{Active, active_at};
 use crate::fault::PlanFault;
+use crate::index::PlanIndex;
 use crate::planner::Planner;
 use crate::variables::vars;
 use mdl_ast::Metric;
@@ -23,7 +25,7 @@ use std::alloc::Global;
 /// The most sites that a plan can have.
 const MOST_SITES: u32 = 4096;
 
-/// The plan of a metric at a focus that makes these constraints active.
+/// The plan of a metric at a focus that makes these constraints active. The index is that of these procedures and points.
 fn planned(
     alloc: Global,
     metric: &Metric,
@@ -32,19 +34,22 @@ fn planned(
     tree: &Tree,
     procs: &[Proc],
     points: &[Point],
+    index: &PlanIndex,
 ) -> Result<Plan, PlanFault>
     requires procs { length procs.now < 2 ^ 32 }
     requires points { length points.now < 2 ^ 32 }
+    requires index { IsIndexOf procs.now points.now index.now }
     ensures answer { Answers result (plan_at tree.now focus.now procs.now points.now metric.now (Ok active.now)) }
     ensures narrow { IfOk result (λ plan. AllByRecursion (λ v. v.initially < 2 ^ 32) plan.vars) }
 {
     let counters = active.counters(alloc)?;
-    let planner = Planner::of(alloc, metric, active, &counters, focus, tree, procs)?;
-    let sites = planner.count(points);
+    let planner = Planner::of(alloc, metric, active, &counters, focus, tree, procs, index)?;
+    let reached = planner.reached(alloc, points, index)?;
+    let sites = planner.count(&reached);
     if sites > MOST_SITES {
         return Err(PlanFault::TooManySites(sites));
     }
-    let sites = planner.sites(alloc, points)?;
+    let sites = planner.sites(alloc, &reached)?;
     let vars = vars(alloc, metric, active, &counters)?;
     Ok(Plan {
         vars: Seq::from_vec(vars),
@@ -73,8 +78,9 @@ fn planned(
 /// points ascend, the tool's code measures the plan: the conditions are on counters of the plan and on the arguments 0 to
 /// 7, a statement counts a counter or starts and stops a timer, and no number in it is 2^31 or above.
 ///
-/// The tree's procedures are `procs`, and the points are theirs, by address. The work is linear in the points, the
-/// procedures and what the insertions select.
+/// The tree's procedures are `procs`, and the points are theirs, by address. The index is that of these procedures and
+/// points. The work is n log n in the points of the procedures that the insertions select, and four lists of a number for each
+/// procedure are set to 0.
 pub fn plan(
     alloc: Global,
     checked: &Checked,
@@ -83,10 +89,12 @@ pub fn plan(
     tree: &Tree,
     procs: &[Proc],
     points: &[Point],
+    index: &PlanIndex,
 ) -> Result<Plan, PlanFault>
     requires metric { metric < length checked.now.metrics }
     requires procs { length procs.now < 2 ^ 32 }
     requires points { length points.now < 2 ^ 32 }
+    requires index { IsIndexOf procs.now points.now index.now }
     ensures answer { (m : Metric) → slice_get checked.now.metrics metric ≡ Some m →
         Answers result (plan_of checked.now.constraints m focus.now tree.now procs.now points.now) }
     ensures within { IfOk result (IsPlanOver points.now) }
@@ -98,5 +106,5 @@ pub fn plan(
 {
     let metric = &checked.metrics.as_slice()[metric as usize];
     let active = active_at(checked.constraints.as_slice(), metric, focus)?;
-    planned(alloc, metric, &active, focus, tree, procs, points)
+    planned(alloc, metric, &active, focus, tree, procs, points, index)
 }

@@ -4,31 +4,33 @@ ghost use Rattle.std.specs.Prelude.{◌≡◌, ◌<◌, ◌==◌, ◌^◌, ℕ, 
 ghost use Rattle.std.specs.List.{list_any};
 ghost use Rattle.resource_tree.specs.Foci.{part};
 ghost use Rattle.mdl_plan.specs.Choosing.{in_set};
-ghost use Rattle.mdl_plan.specs.Selecting.{scope, Selects};
+ghost use Rattle.mdl_plan.specs.Selecting.{scope, AreNames, Selects};
 
-use crate::names::Names;
+use crate::index::PlanIndex;
 use mdl_ast::Set;
 use pn_types::{Focus, NoMemory, Proc};
 use resource_tree::Tree;
 use std::alloc::Global;
 use std::marker::Model;
 
-/// What tells the procedures of a set: the numbers of those that the focus selects, and all procedures.
+/// What tells the procedures of a set: a focus on the nodes of a tree, and all procedures with their index.
 #[derive(Drop)]
 pub(crate) struct Scope<'a> {
-    selected: Vec<u32>,
+    tree: &'a Tree,
+    focus: &'a Focus,
     procs: &'a [Proc],
-    names: Names,
+    index: &'a PlanIndex,
 }
 
 impl<'a> Model for Scope<'a> {
+    ghost use Rattle.resource_tree.specs.Foci.{part};
     ghost use Rattle.mdl_plan.specs.Selecting.{AreNames, Scope, scope};
 
     ghost Value = { Scope };
 
-    ghost view = { λ s. scope s.selected.items s.procs.now };
+    ghost view = { λ s. scope (part s.tree.now s.focus.now).procs s.procs.now };
 
-    ghost invariant = { λ s. AreNames s.procs.now s.names };
+    ghost invariant = { λ s. AreNames s.procs.now s.index.now.names };
 }
 
 /// The numbers of all procedures, of which there are so many.
@@ -43,23 +45,22 @@ fn all_procs(alloc: Global, procs: u32) -> Result<Vec<u32>, NoMemory>
 }
 
 impl<'a> Scope<'a> {
-    /// The scope of these procedures at a focus.
+    /// The scope of these procedures at a focus. The index is theirs.
     pub(crate) fn new(
-        alloc: Global,
-        tree: &Tree,
-        focus: &Focus,
+        tree: &'a Tree,
+        focus: &'a Focus,
         procs: &'a [Proc],
-    ) -> Result<Scope<'a>, NoMemory>
-        requires { length procs.now < 2 ^ 32 }
-        ensures { IfOk result (λ made. made ≡ scope (part tree.now focus.now).procs procs.now) }
+        index: &'a PlanIndex,
+    ) -> Scope<'a>
+        requires { AreNames procs.now index.now.names }
+        ensures { result ≡ scope (part tree.now focus.now).procs procs.now }
     {
-        let selected = tree.procs(alloc, focus)?;
-        let names = Names::of(alloc, procs)?;
-        Ok(Scope {
-            selected,
+        Scope {
+            tree,
+            focus,
             procs,
-            names,
-        })
+            index,
+        }
     }
 
     /// How many procedures there are.
@@ -76,9 +77,9 @@ impl<'a> Scope<'a> {
     {
         let procs = self.procs.len() as u32;
         match set {
-            Set::Focus => Ok(Vec::from_slice(alloc, &self.selected)?),
+            Set::Focus => self.tree.procs(alloc, self.focus),
             Set::All => all_procs(alloc, procs),
-            Set::Names(names) => self.names.with_any(alloc, names.as_slice()),
+            Set::Names(names) => self.index.with_any(alloc, names.as_slice()),
         }
     }
 }

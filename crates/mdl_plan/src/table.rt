@@ -3,8 +3,9 @@
 ghost use Rattle.std.specs.Prelude.{◌≡◌, ◌<◌, ◌^◌, [], IfOk, OnOk, if◌then◌else◌, length, slice_index_or};
 ghost use Rattle.mdl_plan.specs.Choosing.{is_chosen, is_kind};
 ghost use Rattle.mdl_plan.specs.Numbers.{Added, AreNumbers};
-ghost use Rattle.mdl_plan.specs.Tables.{has_numbers, numbers_if, IsTable};
+ghost use Rattle.mdl_plan.specs.Tables.{has_numbers, numbers_if, HavePlaces, IsTable};
 
+use crate::index::PlanIndex;
 use crate::lists::Lists;
 use crate::pieces::Piece;
 use crate::scope::Scope;
@@ -54,7 +55,7 @@ fn add(
         return Ok(());
     }
     let selected = scope.selected(alloc, piece.set())?;
-    lists.mark_all(number, &selected)?;
+    lists.mark_all(alloc, number, &selected)?;
     Ok(())
 }
 
@@ -109,5 +110,19 @@ impl Table {
             || !numbers_if(point.after, &self.after, proc_no).is_empty()
             || !numbers_if(point.ret, &self.ret, proc_no).is_empty()
             || !numbers_if(point.call, &self.call, proc_no).is_empty()
+    }
+
+    /// The places of the points of the procedures for which a piece is chosen, ascending.
+    pub(crate) fn places(&self, alloc: Global, index: &PlanIndex) -> Result<Vec<u32>, NoMemory>
+        ensures { IfOk result (λ places. HavePlaces self.now index.now.places places.items) }
+    {
+        let mut places = Vec::new(alloc);
+        self.entry.add_places(&mut places, index)?;
+        self.after.add_places(&mut places, index)?;
+        self.ret.add_places(&mut places, index)?;
+        self.call.add_places(&mut places, index)?;
+        places.sort_unstable();
+        places.dedup();
+        Ok(places)
     }
 }

@@ -10,3 +10,4 @@ mod OneDue
 mod Rising
 mod OneOwed
 mod Served
+mod Complete

@@ -1,5 +1,5 @@
 -- What is due is unique where each file was seen as one thing.
-use Rattle.std.proofs.Common.{◌≡◌, ℕ, Bool, true, false, List, Option, Some, None, Result, Ok, Err, refl, sym, ap, ◌∙◌, subst}
+use Rattle.std.proofs.Common.{◌≡◌, ℕ, Bool, true, false, List, Option, Some, None, Result, Ok, Err, refl, sym, ap, ◌∙◌}
 use Rattle.std.specs.Prelude.{codes, is_some}
 use Rattle.command_words.specs.Requests.{Request, RunRequest, LiveRequest, ReplayRequest, PlanRequest, StressRequest, run, live, replay, make_plan, assemble, list_points, relog, stress, begins_live, request_of}
 use Rattle.command_words.proofs.Lives.{AskNotLive, not_live}
@@ -26,7 +26,7 @@ use Rattle.pn_types.specs.declared.settings.Start.TheVariants.{Cold, Warm}
 use Rattle.pn_types.specs.declared.code.Point.{Point}
 use Rattle.quanta_log.specs.Meaning.{meaning_of}
 use Rattle.quanta_log.specs.declared.quantum.Quantum.{Quantum}
-use Rattle.refusals.proofs.Steps.{IsOne, one_then}
+use Rattle.refusals.proofs.Steps.{IsOne, one_then, related_then}
 use Rattle.refusals.specs.Kinds.{fault_at, syntax_kind, check_kind}
 use Rattle.refusals.specs.Refusals.{Step, Then}
 use Rattle.refusals.specs.declared.configuration.ConfKind.TheVariants.{TooLong as TooLongConf}
@@ -78,18 +78,6 @@ of_same (Ok x) (Ok y) e = tt
 of_same (Ok x) (Err g) e = absurd (cc)
 of_same (Err f) (Ok y) e = absurd (cc)
 of_same (Err f) (Err g) e = cc
-
-alike_then : {A : Type 0} (first : Step A) (next : A → Step Texts) → IsOne first → ((a : A) (r s : Result Texts Fault) → next a r → next a s → AreAlike r s) → (r s : Result Texts Fault) → Then first next r → Then first next s → AreAlike r s
-alike_then first next one each r s (Ok a, f, n) (Ok b, g, m) =
-    let same = one (Ok a) (Ok b) f g in
-    let value : b ≡ a = cc in
-    each a r s n (subst (λ x. next x s) value m)
-alike_then first next one each r s (Ok a, f, n) (Err e, g, m) = let same = one (Ok a) (Err e) f g in absurd cc
-alike_then first next one each r s (Err e, f, n) (Ok b, g, m) = let same = one (Err e) (Ok b) f g in absurd cc
-alike_then first next one each r s (Err e, f, n) (Err d, g, m) =
-    let same = one (Err e) (Err d) f g in
-    let fault : e ≡ d = cc in
-    of_same r s (n ∙ ap (λ x. Err x) fault ∙ sym m)
 
 opened_alike : (pick : Option RefusedWish) (i : SessionInputs) (AreRight : List Quantum → Type 0) (texts_of : List Quantum → Texts) (a b : Result Texts Fault) → IsOpened pick i AreRight texts_of a → IsOpened pick i AreRight texts_of b → AreAlike a b
 opened_alike None i AreRight texts_of (Ok x) (Ok y) d e = tt
@@ -245,7 +233,7 @@ module _ (laws : Laws) where
     run_due_once r = one_then (IsPrepared r.program r.conf r.settings sees) (IsRunWith r) (prepared_once sees once r.program r.conf r.settings) (run_once r)
 
     live_due_alike : (r : LiveRequest) (a b : Result Texts Fault) → IsLiveDue r sees a → IsLiveDue r sees b → AreAlike a b
-    live_due_alike r = alike_then (IsPrepared r.program r.conf r.settings sees) (IsLiveWith r) (prepared_once sees once r.program r.conf r.settings) (live_alike r)
+    live_due_alike r = related_then AreAlike of_same (IsPrepared r.program r.conf r.settings sees) (IsLiveWith r) (prepared_once sees once r.program r.conf r.settings) (live_alike r)
 
     log_once : (name : List ℕ) → IsOne (IsLog sees name)
     log_once name = one_then (IsLogContent sees name) MeansLog (content_once sees once LOG_LIMIT (BadLog LOG_LIMIT TooLongLog) name) (λ bytes. equal_once (or_bad_log bytes (meaning_of bytes)))

@@ -57,6 +57,10 @@ abbrev pub AreTorn : {K L : Type 0} → (K → Option (List ℕ)) → (K → ℕ
 AreTorn hasK faultsK oldK newK hasL faultsL oldL newL texts =
     ((newK ≡ oldK) × IsTorn hasL faultsL oldL newL texts.log) ⊎ (Gained hasL faultsL oldL newL texts.log × IsTorn hasK faultsK oldK newK texts.out)
 
+-- a count of faults is below the end of its type, and didn't rise
+abbrev pub IsSpared : ℕ → ℕ → Type 0
+IsSpared before now = (before < 2 ^ 64 - 1) × (now ≡ before)
+
 -- the words of a command line; words that aren't text are none, and are no command
 abbrev pub words_read : Words → Option (List (List ℕ))
 words_read (Read words) = Some (map string_bytes words.items)

@@ -19,7 +19,7 @@ use crate::inputs::read_inputs;
 use crate::texts::Texts;
 use command_words::PlanRequest;
 use mdl_ast::Metric;
-use mdl_plan::{PlanFault, plan};
+use mdl_plan::{PlanFault, PlanIndex, plan};
 use outside::Files;
 use pn_types::{Focus, Image, PickCause, Text};
 use prim_code::predicted;
@@ -76,6 +76,7 @@ fn plan_at(
     let metric = text_of(alloc, name)?;
     let procs = found.procs.as_slice();
     let points = found.points.as_slice();
+    let index = PlanIndex::new(alloc, procs, points)?;
     match plan(
         alloc,
         &found.checked,
@@ -84,6 +85,7 @@ fn plan_at(
         &found.tree,
         procs,
         points,
+        &index,
     ) {
         Ok(plan) => {
             let words = predicted(&plan);

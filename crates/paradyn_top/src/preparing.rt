@@ -1,6 +1,6 @@
 //! What a session is given.
 
-ghost use Rattle.std.specs.Prelude.{◌≡◌, IfOk};
+ghost use Rattle.std.specs.Prelude.{◌≡◌, ◌<◌, ◌^◌, IfOk, length};
 ghost use Rattle.paradyn_top.specs.Runs.{IsPrepared};
 ghost use Rattle.paradyn_top.specs.Given.{inputs_with};
 ghost use Rattle.paradyn_top.specs.Sights.{seen, Looks};
@@ -11,23 +11,35 @@ ghost use Rattle.session.specs.Given.{AreGiven};
 use crate::finding::{Found, find};
 use crate::inputs::read_inputs;
 use outside::Files;
-use pn_types::{Image, Settings};
+use pn_types::{Image, NoMemory, Settings};
 use refusals::Refusal;
 use session::Inputs;
 use std::alloc::Global;
 
 /// What a session is given: an image, what was found of it, and settings.
-pub fn session_inputs(image: Image, found: Found, settings: Settings) -> Inputs
-    ensures { result ≡ inputs_with image found settings }
+///
+/// # Errors
+///
+/// `NoMemory` where memory is wanting.
+pub fn session_inputs(
+    alloc: Global,
+    image: Image,
+    found: Found,
+    settings: Settings,
+) -> Result<Inputs, NoMemory>
+    requires procs { length found.procs < 2 ^ 32 }
+    requires points { length found.points < 2 ^ 32 }
+    ensures { IfOk result (λ inputs. inputs ≡ inputs_with image found settings) }
 {
-    Inputs {
+    Inputs::new(
+        alloc,
         image,
-        checked: found.checked,
-        tree: found.tree,
-        procs: found.procs,
-        points: found.points,
+        found.checked,
+        found.tree,
+        found.procs,
+        found.points,
         settings,
-    }
+    )
 }
 
 /// Reads a program and a configuration, and gives what a session is given of them.
@@ -46,5 +58,6 @@ pub(crate) fn prepare<F: Files>(
 {
     let inputs = read_inputs(alloc, files, program, conf)?;
     let found = find(alloc, &inputs.image, settings.harts, &inputs.conf)?;
-    Ok(session_inputs(inputs.image, found, settings))
+    let given = session_inputs(alloc, inputs.image, found, settings)?;
+    Ok(given)
 }

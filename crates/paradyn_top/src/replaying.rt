@@ -50,7 +50,8 @@ fn replay_found(alloc: Global, log: &Log, image: Image, found: Found) -> Result<
     requires runs { CanRun image log.now.settings.harts found }
     ensures { Comes result (IsReplay log.now image found) }
 {
-    replay_inputs(alloc, log, session_inputs(image, found, log.settings))
+    let inputs = session_inputs(alloc, image, found, log.settings)?;
+    replay_inputs(alloc, log, inputs)
 }
 
 /// What is due of a program and a configuration along the quanta of a log of a cold start.

@@ -1,12 +1,13 @@
-ghost use Rattle.std.specs.Prelude.{◌≡◌, ◌≢◌, false, IfOk, Result, Err, Some, map, string_bytes};
+ghost use Rattle.std.specs.Prelude.{◌≡◌, ◌≢◌, ◌⊎◌, ℕ, false, IfOk, List, Result, Ok, Err, Some, map, string_bytes};
 ghost use Rattle.command_words.specs.Requests.{begins_live};
 ghost use Rattle.paradyn_top.specs.Answers.{status_of, texts_of};
-ghost use Rattle.paradyn_top.specs.Serving.{IsOwed, IsUntold, IsReply, AreGained, AreTorn, told_of};
+ghost use Rattle.paradyn_top.specs.Serving.{IsOwed, IsSpared, IsUntold, IsReply, AreGained, AreTold, AreTorn, told_of};
 ghost use Rattle.paradyn_top.specs.declared.texts.Texts.{Texts as texts};
 ghost use Rattle.refusals.specs.declared.fault.Fault.{Fault as fault};
 
 use crate::answering::{answer, answer_live};
 use crate::delivery::deliver;
+use crate::laws::one_owed;
 use crate::texts::Texts;
 use command_words::begin_live;
 use outside::{Files, Gate, Sink};
@@ -98,9 +99,10 @@ pub fn serve<F: Files, K: Sink, L: Sink>(
 /// All that the program does: it takes the words of the command line without the program's name, reads the files that
 /// they name, and writes to the output and the log. It answers the program's status:
 ///
-/// - 0: the output gained what was asked for: the report of the program's whole run, or of a run along the quanta of a log, the plan of
-///   a metric, the program's points, the ELF file of an assembly text, or a log as it is written now. The log of a run gained its
-///   quanta where one was asked for.
+/// - 0: the output gained what was asked for: the report of the program's whole run in the order of a seed, of one that workers share
+///   or of one along the quanta of a log, the plan of a metric, the program's points, the ELF file of an assembly text, a log as it is
+///   written now, or the line that sums up the run of a program that was made from a seed. The log of a run gained its quanta where
+///   one was asked for.
 /// - 2: the words are no command, and the output gained the line of that fault.
 /// - 3: a file could not be read, and the output gained a line with its name.
 /// - 4: the program is faulty, and the output gained the line of that fault.
@@ -110,7 +112,7 @@ pub fn serve<F: Files, K: Sink, L: Sink>(
 /// - 7: a sink failed; each sink has a prefix of what was due, and the log came first.
 /// - 8: memory was wanting; both sinks are as before.
 /// - 9: the log is faulty, or its quanta aren't those of a whole run, and the output gained the line of that fault.
-/// - 10: the command, the program or the configuration isn't supported yet, and the output gained the line of that fault.
+/// - 10: the log is of a warm start, which isn't supported yet, and the output gained the line of that fault.
 pub fn paradyn<R: Threads + Wait + Sync, F: Files, K: Sink, L: Sink, G: Gate + Sync>(
     rt: &R,
     alloc: Global,
@@ -132,7 +134,14 @@ pub fn paradyn<R: Threads + Wait + Sync, F: Files, K: Sink, L: Sink, G: Gate + S
     // 8: nothing was written, and nothing was read beyond what is due.
     ensures memory { result ≡ 8 → (out.new ≡ out.old) × (log.new ≡ log.old)
         × IsUntold F.holds F.faults files.old files.new (map string_bytes words.now) }
+    // Complete: where texts are due and no sink failed, they were given, or memory was wanting.
+    ensures complete { AreTold F.holds F.faults files.old → (due : texts) → IsOwed F.holds F.faults files.old files.new (map string_bytes words.now) (Ok due)
+        → IsSpared (K.faults out.old) (K.faults out.new) → IsSpared (L.faults log.old) (L.faults log.new) → (result ≡ 0) ⊎ (result ≡ 8) }
+    // A file that could not be read, and a sink that failed, tell themselves by the status.
+    ensures unread { (name : List ℕ) → F.faults files.new name ≢ F.faults files.old name → (result ≡ 3) ⊎ ((result ≡ 7) ⊎ (result ≡ 8)) }
+    ensures unwritten { (K.faults out.new ≢ K.faults out.old) ⊎ (L.faults log.new ≢ L.faults log.old) → result ≡ 7 }
 {
+    one_owed::<F>();
     if begin_live(words) {
         let answered = answer_live(rt, alloc, words, files, gate);
         give(alloc, answered, out, log)

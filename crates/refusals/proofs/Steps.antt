@@ -33,18 +33,23 @@ handed_as step e (Err x) h why = subst (λ (y : Refusal). Comes (Err y) step) (s
 abbrev pub IsOne : {A : Type 0} → Step A → Type 0
 IsOne {A} step = (a b : Result A Fault) → step a → step b → a ≡ b
 
--- where each of two steps comes to one thing, so do both
-pub one_then : {A B : Type 0} (first : Step A) (next : A → Step B) → IsOne first → ((a : A) → IsOne (next a)) → IsOne (Then first next)
-one_then first next one each r s (Ok a, f, n) (Ok b, g, m) =
-    let same = one (Ok a) (Ok b) f g in
+-- where the first of two steps comes to one thing, and what the second comes to is related, so is what both come to
+pub related_then : {A B : Type 0} (R : Result B Fault → Result B Fault → Type 0) → ((r s : Result B Fault) → r ≡ s → R r s) → (first : Step A) (next : A → Step B) → IsOne first
+    → ((a : A) (r s : Result B Fault) → next a r → next a s → R r s) → (r s : Result B Fault) → Then first next r → Then first next s → R r s
+related_then R same first next one each r s (Ok a, f, n) (Ok b, g, m) =
+    let is = one (Ok a) (Ok b) f g in
     let value : b ≡ a = cc in
     each a r s n (subst (λ x. next x s) value m)
-one_then first next one each r s (Ok a, f, n) (Err e, g, m) = let same = one (Ok a) (Err e) f g in absurd cc
-one_then first next one each r s (Err e, f, n) (Ok b, g, m) = let same = one (Err e) (Ok b) f g in absurd cc
-one_then first next one each r s (Err e, f, n) (Err d, g, m) =
-    let same = one (Err e) (Err d) f g in
+related_then R same first next one each r s (Ok a, f, n) (Err e, g, m) = let is = one (Ok a) (Err e) f g in absurd cc
+related_then R same first next one each r s (Err e, f, n) (Ok b, g, m) = let is = one (Err e) (Ok b) f g in absurd cc
+related_then R same first next one each r s (Err e, f, n) (Err d, g, m) =
+    let is = one (Err e) (Err d) f g in
     let fault : e ≡ d = cc in
-    n ∙ ap (λ x. Err x) fault ∙ sym m
+    same r s (n ∙ ap (λ x. Err x) fault ∙ sym m)
+
+-- where each of two steps comes to one thing, so do both
+pub one_then : {A B : Type 0} (first : Step A) (next : A → Step B) → IsOne first → ((a : A) → IsOne (next a)) → IsOne (Then first next)
+one_then first next one each = related_then (λ r s. r ≡ s) (λ r s e. e) first next one each
 
 -- where a fault is what both come to, it is what one of them comes to
 pub of_either : {A B : Type 0} (P : Type 0) (first : Step A) (next : A → Step B) (fault : Fault) → (first (Err fault) → P) → ((a : A) → next a (Err fault) → P) → Then first next (Err fault) → P

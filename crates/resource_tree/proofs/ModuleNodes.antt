@@ -25,6 +25,20 @@ module _ {K V : Type 0} (now : K → List ℕ) (items : V → List ℕ) where
           ap (λ (l : List ℕ). module_node (now e.0) l ∷ seen es) (k ∙ ap (λ (u : V). items u ++ n ∷ []) (sym same))
       by false g rest = ap (λ (l : List ModuleNode). module_node (now e.0) (items e.1) ∷ l) (rest g)
 
+  -- a module whose procedures stay
+  pub same_member : (name : List ℕ) (v w : V) (es : List (K × V)) → lookup (λ key. bytes_eq name (now key)) es ≡ Some v → items w ≡ items v
+      → seen (set_value (λ key. bytes_eq name (now key)) es w) ≡ seen es
+  same_member name v w [] h k = cc
+  same_member name v w (e ∷ es) h k = by (bytes_eq name (now e.0)) h (λ g. same_member name v w es g k)
+    where
+      by : (b : Bool) → cond b (Some e.1) (lookup (λ key. bytes_eq name (now key)) es) ≡ Some v
+          → (lookup (λ key. bytes_eq name (now key)) es ≡ Some v → seen (set_value (λ key. bytes_eq name (now key)) es w) ≡ seen es)
+          → seen (cond b ((e.0, w) ∷ es) (e ∷ set_value (λ key. bytes_eq name (now key)) es w)) ≡ module_node (now e.0) (items e.1) ∷ seen es
+      by true g rest =
+          let same : e.1 ≡ v = cc in
+          ap (λ (l : List ℕ). module_node (now e.0) l ∷ seen es) (k ∙ ap (λ (u : V). items u) (sym same))
+      by false g rest = ap (λ (l : List ModuleNode). module_node (now e.0) (items e.1) ∷ l) (rest g)
+
   -- the first procedure of a module
   pub new_member : (key : K) (v : V) (n : ℕ) (es : List (K × V)) → lookup (λ k. bytes_eq (now key) (now k)) es ≡ None → items v ≡ n ∷ []
       → seen (insert_entry (λ a b. bytes_eq (now a) (now b)) es key v) ≡ add_to (now key) n (seen es)

@@ -26,6 +26,7 @@ impl Desk {
     /// # Errors
     ///
     /// `NoMemory` where memory is wanting. Then nothing but the memory that was taken has changed.
+    #[inline(never)]
     pub(crate) fn admit(
         &mut self,
         alloc: Global,
@@ -62,6 +63,7 @@ impl Desk {
 /// # Errors
 ///
 /// `NoMemory` where memory is wanting. Then nothing but the memory that was taken has changed.
+#[inline(always)]
 fn admit(
     alloc: Global,
     inputs: &Inputs,
@@ -91,6 +93,7 @@ fn admit(
 /// # Errors
 ///
 /// `NoMemory` where memory is wanting. Then nothing but the memory that was taken has changed.
+#[inline(always)]
 pub(crate) fn admit_from(
     alloc: Global,
     inputs: &Inputs,

@@ -106,6 +106,7 @@ impl Drop for Desk {
 
 impl Desk {
     /// Whether the hart can take a turn.
+    #[inline(always)]
     pub(crate) fn runnable(&self, hart: HartNo) -> bool
         requires { hart < length self.now.machine.state.core.harts }
         ensures { result ≡ is_runnable self.now.machine.state.core hart }
@@ -114,6 +115,7 @@ impl Desk {
     }
 
     /// The hart takes turns, at most so many. It answers how many of them were ticks.
+    #[inline(always)]
     pub(crate) fn turn(&mut self, hart: HartNo, most: u32) -> u32
         requires hart { hart < length self.old.machine.state.core.harts }
         requires time { self.old.time < 2 ^ 63 }
@@ -131,6 +133,7 @@ impl Desk {
     }
 
     /// Hands out eight entries of the agenda.
+    #[inline(always)]
     pub(crate) fn hand_out(&mut self)
         ensures table { self.new ≡ table_handed self.old }
         ensures harts { self.new.machine.state.core.harts ≡ self.old.machine.state.core.harts }

@@ -1,10 +1,11 @@
-ghost use Rattle.std.specs.Prelude.{◌≡◌, IfOk};
+ghost use Rattle.std.specs.Prelude.{◌≡◌, ◌<◌, ◌^◌, IfOk, length};
 ghost use Rattle.session_spec.specs.Searches.{rules_of};
 ghost use Rattle.session.specs.Contenders.{first_search};
 ghost use Rattle.session.specs.Given.{AreGiven};
 
 use mdl_ast::SearchDecl;
 use mdl_check::Checked;
+use mdl_plan::PlanIndex;
 use pn_types::{Image, NoMemory, Point, Proc, Seq, Settings};
 use resource_tree::Tree;
 use std::alloc::Global;
@@ -35,17 +36,52 @@ pub struct Inputs {
     pub points: Seq<Point>,
     /// The numbers of the run.
     pub settings: Settings,
+    // What plans look up of the procedures and points.
+    pub(crate) index: PlanIndex,
 }
 
 impl Model for Inputs {
+    ghost use Rattle.mdl_plan.specs.Indexes.{IsIndexOf};
     ghost use Rattle.session_spec.specs.Inputs.{Inputs};
 
     ghost Value = { Inputs };
 
     ghost view = { λ i. record { image = i.image; checked = i.checked; tree = i.tree; procs = i.procs; points = i.points; settings = i.settings } };
+
+    ghost invariant = { λ i. IsIndexOf i.procs i.points i.index };
 }
 
 impl Inputs {
+    /// The inputs of these parts. The work is linear in the procedures and points.
+    ///
+    /// # Errors
+    ///
+    /// `NoMemory` where memory is wanting.
+    pub fn new(
+        alloc: Global,
+        image: Image,
+        checked: Checked,
+        tree: Tree,
+        procs: Seq<Proc>,
+        points: Seq<Point>,
+        settings: Settings,
+    ) -> Result<Inputs, NoMemory>
+        requires procs { length procs < 2 ^ 32 }
+        requires points { length points < 2 ^ 32 }
+        ensures { IfOk result (λ inputs. inputs ≡ record { image = image; checked = checked; tree = tree; procs = procs; points = points; settings = settings }) }
+    {
+        let index = PlanIndex::new(alloc, procs.as_slice(), points.as_slice())?;
+        Ok(Inputs {
+            image,
+            checked,
+            tree,
+            procs,
+            points,
+            settings,
+            index,
+        })
+    }
+
     /// The ticks of a sample's interval.
     pub(crate) fn width(&self) -> u64
         ensures { result ≡ self.now.settings.width }

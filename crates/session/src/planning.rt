@@ -29,6 +29,7 @@ fn planned(alloc: Global, inputs: &Inputs, metric: u32, focus: &Focus) -> Result
         &inputs.tree,
         inputs.procs.as_slice(),
         inputs.points.as_slice(),
+        &inputs.index,
     )
 }
 

@@ -39,6 +39,7 @@ pub(crate) fn put_kit(list: &mut Vec<Kit>, kit: Kit)
 }
 
 /// Puts a quantum behind the others, for which there is room.
+#[inline(always)]
 pub(crate) fn put_quantum(list: &mut Vec<Quantum>, quantum: Quantum)
     requires { vec_len list.old < vec_capacity list.old }
     ensures items { list.new.items ≡ list.old.items ++ quantum ∷ [] }

@@ -112,6 +112,13 @@ impl Session {
         self.desk.samples
     }
 
+    /// Whether work was done at the end of the last quantum, so that an admission is due.
+    pub fn worked(&self) -> bool
+        ensures { result ≡ (state_of self.now).kept.worked }
+    {
+        self.desk.worked
+    }
+
     /// The samples that were taken together last, by the place of what they show.
     pub fn latest(&self) -> &[Latest]
         ensures { result.now ≡ (state_of self.now).latest }
@@ -150,6 +157,7 @@ impl Session {
 
     /// Whether a quantum of the hart can follow: it is runnable, and there are fewer quanta than there may be. The hart is one of
     /// the settings'.
+    #[inline(always)]
     pub fn runnable(&self, hart: u32) -> bool
         requires { hart < self.now.inputs.settings.harts }
         ensures open { IsTrue result → is_runnable (state_of self.now).kept.machine.core hart ≡ true }

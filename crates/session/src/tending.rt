@@ -14,6 +14,7 @@ use session_kits::hand_out;
 
 impl Desk {
     /// The work that is due: it settles, samples, frees, arms and judges.
+    #[inline(never)]
     fn work(&mut self, width: u64)
         requires time { self.old.time < 2 ^ 57 + 2 ^ 32 }
         requires idle { self.old.idle < 2 ^ 49 }
@@ -35,6 +36,7 @@ impl Desk {
 
     /// The hart's turns, some entries of the agenda, and the work that is due, if it is time. It answers how many of the turns were
     /// ticks.
+    #[inline(always)]
     pub(crate) fn tend(&mut self, hart: HartNo, most: u32, width: u64) -> u32
         requires hart { hart < length self.old.machine.state.core.harts }
         requires time { self.old.time < 2 ^ 57 }

@@ -8,10 +8,15 @@ ghost use Rattle.instrumented.specs.Instrumented.{repeated};
 use instrumented::InstrumentedMachine;
 
 /// Hands out so many entries.
+#[inline(always)]
 pub fn hand_out(machine: &mut InstrumentedMachine, count: usize)
     ensures machine { machine.new ≡ record machine.old { state = repeated count Hands machine.old.state } }
     ensures harts { machine.new.state.core.harts ≡ machine.old.state.core.harts }
 {
+    // Behind most quanta there is none.
+    if machine.agenda_len() == 0 {
+        return;
+    }
     for _ in 0..count {
         machine.hand();
     }

@@ -1,13 +1,14 @@
 //! The samples of what is shown or tested.
 
 ghost use Rattle.std.specs.Prelude.{◌≡◌, ◌<◌, ◌≤◌, ◌+◌, ◌^◌, ◌++◌, length, map, vec_len, vec_capacity};
-ghost use Rattle.std.specs.List.{AllByRecursion};
+ghost use Rattle.std.specs.List.{AllByRecursion, range_with_len};
 ghost use Rattle.pn_types.specs.declared.limits.TheConstants.{MAX_HARTS};
 ghost use Rattle.machine.specs.Events.{IsQuiet};
 ghost use Rattle.machine.specs.Measures.{difference};
 ghost use Rattle.instrument.specs.Placements.{state_of};
 ghost use Rattle.instrument.specs.declared.number.State.TheVariants.{Gone};
 ghost use Rattle.session_spec.specs.Due.{is_armed, place_behind};
+ghost use Rattle.session_spec.specs.Reads.{ticks_between, ticks_of};
 ghost use Rattle.session_kits.specs.Kits.{HasFew, HasHarts, kit_bin, kit_reading, kit_sampled, kits_latest, kits_tests, latest_by, test_by};
 
 use crate::kit::Kit;
@@ -91,13 +92,27 @@ fn put_latest(list: &mut Vec<Latest>, node: Option<u32>, place: u32, bin: Option
     }
 }
 
-/// Puts a sample, if there is one, behind the others of nodes, for which there is room.
-fn put_test(list: &mut Vec<NodeSample>, node: Option<u32>, ticks: u64, bin: Option<Bin>)
-    requires { vec_len list.old < vec_capacity list.old }
-    ensures items { list.new.items ≡ list.old.items ++ test_by node ticks bin }
+/// Puts a sample, if there is one, behind the others of nodes, for which there is room. Its ticks are those of so many harts from a
+/// number on, since the last sample.
+fn put_test(
+    list: &mut Vec<NodeSample>,
+    node: Option<u32>,
+    bin: Option<Bin>,
+    machine: &InstrumentedMachine,
+    marks: &[u64],
+    first: u32,
+    count: u32,
+)
+    requires room { vec_len list.old < vec_capacity list.old }
+    requires marks { length marks.now ≡ length machine.now.state.core.harts }
+    requires small { AllByRecursion (λ x. x.ticks < 2 ^ 58) machine.now.state.core.harts }
+    requires most { length machine.now.state.core.harts ≤ MAX_HARTS }
+    requires harts { first + count ≤ length machine.now.state.core.harts }
+    ensures items { list.new.items ≡ list.old.items ++ test_by node (ticks_between (range_with_len first count) marks.now (ticks_of machine.now.state)) bin }
     ensures room { vec_capacity list.old ≤ vec_capacity list.new }
 {
     if let (Some(node), Some(bin)) = (node, bin) {
+        let ticks = ticks_since(machine, marks, first, count);
         let _room = list.push(NodeSample {
             node,
             from: bin.from,
@@ -152,10 +167,11 @@ pub fn sample_kits(
     for place in 0..kits.len() {
         let kit = &mut kits[place];
         let node = kit.shown.node;
-        let ticks = ticks_since(machine, marks, kit.first, kit.count);
+        let first = kit.first;
+        let count = kit.count;
         let bin = sample_kit(machine, time, kit, sample);
         put_latest(latest, node, wished, bin);
-        put_test(tests, node, ticks, bin);
+        put_test(tests, node, bin, machine, marks, first, count);
         wished = place_behind(node, wished);
     }
 }

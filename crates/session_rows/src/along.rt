@@ -64,7 +64,7 @@ fn report_from(
     let inputs = read_inputs(alloc, files, "p", "c")?;
     let found = find(alloc, &inputs.image, settings.harts, &inputs.conf)?;
     let (_, skipped) = procedures(alloc, &inputs.image)?;
-    let inputs = session_inputs(inputs.image, found, settings);
+    let inputs = session_inputs(alloc, inputs.image, found, settings)?;
     report_of(alloc, inputs, quanta, skipped)
 }
 

@@ -8,37 +8,23 @@ use Rattle.w3_search.specs.declared.node.NodeState.{NodeState}
 use Rattle.w3_search.specs.declared.node.NodeState.TheVariants.{Waiting, Active, Confirmed, Rejected, Barred, Unfinished}
 
 abbrev pub is_confirmed : NodeState → Bool
-is_confirmed Waiting = false
-is_confirmed Active = false
 is_confirmed Confirmed = true
-is_confirmed Rejected = false
-is_confirmed (Barred cause) = false
-is_confirmed (Unfinished seen) = false
+is_confirmed state = false
 
 abbrev pub is_rejected : NodeState → Bool
-is_rejected Waiting = false
-is_rejected Active = false
-is_rejected Confirmed = false
 is_rejected Rejected = true
-is_rejected (Barred cause) = false
-is_rejected (Unfinished seen) = false
+is_rejected state = false
 
 abbrev pub is_barred : NodeState → Bool
-is_barred Waiting = false
-is_barred Active = false
-is_barred Confirmed = false
-is_barred Rejected = false
 is_barred (Barred cause) = true
-is_barred (Unfinished seen) = false
+is_barred state = false
 
 -- no test of it came to its end
 abbrev pub is_waiting : NodeState → Bool
 is_waiting Waiting = true
 is_waiting Active = true
-is_waiting Confirmed = false
-is_waiting Rejected = false
-is_waiting (Barred cause) = false
 is_waiting (Unfinished seen) = true
+is_waiting state = false
 
 -- how many nodes have such a state
 abbrev pub count_of : (NodeState → Bool) → List NodePart → ℕ

@@ -13,6 +13,9 @@ use std::thread::Threads;
 /// The room of each sink in bytes.
 const ROOM: u64 = 2_000_000;
 
+/// More bytes than a sink has.
+const ALL: usize = 2_000_000;
+
 /// Files and sinks in memory.
 #[derive(Drop)]
 pub struct Case {
@@ -137,20 +140,22 @@ impl Case {
         Ok(Served { exit, out, log })
     }
 
-    /// Serves words, and prints how the program ends and what the output gained. It answers what the log gained.
+    /// Serves words, and prints how the program ends and what the output gained, at most so many bytes. It answers what the log
+    /// gained.
     fn shown<R: Threads + Wait + Sync>(
         &self,
         rt: HostRuntime,
         threads: &R,
         alloc: Global,
         line: Option<&str>,
+        most: usize,
     ) -> io::Result<Vec<u8>> {
         let Served { exit, out, log } = self.served(threads, alloc, line, &OpenGate)?;
         let count = out.bytes().len();
         let logged = log.bytes().len();
         println!(rt; "{exit:?} out {count} log {logged}")?;
         let mut printed = StdSink::new(rt);
-        let _ = write_all(&mut printed, out.bytes());
+        let _ = write_all(&mut printed, &out.bytes()[..count.min(most)]);
         Ok(Vec::from_slice(alloc, log.bytes())?)
     }
 
@@ -162,11 +167,24 @@ impl Case {
         alloc: Global,
         line: Option<&str>,
     ) -> io::Result<()> {
-        let log = self.shown(rt, threads, alloc, line)?;
+        let log = self.shown(rt, threads, alloc, line, ALL)?;
         if log.is_empty() {
             return println!(rt; "");
         }
         println!(rt; "log {}\n", encode(alloc, &log)?.as_str())
+    }
+
+    /// Serves the words behind a number, and prints how the program ends and what the output gained, at most so many bytes.
+    pub fn begin<R: Threads + Wait + Sync>(
+        &self,
+        rt: HostRuntime,
+        threads: &R,
+        alloc: Global,
+        rest: &str,
+    ) -> io::Result<()> {
+        let (most, line) = rest.split_once(' ').unwrap_or((rest, ""));
+        let _log = self.shown(rt, threads, alloc, Some(line), most.parse().unwrap_or(ALL))?;
+        println!(rt; "\n")
     }
 
     /// Serves the words behind a name, and prints how the program ends and what the output gained. What the log gained is the file of
@@ -179,7 +197,7 @@ impl Case {
         rest: &str,
     ) -> io::Result<()> {
         let (name, line) = rest.split_once(' ').unwrap_or((rest, ""));
-        let log = self.shown(rt, threads, alloc, Some(line))?;
+        let log = self.shown(rt, threads, alloc, Some(line), ALL)?;
         self.files.push(Given::of(alloc, name, log)?)?;
         println!(rt; "")
     }

@@ -5,6 +5,8 @@ pub enum Line<'a> {
     Given(&'a str, &'a str),
     /// Words that are served, or none where they aren't text.
     Served(Option<&'a str>),
+    /// A number, and words that are served, of whose output only so many bytes are printed.
+    Begun(&'a str),
     /// A name, and words that are served, whose log is the file of that name from then on.
     Kept(&'a str),
     /// A name, and words that are served where two workers meet, whose log is the file of that name from then on.
@@ -29,6 +31,7 @@ impl<'a> Line<'a> {
         };
         match word {
             "words" => Line::Served(Some(rest)),
+            "begin" => Line::Begun(rest),
             "keep" => Line::Kept(rest),
             "meet" => Line::Met(rest),
             "compare" => Line::Compared(rest),

@@ -8,6 +8,7 @@
 //! - `fail NUMBER`: this reading of the last file fails, counted from 0.
 //! - `piece COUNT`: a writing takes at most so many bytes. `fail-out NUMBER`, `fail-log NUMBER`: this writing fails.
 //! - `words WORDS`: the words, between single spaces, are served. `not-text`: words that aren't text are.
+//! - `begin COUNT WORDS`: these words are served, and only so many bytes of what the output gained are printed.
 //! - `keep NAME WORDS`: these words are served, and the log that they leave isn't printed, but is the file NAME from then on.
 //! - `meet NAME WORDS`: the same, and two workers meet before the second quantum of each; of what is left only the status is printed,
 //!   and whether they met. `compare WORDS`: these words are served, and it is printed whether the output gains the same as then.
@@ -36,6 +37,10 @@ fn main(rt: HostRuntime) -> io::Result<()> {
             Line::Served(words) => {
                 println!(rt; "{text}")?;
                 case.serve(rt, &rt, alloc, words)?;
+            }
+            Line::Begun(rest) => {
+                println!(rt; "{text}")?;
+                case.begin(rt, &rt, alloc, rest)?;
             }
             Line::Kept(rest) => {
                 println!(rt; "{text}")?;

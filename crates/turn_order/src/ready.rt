@@ -29,9 +29,10 @@ impl Ready {
         }
     }
 
-    /// One hart more, behind the others.
+    /// One hart more, behind the others. Where memory is short all stays as it was.
     pub fn push(&mut self, hart: HartNo) -> Result<(), NoMemory>
-        ensures { OnOk result (self.new ≡ self.old ++ hart ∷ []) }
+        ensures pushed { OnOk result (self.new ≡ self.old ++ hart ∷ []) }
+        ensures err { OnErr result (self.new ≡ self.old) }
     {
         self.harts.push(hart)?;
         Ok(())

@@ -10,11 +10,11 @@ use Rattle.machine.specs.Turns.{is_runnable}
 use Rattle.session.specs.Sessions.{SessionData, state_of}
 use Rattle.session_spec.specs.Inputs.{Inputs}
 use Rattle.session_spec.specs.States.{Kept, State}
-use Rattle.session_spec.specs.Work.{Halted, first_state, quantum_of, tend, work, work_from}
+use Rattle.session_spec.specs.Work.{Halted, first_state, quantum_of, tend, work}
 use Rattle.whole_run.specs.declared.misfit.Misfit.{Misfit}
 use Rattle.whole_run.specs.declared.misfit.Misfit.TheVariants.{NotRunnable, OtherOwns, Unfinished}
 use Rattle.whole_run.specs.Replayed.{goes_on, misfit_at, misfit_from, misfit_of, owns_of}
-use Rattle.whole_run.proofs.Ordered.{going, halted, stuck}
+use Rattle.whole_run.proofs.Ordered.{going, halted, stuck, work_push}
 
 -- the first quanta were taken, and what doesn't fit of all doesn't of the others
 pub record Following (i : Inputs) (quanta : List Quantum) (n : ℕ) (taken : List Quantum) : Type 0 where
@@ -67,14 +67,6 @@ fits i n k q e f =
     ∙ same (q.owns == owns_of i k q) (OtherOwns n q.owns (owns_of i k q)) (same_number q.owns (owns_of i k q) (q.owns == owns_of i k q) refl f)
 
 -- ---- on from there
-
-work_from_push : (i : Inputs) (quanta : List Quantum) (q : Quantum) (s : State) → work_from i (quanta ++ q ∷ []) s ≡ tend i q.hart q.turns (work_from i quanta s)
-work_from_push i [] q s = refl
-work_from_push i (x ∷ quanta) q s = work_from_push i quanta q (tend i x.hart x.turns s)
-
-work_push : (i : Inputs) (quanta : List Quantum) (q : Quantum) → work i (quanta ++ q ∷ []) ≡ tend i q.hart q.turns (work i quanta)
-unfolding work
-work_push i quanta q = work_from_push i quanta q (first_state i)
 
 -- what is first of all comes of the next
 next : (i : Inputs) (n : ℕ) (s : State) (q : Quantum) (rest : List Quantum) (o : Option Misfit) → misfit_at i n s.kept q ≡ o

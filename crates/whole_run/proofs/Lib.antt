@@ -1,3 +1,4 @@
+pub mod Staying
 pub mod Ordered
 pub mod OneSeeded
 pub mod Logged

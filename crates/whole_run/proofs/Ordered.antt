@@ -1,14 +1,14 @@
 -- Quanta in the order of a seed go on by one more.
-use Rattle.std.proofs.Common.{◌≡◌, ℕ, ◌+◌, ◌<◌, ◌≤◌, List, [], ◌∷◌, ◌++◌, Option, Some, None, refl, sym, ap, ◌∙◌, subst, arith, length, inl, inr}
-use Rattle.std.specs.Prelude.{Bool, true, false, cond, filter, IfNone, IfSome}
-use Rattle.std.proofs.lemmas.Bool.{true≢false}
+use Rattle.std.proofs.Common.{◌≡◌, ◌≢◌, ℕ, ◌+◌, ◌<◌, ◌≤◌, List, [], ◌∷◌, ◌++◌, Option, Some, None, refl, sym, ap, ap₂, ◌∙◌, subst, arith, length, inl, inr}
+use Rattle.std.specs.Prelude.{Bool, true, false, cond, filter, not, ◌==◌, ◌||◌, IfNone, IfSome}
+use Rattle.std.proofs.lemmas.Bool.{eqb-false, eqb-true, true≢false}
 use Rattle.std.specs.List.{range_with_len}
 use Rattle.std.proofs.lemmas.List.{length-append}
 use Rattle.std.proofs.lemmas.List.Elements.{filter-append}
 use Rattle.pn_types.specs.declared.limits.TheConstants.{MAX_QUANTA}
 use Rattle.turn_order.specs.declared.order.Order.{Order}
 use Rattle.turn_order.specs.Orders.{chosen, order_after, order_of_seed, picked, ready_of}
-use Rattle.turn_order.proofs.Picks.{none_may, picked_may, range_more}
+use Rattle.turn_order.proofs.Picks.{filter_same, filter_without, none_may, picked_may, range_more}
 use Rattle.quanta_log.specs.declared.quantum.Quantum.{Quantum}
 use Rattle.machine.specs.Turns.{is_runnable}
 use Rattle.session_spec.specs.Inputs.{Inputs}
@@ -16,6 +16,7 @@ use Rattle.session_spec.specs.States.{State}
 use Rattle.session_spec.specs.Work.{AreAllowed, Halted, closed, first_state, quantum_of, tend, work, work_from}
 use Rattle.session.specs.Sessions.{SessionData, state_of}
 use Rattle.whole_run.specs.Seeded.{AreInOrder, IsSeeded}
+use Rattle.whole_run.proofs.Staying.{others_stay}
 
 -- ---- the harts that are runnable
 
@@ -56,6 +57,50 @@ halted i quanta h e = inl e
 full : (i : Inputs) (quanta : List Quantum) (h : ℕ) → MAX_QUANTA ≤ length quanta → Halted i quanta h
 unfolding Halted
 full i quanta h l = inr l
+
+-- ---- the same behind one quantum more
+
+work_from_push : (i : Inputs) (quanta : List Quantum) (q : Quantum) (s : State) → work_from i (quanta ++ q ∷ []) s ≡ tend i q.hart q.turns (work_from i quanta s)
+work_from_push i [] q s = refl
+work_from_push i (x ∷ quanta) q s = work_from_push i quanta q (tend i x.hart x.turns s)
+
+pub work_push : (i : Inputs) (quanta : List Quantum) (q : Quantum) → work i (quanta ++ q ∷ []) ≡ tend i q.hart q.turns (work i quanta)
+unfolding work
+work_push i quanta q = work_from_push i quanta q (first_state i)
+
+-- hart h, and each that may go
+abbrev pub or_hart : (ℕ → Bool) → ℕ → ℕ → Bool
+or_hart may h j = (j == h) || may j
+
+or_same : (was may : ℕ → Bool) (h : ℕ) → was h ≡ true → ((j : ℕ) → j ≢ h → may j ≡ was j) → (j : ℕ) → or_hart may h j ≡ was j
+or_same was may h t others j = by (j == h) refl
+  where
+    by : (b : Bool) → (j == h) ≡ b → (b || may j) ≡ was j
+    by true e = sym (ap was (eqb-true j h e) ∙ t)
+    by false e = others j (eqb-false j h e)
+
+or_other : (may : ℕ → Bool) (h j : ℕ) → j ≢ h → may j ≡ or_hart may h j
+or_other may h j other = by (j == h) refl
+  where
+    by : (b : Bool) → (j == h) ≡ b → may j ≡ (b || may j)
+    by true e = absurd (other (eqb-true j h e))
+    by false e = refl
+
+-- where no work was done, the harts that could go are its hart and those that can
+pub others_kept : (i : Inputs) (quanta : List Quantum) (q : Quantum) (n : ℕ) (ready : List ℕ) → ready ≡ ready_of (may_go i quanta) n → may_go i quanta q.hart ≡ true
+    → (work i (quanta ++ q ∷ [])).kept.worked ≡ false → ready ≡ ready_of (or_hart (may_go i (quanta ++ q ∷ [])) q.hart) n
+others_kept i quanta q n ready e t idle =
+    let now = work_push i quanta q in
+    let still = λ (j : ℕ) (other : j ≢ q.hart). ap (λ (s : State). is_runnable s.kept.machine.core j) now ∙ others_stay i q.hart q.turns j (work i quanta) other (ap (λ (s : State). s.kept.worked) (sym now) ∙ idle) in
+    e ∙ sym (filter_same (may_go i quanta) (or_hart (may_go i (quanta ++ q ∷ [])) q.hart) (range_with_len 0 n) (or_same (may_go i quanta) (may_go i (quanta ++ q ∷ [])) q.hart t still))
+
+-- its hart goes on
+pub stays_ready : (may : ℕ → Bool) (h n : ℕ) (ready : List ℕ) → ready ≡ ready_of (or_hart may h) n → may h ≡ true → ready ≡ ready_of may n
+stays_ready may h n ready e t = e ∙ filter_same may (or_hart may h) (range_with_len 0 n) (or_same may may h t (λ j other. refl))
+
+-- its hart can't go on
+pub leaves_ready : (may : ℕ → Bool) (h n : ℕ) (old new : List ℕ) → old ≡ ready_of (or_hart may h) n → may h ≡ false → new ≡ filter (λ j. not (j == h)) old → new ≡ ready_of may n
+leaves_ready may h n old new e out f = f ∙ (ap (filter (λ j. not (j == h))) e ∙ sym (filter_without (or_hart may h) may h (range_with_len 0 n) out (or_other may h)))
 
 -- ---- one quantum more
 
@@ -113,6 +158,17 @@ takes s new seed turns count h order (Some q) wide few r p taken asked none =
 takes s new seed turns count h order None wide few r p taken asked none =
     let number = r.number in
     absurd (true≢false (sym (picked_may order (may_go s.inputs s.quanta) s.inputs.settings.harts h p).0 ∙ stuck s.inputs s.quanta h (omega arith) none))
+
+-- and left the list of those that could go, where no work was done
+pub takes_others : (s new : SessionData) (h n turns : ℕ) (ready : List ℕ) (answer : Option Quantum) → new.inputs ≡ s.inputs → length s.quanta < MAX_QUANTA → may_go s.inputs s.quanta h ≡ true
+    → IfSome answer (λ q. new.quanta ≡ s.quanta ++ q ∷ []) → IfSome answer (λ q. q ≡ quantum_of s.inputs 0 h turns (state_of s).kept) → IfNone answer (Halted s.inputs s.quanta h)
+    → ready ≡ ready_of (may_go s.inputs s.quanta) n → (work new.inputs new.quanta).kept.worked ≡ false → ready ≡ ready_of (or_hart (may_go new.inputs new.quanta) h) n
+takes_others s new h n turns ready (Some q) same few t taken asked none e idle =
+    let hart : q.hart ≡ h = ap (λ (x : Quantum). x.hart) asked in
+    let now : work new.inputs new.quanta ≡ work s.inputs (s.quanta ++ q ∷ []) = ap₂ work same taken in
+    others_kept s.inputs s.quanta q n ready e (ap (may_go s.inputs s.quanta) hart ∙ t) (ap (λ (x : State). x.kept.worked) (sym now) ∙ idle)
+    ∙ ap₂ (λ (x : State) (m : ℕ). ready_of (or_hart (is_runnable x.kept.machine.core) m) n) (sym now) hart
+takes_others s new h n turns ready None same few t taken asked none e idle = absurd (true≢false (sym t ∙ stuck s.inputs s.quanta h few none))
 
 -- ---- the whole list
 

@@ -1,6 +1,6 @@
 //! Harts take quanta in the order of a seed.
 
-ghost use Rattle.std.specs.Prelude.{◌≡◌, ◌<◌, ◌≤◌, false, length, OnOk};
+ghost use Rattle.std.specs.Prelude.{◌≡◌, ◌<◌, ◌≤◌, ◌==◌, ◌||◌, false, length, OnOk};
 ghost use Rattle.machine.specs.Turns.{is_runnable};
 ghost use Rattle.session.specs.Sessions.{begun};
 ghost use Rattle.session_spec.specs.Work.{work};
@@ -12,7 +12,7 @@ use session::Session;
 use std::alloc::Global;
 use turn_order::{Order, Ready};
 
-/// The harts that can take a quantum, by number.
+/// The harts that can take a quantum, by number, where there are fewer quanta than there may be.
 ///
 /// # Errors
 ///
@@ -21,14 +21,35 @@ fn fill(session: &Session, harts: u32, ready: &mut Ready) -> Result<(), NoMemory
     requires harts { harts ≡ session.now.inputs.settings.harts }
     requires few { harts ≤ MAX_HARTS }
     requires going { session.now.closed ≡ false }
-    requires room { length session.now.quanta < MAX_QUANTA }
-    ensures { OnOk result (ready.new ≡ ready_of (is_runnable (work session.now.inputs session.now.quanta).kept.machine.core) harts) }
+    ensures { length session.now.quanta < MAX_QUANTA → OnOk result (ready.new ≡ ready_of (is_runnable (work session.now.inputs session.now.quanta).kept.machine.core) harts) }
 {
     ready.clear();
     for number in 0..harts {
         if session.runnable(number) {
             ready.push(HartNo::numbered(number))?;
         }
+    }
+    Ok(())
+}
+
+/// The same behind a quantum of a hart, from the list before it: where no work was done, no other hart can have stopped.
+///
+/// # Errors
+///
+/// `NoMemory` where memory is wanting.
+fn refresh(session: &Session, harts: u32, hart: HartNo, ready: &mut Ready) -> Result<(), NoMemory>
+    requires harts { harts ≡ session.now.inputs.settings.harts }
+    requires few { harts ≤ MAX_HARTS }
+    requires hart { hart < harts }
+    requires going { session.now.closed ≡ false }
+    requires others { let kept = (work session.now.inputs session.now.quanta).kept in kept.worked ≡ false → ready.old ≡ ready_of (λ h. (h == hart) || is_runnable kept.machine.core h) harts }
+    ensures { length session.now.quanta < MAX_QUANTA → OnOk result (ready.new ≡ ready_of (is_runnable (work session.now.inputs session.now.quanta).kept.machine.core) harts) }
+{
+    if session.worked() {
+        return fill(session, harts, ready);
+    }
+    if !session.runnable(hart.get()) {
+        ready.remove(hart);
     }
     Ok(())
 }
@@ -55,13 +76,14 @@ pub fn take_quanta(
 {
     let mut order = Order::of_seed(seed);
     let mut ready = Ready::new(alloc);
+    fill(session, harts, &mut ready)?;
     'quanta: for _ in 0..MAX_QUANTA {
-        fill(session, harts, &mut ready)?;
         let Some(hart) = order.pick(&ready) else {
             session.laws();
             return Ok(());
         };
         session.quantum(0, hart.get(), turns)?;
+        refresh(session, harts, hart, &mut ready)?;
         order = order.after(hart);
     }
     session.laws();

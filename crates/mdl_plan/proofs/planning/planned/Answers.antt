@@ -1,13 +1,25 @@
-use Rattle.std.proofs.Common.{rules, ◌≡◌, Result, Ok, Err, List, sym, ap, ◌∙◌, arith}
+use Rattle.std.proofs.Common.{rules, ◌≡◌, Bor, Result, Ok, Err, List, length, map, sym, ap, ◌∙◌, subst, arith}
+use Rattle.std.specs.List.{filter, find}
+use Rattle.pn_types.specs.declared.code.Point.{Point}
 use Rattle.pn_types.specs.declared.plan.Plan.{Plan}
 use Rattle.pn_types.specs.declared.plan.Site.{Site}
 use Rattle.pn_types.specs.declared.plan.Var.{Var}
 use Rattle.resource_tree.specs.Foci.{part}
-use Rattle.mdl_plan.specs.Plans.{scene_of, sites_of, vars_of}
-use Rattle.mdl_plan.specs.Tables.{sites_with}
+use Rattle.mdl_plan.specs.Plans.{is_crowded, scene_of, sites_of, vars_of}
+use Rattle.mdl_plan.specs.Tables.{Refuses, has_numbers, sites_with}
 use Rattle.mdl_plan.specs.declared.fault.PlanFault.{PlanFault}
+use Rattle.mdl_plan.proofs.Counts.{few_pass}
 use Rattle.mdl_plan.proofs.Outcomes.{scene_sites, many_sites, too_many, refused, done}
 use Rattle.mdl_plan.proofs.planning.planned.Goals as goal
+
+-- the points behind references
+abbrev behind : List (Bor Point) → List Point
+behind refs = map (λ r. r.now) refs
+
+pub count-sites-requires : goal.count-sites-requires
+count-sites-requires c =
+    let f = has_numbers c.in_ok-planner.planner.table in
+    omega (arith, ap (λ refs. length (filter f (behind refs))) c.deref-2.ensures.value, ap length c.in_ok-reached.ensures, few_pass f c.args.points.now, c.requires.points)
 
 pub returns-then-sites-gt-MOST_SITES-clause-answer : goal.returns-then-sites-gt-MOST_SITES-clause-answer
 returns-then-sites-gt-MOST_SITES-clause-answer c =
@@ -15,9 +27,10 @@ returns-then-sites-gt-MOST_SITES-clause-answer c =
     let e = c.in_ok-planner.ensures in
     let scene = scene_of (part c.args.tree.now c.args.focus.now) c.args.procs.now c.args.metric.now c.args.active.now in
     let points = c.args.points.now in
-    too_many (vars_of c.args.metric.now c.args.active.now) (sites_with s.terms s.pieces.items s.table points) (sites_of scene points) c.count-sites.result
-    (scene_sites scene s.terms s.pieces.items s.table points e.pieces e.table e.terms)
-    (many_sites s.terms s.pieces.items s.table points ∙ sym c.count-sites.ensures) (omega arith)
+    let reached = behind c.in_ok-reached.reached.items in
+    too_many (vars_of c.args.metric.now c.args.active.now) (sites_with s.terms s.pieces.items s.table reached) (sites_of scene points) c.count-sites.result
+    (scene_sites scene s.terms s.pieces.items s.table reached points c.in_ok-reached.ensures e.pieces e.table e.terms)
+    (many_sites s.terms s.pieces.items s.table reached ∙ sym (c.count-sites.ensures ∙ ap (λ refs. length (filter (has_numbers s.table) (behind refs))) c.deref-2.ensures.value)) (omega arith)
 
 pub returns-in_err-sites-clause-answer : goal.returns-in_err-sites-clause-answer
 returns-in_err-sites-clause-answer c =
@@ -25,11 +38,14 @@ returns-in_err-sites-clause-answer c =
     let e = c.in_ok-planner.ensures in
     let scene = scene_of (part c.args.tree.now c.args.focus.now) c.args.procs.now c.args.metric.now c.args.active.now in
     let points = c.args.points.now in
-    let is : c.from_residual-in_err-sites.result ≡ Err c.in_err-sites.field-0.0 = search rules in
-    refused (vars_of c.args.metric.now c.args.active.now) (sites_with s.terms s.pieces.items s.table points) (sites_of scene points) c.count-sites.result
-    c.in_err-sites.field-0.0 c.from_residual-in_err-sites.result is
-    (scene_sites scene s.terms s.pieces.items s.table points e.pieces e.table e.terms)
-    (many_sites s.terms s.pieces.items s.table points ∙ sym c.count-sites.ensures) (omega arith) c.in_err-sites.ensures.refused
+    let reached = behind c.in_ok-reached.reached.items in
+    let fault = c.in_err-sites.field-0.0 in
+    let is : c.from_residual-in_err-sites.result ≡ Err fault = search rules in
+    refused (vars_of c.args.metric.now c.args.active.now) (sites_with s.terms s.pieces.items s.table reached) (sites_of scene points) c.count-sites.result
+    fault c.from_residual-in_err-sites.result is
+    (scene_sites scene s.terms s.pieces.items s.table reached points c.in_ok-reached.ensures e.pieces e.table e.terms)
+    (many_sites s.terms s.pieces.items s.table reached ∙ sym (c.count-sites.ensures ∙ ap (λ refs. length (filter (has_numbers s.table) (behind refs))) c.deref-2.ensures.value)) (omega arith)
+    (subst (λ (refs : List (Bor Point)). Refuses fault (sites_with s.terms s.pieces.items s.table (behind refs))) c.deref-3.ensures.value c.in_err-sites.ensures.refused)
 
 pub returns-clause-answer : goal.returns-clause-answer
 returns-clause-answer c =
@@ -37,8 +53,12 @@ returns-clause-answer c =
     let e = c.in_ok-planner.ensures in
     let scene = scene_of (part c.args.tree.now c.args.focus.now) c.args.procs.now c.args.metric.now c.args.active.now in
     let points = c.args.points.now in
-    let same : sites_with s.terms s.pieces.items s.table points ≡ sites_of scene points = scene_sites scene s.terms s.pieces.items s.table points e.pieces e.table e.terms in
-    done (vars_of c.args.metric.now c.args.active.now) (sites_with s.terms s.pieces.items s.table points) (sites_of scene points) c.count-sites.result same
-    (many_sites s.terms s.pieces.items s.table points ∙ sym c.count-sites.ensures) (omega arith) c.in_ok-sites.ensures.few
+    let reached = behind c.in_ok-reached.reached.items in
+    let same : sites_with s.terms s.pieces.items s.table reached ≡ sites_of scene points =
+    scene_sites scene s.terms s.pieces.items s.table reached points c.in_ok-reached.ensures e.pieces e.table e.terms in
+    done (vars_of c.args.metric.now c.args.active.now) (sites_with s.terms s.pieces.items s.table reached) (sites_of scene points) c.count-sites.result same
+    (many_sites s.terms s.pieces.items s.table reached ∙ sym (c.count-sites.ensures ∙ ap (λ refs. length (filter (has_numbers s.table) (behind refs))) c.deref-2.ensures.value)) (omega arith)
+    (ap (λ (refs : List (Bor Point)). find is_crowded (sites_with s.terms s.pieces.items s.table (behind refs))) (sym c.deref-3.ensures.value) ∙ c.in_ok-sites.ensures.few)
     ∙ ap (λ (vars : List Var). let r : Result Plan PlanFault = Ok (record { vars = vars; sites = sites_of scene points }) in r) (sym (c.from_vec.ensures ∙ c.in_ok-vars.ensures.vars))
-    ∙ ap (λ (sites : List Site). let r : Result Plan PlanFault = Ok (record { vars = c.from_vec.result; sites = sites }) in r) (sym (c.from_vec-2.ensures ∙ c.in_ok-sites.ensures.all ∙ same))
+    ∙ ap (λ (sites : List Site). let r : Result Plan PlanFault = Ok (record { vars = c.from_vec.result; sites = sites }) in r)
+    (sym (c.from_vec-2.ensures ∙ c.in_ok-sites.ensures.all ∙ ap (λ (refs : List (Bor Point)). sites_with s.terms s.pieces.items s.table (behind refs)) c.deref-3.ensures.value ∙ same))

@@ -28,8 +28,8 @@ returns-clause-prepared g c =
     let ended : Inputs → Found → Step SessionInputs = λ read found i. i ≡ Ok (inputs_with read.image found settings) in
     let next : Inputs → Step SessionInputs = λ read. Then (IsFound read.image settings.harts read.conf) (ended read) in
     let read = c.in_ok-inputs.inputs in
-    comes_then (AreInputs sees c.args.program.now c.args.conf.now) next read (Ok c.session_inputs.result) c.in_ok-inputs.ensures.inputs
-    (comes_then (IsFound read.image settings.harts read.conf) (ended read) c.in_ok-found.found (Ok c.session_inputs.result) c.in_ok-found.ensures.found (ap (λ (i : SessionInputs). Ok i) c.session_inputs.ensures))
+    comes_then (AreInputs sees c.args.program.now c.args.conf.now) next read (Ok c.in_ok-given.given) c.in_ok-inputs.ensures.inputs
+    (comes_then (IsFound read.image settings.harts read.conf) (ended read) c.in_ok-found.found (Ok c.in_ok-given.given) c.in_ok-found.ensures.found (ap (λ (i : SessionInputs). Ok i) c.in_ok-given.ensures))
 
 pub returns-clause-given : goal.returns-clause-given
-returns-clause-given g c = subst (λ (i : SessionInputs). AreGiven i) (sym c.session_inputs.ensures) (c.in_ok-found.ensures.runs c.args.settings c.requires.range refl)
+returns-clause-given g c = subst (λ (i : SessionInputs). AreGiven i) (sym c.in_ok-given.ensures) (c.in_ok-found.ensures.runs c.args.settings c.requires.range refl)

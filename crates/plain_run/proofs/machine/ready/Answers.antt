@@ -17,4 +17,4 @@ loop-number-preserved c =
     let items = c.args.harts.now.items in
     let n = c.loop-number.number in
     let at = harts_of-get items n c.index.result.now c.index.ensures (omega (arith, c.loop-number-test.true, c.len-number-end.ensures)) in
-    ready_one (may c.args.budget (harts_of items)) n c.loop-number.ready c.push.new.self c.loop-number.invariant (ap (λ o. may_go o c.args.budget) at ∙ sym c.may_go.ensures ∙ c.if-not-may_go.false) (c.in_ok-push.ensures ∙ ap (λ h. c.loop-number.ready ++ h ∷ []) c.numbered.ensures)
+    ready_one (may c.args.budget (harts_of items)) n c.loop-number.ready c.push.new.self c.loop-number.invariant (ap (λ o. may_go o c.args.budget) at ∙ sym c.may_go.ensures ∙ c.if-not-may_go.false) (c.in_ok-push.ensures.pushed ∙ ap (λ h. c.loop-number.ready ++ h ∷ []) c.numbered.ensures)

@@ -1,17 +1,29 @@
-use Rattle.std.proofs.Common.{◌≡◌, ℕ, List, None, sym, ap, ◌∙◌, bytes_eq}
+use Rattle.std.proofs.Common.{◌≡◌, ℕ, List, None, Result, Ok, Err, sym, ap, ◌∙◌, bytes_eq}
 use Rattle.std.specs.Map.{lookup}
+use Rattle.std.specs.Result.{OnErr}
 use Rattle.indexmap.specs.IndexMap.{insert_entry}
 use Rattle.resource_tree.specs.Resources.{add_to}
-use Rattle.resource_tree.proofs.ModuleNodes.{seen, put_member, new_member}
+use Rattle.resource_tree.proofs.ModuleNodes.{seen, put_member, same_member, new_member}
 use Rattle.resource_tree.proofs.members.add_to.Goals as goal
 
-pub returns-in-Some : goal.returns-in-Some
-returns-in-Some c =
+pub returns-in-Some-clause-added : goal.returns-in-Some-clause-added
+returns-in-Some-clause-added c =
     ap (seen (λ key. key.items) (λ v. v.items)) (c.get_mut.follows.holds c.push.new.self).0
     ∙ put_member (λ key. key.items) (λ v. v.items) c.args.name.now c.args.number c.in-Some.members.now c.push.new.self c.args.numbers.now.entries (sym c.in-Some.ensures.value) c.in_ok-push.ensures.items
 
-pub returns : goal.returns
-returns c =
+-- what holds at all holds where there is an error
+on_err_of : {T E P : Type 0} (r : Result T E) → P → OnErr r P
+on_err_of (Ok x) p = tt
+on_err_of (Err y) p = p
+
+pub returns-in_err-push-clause-err : goal.returns-in_err-push-clause-err
+returns-in_err-push-clause-err c =
+    on_err_of c.from_residual.result
+    (ap (seen (λ key. key.items) (λ v. v.items)) (c.get_mut.follows.holds c.push.new.self).0
+    ∙ same_member (λ key. key.items) (λ v. v.items) c.args.name.now c.in-Some.members.now c.push.new.self c.args.numbers.now.entries (sym c.in-Some.ensures.value) c.in_err-push.ensures.items)
+
+pub returns-clause-added : goal.returns-clause-added
+returns-clause-added c =
     let entries = c.args.numbers.now.entries in
     let key = c.in_ok-from_slice.field-0 in
     let members = c.in_ok-members.members in

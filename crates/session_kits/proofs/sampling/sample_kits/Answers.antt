@@ -1,7 +1,7 @@
-use Rattle.std.proofs.Common.{◌<◌, ◌∙◌, List, length, ap, arith, length-append}
+use Rattle.std.proofs.Common.{◌<◌, ◌∙◌, List, length, refl, ap, arith, length-append}
 use Rattle.w3_search.specs.declared.node.NodeSample.{NodeSample}
 use Rattle.session_spec.specs.declared.data.Latest.{Latest}
-use Rattle.session_kits.specs.Kits.{HasFew, HasHarts, kit_sampled, latest_by, test_by}
+use Rattle.session_kits.specs.Kits.{HasFew, HasHarts, kit_sampled, kit_ticks, latest_by, test_by}
 use Rattle.session_kits.proofs.Walks.{all_behind, behind_within, few_latest, few_tests, kits_step, latest_step, tests_step}
 use Rattle.session_kits.proofs.sampling.sample_kits.Goals as goal
 
@@ -21,14 +21,14 @@ loop-place-preserved c =
     let ls = c.loop-place.latest.items in
     let ts = c.loop-place.tests.items in
     let wished = c.loop-place.wished in
-    let ticks = c.ticks_since-ticks.result in
+    let ticks = kit_ticks m c.args.marks.now k in
     let more = ap (λ (xs : List Latest). length xs) c.put_latest.ensures.items ∙ length-append ls (latest_by k.shown.node wished bin) in
     let more_tests = ap (λ (xs : List NodeSample). length xs) c.put_test.ensures.items ∙ length-append ts (test_by k.shown.node ticks bin) in
     record {
       done = kits_step ks i k new within at (kit_sampled m time) c.sample_kit-bin.ensures.kit ∙ before.done;
       latest = latest_step ks i k new within at m time bin is_bin wished c.place_behind-wished.result ls c.put_latest.new.list.items c.put_latest.ensures.items c.place_behind-wished.ensures
           ∙ before.latest;
-      tests = tests_step ks i k new within at m time bin is_bin c.args.marks.now ticks ts c.put_test.new.list.items c.put_test.ensures.items c.ticks_since-ticks.ensures ∙ before.tests;
+      tests = tests_step ks i k new within at m time bin is_bin c.args.marks.now ticks ts c.put_test.new.list.items c.put_test.ensures.items refl ∙ before.tests;
       wished = omega (arith, c.place_behind-wished.ensures, behind_within k.shown.node wished, before.wished);
       many = before.many;
       capacity = before.capacity;

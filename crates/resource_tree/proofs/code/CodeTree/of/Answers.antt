@@ -16,7 +16,7 @@ loop-number-preserved c =
     let before : List ModuleNode = map (λ e. module_node e.0.items e.1.items) c.loop-number.modules.entries in
     let numbers : List (List ℕ × ℕ) = map (λ e. (e.0.items, e.1)) c.loop-number.numbers.entries in
     let modules : map (λ e. module_node e.0.items e.1.items) c.add_to.new.numbers.entries ≡ add_to p.«module» i before =
-    c.in_ok-add_to.ensures ∙ ap (λ (name : List ℕ). add_to name i before) c.bytes.ensures in
+    c.in_ok-add_to.ensures.added ∙ ap (λ (name : List ℕ). add_to name i before) c.bytes.ensures in
     let seen : List (List ℕ) = map (λ v. v.items) c.loop-number.paths.items in
     let paths : map (λ v. v.items) c.push.new.self.items ≡ seen ++ path_of p ∷ [] =
     ap (map (λ v. v.items)) c.in_ok-push.ensures.items ∙ map-append (λ v. v.items) c.loop-number.paths.items (c.in_ok-path.path ∷ []) ∙ ap (λ (q : List ℕ). seen ++ q ∷ []) c.in_ok-path.ensures in

@@ -1,0 +1,109 @@
+//! What is looked up while plans are made.
+
+ghost use Rattle.std.specs.Prelude.{◌≡◌, ◌<◌, ◌^◌, [], IfOk, OnOk, length, map, flat_map, slice_index_or};
+ghost use Rattle.resource_tree.specs.Resources.{numbers_named};
+ghost use Rattle.mdl_plan.specs.Indexes.{gathered, placed, AreByProcedure, IsIndexOf};
+ghost use Rattle.mdl_plan.specs.Numbers.{AreEmpty};
+
+use crate::names::Names;
+use pn_types::{NoMemory, Point, Proc, Text};
+use std::alloc::Global;
+use std::marker::Model;
+
+/// What is looked up while plans are made: which procedures have a name, and which points a procedure has.
+#[derive(Drop)]
+pub struct PlanIndex {
+    names: Names,
+    /// By procedure the places of its points in the list of points, ascending.
+    places: Vec<Vec<u32>>,
+}
+
+impl Model for PlanIndex {
+    ghost use Rattle.std.specs.Prelude.{map};
+    ghost use Rattle.mdl_plan.specs.Indexes.{IndexData};
+
+    ghost Value = { IndexData };
+
+    ghost view = { λ i. record { names = i.names; places = map (λ l. l.items) i.places.items } };
+}
+
+/// An empty list for each of so many procedures.
+fn empty_lists(alloc: Global, procs: usize) -> Result<Vec<Vec<u32>>, NoMemory>
+    ensures { IfOk result (λ lists. AreEmpty procs (map (λ l. l.items) lists.items)) }
+{
+    let mut lists = Vec::new(alloc);
+    for _proc in 0..procs {
+        lists.push(Vec::new(alloc))?;
+    }
+    Ok(lists)
+}
+
+/// Puts the place of a point last among those of its procedure, if there is such a procedure.
+fn add_place(places: &mut Vec<Vec<u32>>, proc_no: u32, place: u32) -> Result<(), NoMemory>
+    ensures { OnOk result (map (λ l. l.items) places.new.items ≡ placed proc_no place (map (λ l. l.items) places.old.items)) }
+{
+    if let Some(list) = places.get_mut(proc_no as usize) {
+        list.push(place)?;
+    }
+    Ok(())
+}
+
+/// By procedure the places of its points, where there are so many procedures.
+fn places_of(alloc: Global, procs: usize, points: &[Point]) -> Result<Vec<Vec<u32>>, NoMemory>
+    requires { length points.now < 2 ^ 32 }
+    ensures many { IfOk result (λ places. length places.items ≡ procs) }
+    ensures places { IfOk result (λ places. AreByProcedure points.now (map (λ l. l.items) places.items)) }
+{
+    let mut places = empty_lists(alloc, procs)?;
+    for (place, point) in points.iter().enumerate() {
+        add_place(&mut places, point.proc_no, place as u32)?;
+    }
+    Ok(places)
+}
+
+/// The points at these places. A place at which there is none is left out.
+pub(crate) fn points_at<'p>(
+    alloc: Global,
+    points: &'p [Point],
+    places: &[u32],
+) -> Result<Vec<&'p Point>, NoMemory>
+    ensures { IfOk result (λ found. map (λ p. p.now) found.items ≡ gathered points.now places.now) }
+{
+    let mut found = Vec::new(alloc);
+    for place in places {
+        if let Some(point) = points.get(*place as usize) {
+            found.push(point)?;
+        }
+    }
+    Ok(found)
+}
+
+impl PlanIndex {
+    /// The index of these procedures and points. The work is linear in both.
+    pub fn new(alloc: Global, procs: &[Proc], points: &[Point]) -> Result<PlanIndex, NoMemory>
+        requires procs { length procs.now < 2 ^ 32 }
+        requires points { length points.now < 2 ^ 32 }
+        ensures { IfOk result (IsIndexOf procs.now points.now) }
+    {
+        let names = Names::of(alloc, procs)?;
+        let places = places_of(alloc, procs.len(), points)?;
+        Ok(PlanIndex { names, places })
+    }
+
+    /// The numbers of the procedures of these names.
+    pub(crate) fn with_any(&self, alloc: Global, names: &[Text]) -> Result<Vec<u32>, NoMemory>
+        ensures { IfOk result (λ numbers. numbers.items ≡ flat_map (λ name. numbers_named name self.now.names) names.now) }
+    {
+        self.names.with_any(alloc, names)
+    }
+
+    /// The places of the points of a procedure. Empty where there is no such procedure.
+    pub(crate) fn places_of(&self, proc_no: u32) -> &[u32]
+        ensures { result.now ≡ slice_index_or self.now.places proc_no [] }
+    {
+        match self.places.get(proc_no as usize) {
+            Some(places) => places.as_slice(),
+            None => &[],
+        }
+    }
+}
