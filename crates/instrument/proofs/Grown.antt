@@ -1,6 +1,6 @@
 -- The sites of an instrument are placed one after another: the book grows, and is cut to what it was where one is refused.
 use Rattle.std.proofs.Common.{◌≡◌, ℕ, zero, suc, ◌+◌, ◌/◌, ◌<◌, ◌≤◌, List, [], ◌∷◌, ◌++◌, Option, Some, None, refl, sym, ap, ◌∙◌, subst, arith, inl, inr, length, take, drop, get_or}
-use Rattle.std.specs.Prelude.{Ok, Err, Result, ◌-◌, find, IfErr, IfSome, OnOk, OnErr, max}
+use Rattle.std.specs.Prelude.{Bool, true, false, cond, Ok, Err, Result, ◌-◌, find, IfErr, IfSome, OnOk, OnErr, max}
 use Rattle.std.proofs.Math.Nat.{le-max_left}
 use Rattle.std.proofs.lemmas.List.{drop_more}
 use Rattle.pn_types.specs.declared.limits.TheConstants.{TOOL_TEXT_LEN}
@@ -19,7 +19,7 @@ use Rattle.instrument.specs.Books.{Book, Blocks, is_base_of, rooms_of, placing, 
 use Rattle.instrument.specs.Fits.{room_for}
 use Rattle.instrument.specs.Ledgers.{LedgerData, with_spare}
 use Rattle.instrument.specs.Spaces.{words_of_room, AreRoomsOf}
-use Rattle.instrument.specs.ToolTexts.{held_minis, for_drops, IsToolText, IsGrown}
+use Rattle.instrument.specs.ToolTexts.{held_minis, is_held_mini, for_drops, IsToolText, IsGrown}
 use Rattle.instrument.specs.declared.number.Refused.{Refused}
 use Rattle.instrument.specs.declared.room.Room.{Room}
 use Rattle.instrument.proofs.Folds.{append_assoc, append_nil}
@@ -92,9 +92,6 @@ grown_site t owner slots s first book new g e =
 abbrev pub Left : ℕ → ℕ → List Room → List Room
 Left len place rooms = take len rooms ++ drop place rooms
 
-pub left_next : (len place : ℕ) (rooms : List Room) (x : Room) → place < length rooms → x ≡ get_or rooms place x → Left len place rooms ≡ take len rooms ++ x ∷ drop (place + 1) rooms
-left_next len place rooms x l e = ap (λ ys. take len rooms ++ ys) (drop_more rooms place x l ∙ ap (λ u. u ∷ drop (place + 1) rooms) (sym e))
-
 pub behind_goes : (t : Words) (space : Rooms) (xs ys : List Room) (x : Room) → AreRoomsOf t space (xs ++ x ∷ ys) → AreRoomsOf t (after_give space (x.at / 4) x.len) (xs ++ ys)
 behind_goes t space xs ys x k = record {
   taken = space_give words_of_room (tool_at t / 4) (TOOL_TEXT_LEN / 4) space xs ys x k.taken (k.whole x (middle xs ys x)).0;
@@ -107,6 +104,15 @@ held_take : (n : ℕ) (rooms : List Room) → held_minis (take n rooms) ≤ held
 held_take zero rooms = omega arith
 held_take (suc n) [] = omega arith
 held_take (suc n) (x ∷ xs) = let r = held_take n xs in omega (arith, r)
+
+-- no more of them are held than there are
+pub held_few : (rooms : List Room) → held_minis rooms ≤ length rooms
+held_few [] = omega arith
+held_few (x ∷ rooms) = by (is_held_mini x) (held_few rooms)
+  where
+    by : (b : Bool) → held_minis rooms ≤ length rooms → cond b 1 0 + held_minis rooms ≤ length (x ∷ rooms)
+    by true h = omega (arith, h)
+    by false h = omega (arith, h)
 
 pub text_cut : (t : Words) (l m : LedgerData) (words given : Rooms) (n : ℕ) → IsToolText t l words → AreRoomsOf t given (take n l.book.rooms) → m.book.rooms ≡ take n l.book.rooms → m.spare_entries ≡ l.spare_entries → IsToolText t m given
 text_cut t l m words given n k r b e =
@@ -145,9 +151,6 @@ pub each_next : (t : Words) (owner : ℕ) (slots : List ℕ) (sites : List Site)
 each_next t owner slots sites i x book new l e q =
     sym (ap (λ ss. with_sites t owner slots ss book) (drop_more sites i x l ∙ ap (λ u. u ∷ drop (i + 1) sites) (sym e))
     ∙ ap (λ r. and_then r (with_sites t owner slots (drop (i + 1) sites))) q)
-
-pub one_fewer : {A : Type 0} (xs : List A) (i : ℕ) (x : A) → i < length xs → length (drop (i + 1) xs) + 1 ≡ length (drop i xs)
-one_fewer xs i x l = let e = ap length (drop_more xs i x l) in omega (arith, e)
 
 -- ---- memory is reserved
 

@@ -1,15 +1,15 @@
 -- A space in which things take units: what a take, a give and a change of the things make of it.
-use Rattle.std.proofs.Common.{◌≡◌, ℕ, ◌+◌, ◌<◌, ◌≤◌, List, [], ◌∷◌, ◌++◌, refl, sym, ap, ◌∙◌, subst, arith, ⊎_elim, inl, inr, map, filter, length, cond, take, drop, get_or}
+use Rattle.std.proofs.Common.{◌≡◌, ℕ, ◌+◌, ◌<◌, ◌≤◌, List, [], ◌∷◌, ◌++◌, refl, sym, ap, ◌∙◌, subst, arith, ⊎_elim, inl, inr, map, length, cond, take, drop, get_or}
 use Rattle.std.specs.Prelude.{Bool, true, false, not, nat_le, nat_lt, ◌&&◌, ◌||◌}
 use Rattle.std.specs.List.{list_any}
-use Rattle.std.proofs.lemmas.Bool.{true≢false, cond-true, cond-false, and_parts, and_from, not_from_true, le-leb, lt-ltb, ltb-true, ltb-false, leb-true, false_from_ne_true}
-use Rattle.std.proofs.lemmas.List.{take_more, drop_more}
+use Rattle.std.proofs.lemmas.Bool.{true≢false, and_parts, and_from, not_from_true, le-leb, lt-ltb, ltb-true, ltb-false, leb-true, false_from_ne_true}
+use Rattle.std.proofs.lemmas.List.{take_more, drop_more, take-append-drop}
 use Rattle.std.proofs.lemmas.List.Folds.{list_any-append}
 use Rattle.tool_space.specs.Rooms.{Rooms, is_within, IsRoom, IsTaken, after_take, after_give, new_space}
 use Rattle.machine.specs.Cores.{In}
 use Rattle.machine.proofs.Lists.{in_map}
 use Rattle.instrument.specs.Spaces.{Span, covers, AreDistant, AllDistant, owed, is_left, IsSpaceOf}
-use Rattle.instrument.proofs.Folds.{in_append, append_left, append_right, append_assoc, append_nil, filter_append}
+use Rattle.instrument.proofs.Folds.{in_append, append_left, append_right}
 use Rattle.instrument.proofs.Going.{any_in}
 use Rattle.instrument.proofs.Spacing.{taken_tied, given_tied, range_has}
 
@@ -207,51 +207,19 @@ space_map {A} s g e from units space xs k = record {
     same unit [] = refl
     same unit (x ∷ xs) = ap (λ (w : Span). is_within w.at w.len unit || list_any (covers s unit) (map g xs)) (e x) ∙ ap (λ v. covers s unit x || v) (same unit xs)
 
--- ---- a loop that gives back what a test leaves out
+-- one is left out, and gives back what it took
+pub space_out : {A : Type 0} (s : A → Span) (from units : ℕ) (space : Rooms) (xs ys : List A) (x : A) → IsSpaceOf s from units space (xs ++ x ∷ ys)
+    → IsSpaceOf s from units (cond (nat_lt 0 (s x).len) (after_give space (s x).at (s x).len) space) (xs ++ ys)
+space_out s from units space xs ys x k = by (nat_lt 0 (s x).len) refl
+  where
+    by : (b : Bool) → nat_lt 0 (s x).len ≡ b → IsSpaceOf s from units (cond b (after_give space (s x).at (s x).len) space) (xs ++ ys)
+    by true c = space_give s from units space xs ys x k (ltb-true 0 (s x).len c)
+    by false c = space_skip s from units space xs ys x k (let z = ltb-false 0 (s x).len c in omega arith)
+
+-- ---- a list at a place
 
 pub at_next : {A : Type 0} (xs : List A) (i : ℕ) (x : A) → i < length xs → x ≡ get_or xs i x → (take (i + 1) xs ≡ take i xs ++ x ∷ []) × (drop i xs ≡ x ∷ drop (i + 1) xs)
 at_next xs i x l e = (take_more xs i x l ∙ ap (λ u. take i xs ++ u ∷ []) (sym e), drop_more xs i x l ∙ ap (λ u. u ∷ drop (i + 1) xs) (sym e))
 
-filter_one : {A : Type 0} (p : A → Bool) (x : A) (b : Bool) → p x ≡ b → filter p (x ∷ []) ≡ cond b (x ∷ []) []
-filter_one p x true e = cond-true (p x) _ _ e
-filter_one p x false e = cond-false (p x) _ _ e
-
--- what is left where the next one stays, and where it goes
-pub next_stays : {A : Type 0} (p : A → Bool) (xs : List A) (i : ℕ) (x : A) → i < length xs → x ≡ get_or xs i x → p x ≡ true → filter p (take (i + 1) xs) ++ drop (i + 1) xs ≡ filter p (take i xs) ++ drop i xs
-next_stays p xs i x l e q =
-    let r = at_next xs i x l e in
-    ap (λ ys. filter p ys ++ drop (i + 1) xs) r.0
-    ∙ (ap (λ ys. ys ++ drop (i + 1) xs) (filter_append p (take i xs) (x ∷ []) ∙ ap (λ ys. filter p (take i xs) ++ ys) (filter_one p x true q))
-    ∙ (append_assoc (filter p (take i xs)) (x ∷ []) (drop (i + 1) xs) ∙ ap (λ ys. filter p (take i xs) ++ ys) (sym r.1)))
-
-pub next_goes : {A : Type 0} (p : A → Bool) (xs : List A) (i : ℕ) (x : A) → i < length xs → x ≡ get_or xs i x → p x ≡ false → filter p (take (i + 1) xs) ≡ filter p (take i xs)
-next_goes p xs i x l e q =
-    let r = at_next xs i x l e in
-    ap (filter p) r.0 ∙ (filter_append p (take i xs) (x ∷ []) ∙ (ap (λ ys. filter p (take i xs) ++ ys) (filter_one p x false q) ∙ append_nil (filter p (take i xs))))
-
--- the space behind the next one, if it goes
-pub space_goes : {A : Type 0} (s : A → Span) (from units : ℕ) (space : Rooms) (p : A → Bool) (xs : List A) (i : ℕ) (x : A) → i < length xs → x ≡ get_or xs i x → p x ≡ false
-    → IsSpaceOf s from units space (filter p (take i xs) ++ drop i xs)
-    → IsSpaceOf s from units (cond (nat_lt 0 (s x).len) (after_give space (s x).at (s x).len) space) (filter p (take (i + 1) xs) ++ drop (i + 1) xs)
-space_goes {A} s from units space p xs i x l e q k =
-    subst (λ (ys : List A). IsSpaceOf s from units (cond (nat_lt 0 (s x).len) (after_give space (s x).at (s x).len) space) (ys ++ drop (i + 1) xs)) (sym (next_goes p xs i x l e q)) (by (nat_lt 0 (s x).len) refl)
-  where
-    now : IsSpaceOf s from units space (filter p (take i xs) ++ x ∷ drop (i + 1) xs)
-    now = subst (λ (ys : List A). IsSpaceOf s from units space (filter p (take i xs) ++ ys)) (at_next xs i x l e).1 k
-
-    by : (b : Bool) → nat_lt 0 (s x).len ≡ b → IsSpaceOf s from units (cond b (after_give space (s x).at (s x).len) space) (filter p (take i xs) ++ drop (i + 1) xs)
-    by true c = space_give s from units space (filter p (take i xs)) (drop (i + 1) xs) x now (ltb-true 0 (s x).len c)
-    by false c = space_skip s from units space (filter p (take i xs)) (drop (i + 1) xs) x now (let z = ltb-false 0 (s x).len c in omega arith)
-
--- the next one is among what is left
-pub next_here : {A : Type 0} (p : A → Bool) (xs : List A) (i : ℕ) (x : A) → i < length xs → x ≡ get_or xs i x → In x (filter p (take i xs) ++ drop i xs)
-next_here {A} p xs i x l e = subst (λ (ys : List A). In x (filter p (take i xs) ++ ys)) (sym (at_next xs i x l e).1) (middle (filter p (take i xs)) (drop (i + 1) xs) x)
-
--- what is left behind it was left before
-pub left_before : {A : Type 0} (p : A → Bool) (xs : List A) (i : ℕ) (x u : A) → i < length xs → x ≡ get_or xs i x → p x ≡ false → In u (filter p (take (i + 1) xs) ++ drop (i + 1) xs) → In u (filter p (take i xs) ++ drop i xs)
-left_before {A} p xs i x u l e q h =
-    subst (λ (ys : List A). In u (filter p (take i xs) ++ ys)) (sym (at_next xs i x l e).1)
-    (without (filter p (take i xs)) (drop (i + 1) xs) x u (subst (λ (ys : List A). In u (ys ++ drop (i + 1) xs)) (next_goes p xs i x l e q) h))
-
-pub next_gives : {A : Type 0} (s : A → Span) (from units : ℕ) (space : Rooms) (p : A → Bool) (xs : List A) (i : ℕ) (x : A) → i < length xs → x ≡ get_or xs i x → IsSpaceOf s from units space (filter p (take i xs) ++ drop i xs) → 0 < (s x).len → 0 < space.gives
-next_gives {A} s from units space p xs i x l e k some = may_give s from units space (filter p (take i xs)) (drop (i + 1) xs) x (subst (λ (ys : List A). IsSpaceOf s from units space (filter p (take i xs) ++ ys)) (at_next xs i x l e).1 k) some
+pub parted : {A : Type 0} (xs : List A) (i : ℕ) (x : A) → i < length xs → x ≡ get_or xs i x → xs ≡ take i xs ++ x ∷ drop (i + 1) xs
+parted xs i x l e = sym (take-append-drop i xs) ∙ ap (λ ys. take i xs ++ ys) (at_next xs i x l e).1

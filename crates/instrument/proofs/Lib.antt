@@ -1,6 +1,12 @@
 pub mod Stages
 pub mod Folds
 pub mod Claims
+pub mod Freed
+pub mod RoomLists
+pub mod RoomSeeks
+pub mod RoomWalks
+pub mod Dropped
+pub mod GivenBack
 pub mod Rows
 pub mod Ties
 pub mod Doings
@@ -39,10 +45,7 @@ pub mod Sites
 pub mod RoomsTaken
 pub mod Grown
 pub mod Added
-pub mod Mapping
 pub mod Ready
-pub mod Based
 pub mod Owners
 pub mod Memoryless
 pub mod Examples
-pub mod Marked

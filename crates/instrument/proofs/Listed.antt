@@ -1,6 +1,6 @@
 -- The listed instruments in the order of their numbers: how one is found, and what keeps the order.
-use Rattle.std.proofs.Common.{◌≡◌, ℕ, zero, suc, ◌+◌, ◌<◌, ◌≤◌, List, [], ◌∷◌, ◌++◌, Option, Some, None, Result, Ok, Err, refl, sym, ap, ◌∙◌, subst, arith, ⊎_elim, inl, inr, length, map, get_or}
-use Rattle.std.specs.Prelude.{Bool, true, false, slice_get, slice_set, find, filter, cond, IfSome, IfNone, ◌==◌}
+use Rattle.std.proofs.Common.{◌≡◌, ℕ, zero, suc, ◌+◌, ◌<◌, ◌≤◌, List, [], ◌∷◌, ◌++◌, Option, Some, None, Result, Ok, Err, refl, sym, ap, ◌∙◌, subst, arith, ⊎_elim, inl, inr, length, map, get_or, take, drop}
+use Rattle.std.specs.Prelude.{Bool, true, false, slice_get, slice_set, find, filter, cond, IfSome, IfNone, not, ◌==◌, ◌&&◌}
 use Rattle.std.specs.List.Sorted.{IsSearchInRange, IsBinarySearchResult, IsNonDecreasingBy}
 use Rattle.std.specs.Option.{option_map}
 use Rattle.std.specs.Ordering.{nat_cmp, ordering_index}
@@ -11,8 +11,9 @@ use Rattle.std.proofs.lemmas.Cmp.{ranked}
 use Rattle.std.proofs.lemmas.List.{get_or_default}
 use Rattle.machine.specs.Cores.{In}
 use Rattle.machine.proofs.Lists.{in_map, in_filter, in_snoc}
+use Rattle.instrument.specs.Freed.{is_kept}
 use Rattle.instrument.specs.Listed.{AreInOrder, AreNumberedBelow}
-use Rattle.instrument.specs.Placements.{with_state}
+use Rattle.instrument.specs.Placements.{is_leaving, with_state}
 use Rattle.instrument.specs.declared.instrument.Instrument.{Instrument}
 use Rattle.instrument.specs.declared.number.State.{State}
 use Rattle.instrument.proofs.Grown.{item_in}
@@ -118,6 +119,43 @@ place_changed (z ∷ zs) n zero f x y s a l e at is =
     let first : record z { state = s } ≡ changed n f z = ap (λ v. record z { state = v }) state in
     cc (first, none_changed zs n f (λ i h p. let b = a.0 i h in absurd (omega (arith, b, p, q))))
 place_changed (z ∷ zs) n (suc place) f x y s a l e at is = cc (away_changed z n f (behind z.no n zs place a.0 e), place_changed zs n place f x y s a.1 (omega arith) e at is)
+
+-- ---- one that was dropped is left out
+
+kept_away : (n : ℕ) (i : Instrument) → (i.no ≡ n → ⊥) → is_kept n i ≡ true
+kept_away n i away = ap (λ b. not (b && is_leaving i.state)) (ne_eqb i.no n away)
+
+pub none_dropped : (xs : List Instrument) (n : ℕ) → ((i : Instrument) → In i xs → i.no ≡ n → ⊥) → xs ≡ filter (is_kept n) xs
+none_dropped [] n away = refl
+none_dropped (x ∷ xs) n away = ap (λ ys. x ∷ ys) (none_dropped xs n (λ i h. away i (inr h))) ∙ sym (cond-true (is_kept n x) _ _ (kept_away n x (away x (inl refl))))
+
+-- those behind the instrument of a number have other numbers
+behind_stay : (x : Instrument) (xs : List Instrument) (n : ℕ) → ((j : Instrument) → In j xs → x.no < j.no) → x.no ≡ n → xs ≡ filter (is_kept n) xs
+behind_stay x xs n b q = none_dropped xs n (λ i h p. let l = b i h in absurd (omega (arith, l, p, q)))
+
+kept_here : (n : ℕ) (x : Instrument) (b : Bool) → x.no ≡ n → is_leaving x.state ≡ b → is_kept n x ≡ not b
+kept_here n x b q e = ap (λ c. not (c && is_leaving x.state)) (eq-eqb x.no n q) ∙ ap not e
+
+pub place_dropped : (xs : List Instrument) (n place : ℕ) (x : Instrument) → AreInOrder xs → place < length xs → x ≡ get_or xs place x → option_map (λ (i : Instrument). i.no) (slice_get xs place) ≡ Some n → is_leaving x.state ≡ true
+    → take place xs ++ drop (place + 1) xs ≡ filter (is_kept n) xs
+place_dropped [] n place x a l e q d = absurd (omega arith)
+place_dropped (z ∷ zs) n zero x a l e q d =
+    let p : z.no ≡ n = cc in
+    behind_stay z zs n a.0 p ∙ sym (cond-false (is_kept n z) _ _ (kept_here n z true p (ap (λ (u : Instrument). is_leaving u.state) (sym e) ∙ d)))
+place_dropped (z ∷ zs) n (suc place) x a l e q d =
+    let next : suc place + 1 ≡ suc (place + 1) = omega arith in
+    ap (λ k. z ∷ take place zs ++ drop k (z ∷ zs)) next
+    ∙ ap (λ ys. z ∷ ys) (place_dropped zs n place x a.1 (omega arith) e q d)
+    ∙ sym (cond-true (is_kept n z) _ _ (kept_away n z (behind z.no n zs place a.0 q)))
+
+pub place_stays : (xs : List Instrument) (n place : ℕ) (x : Instrument) → AreInOrder xs → place < length xs → x ≡ get_or xs place x → option_map (λ (i : Instrument). i.no) (slice_get xs place) ≡ Some n → is_leaving x.state ≡ false
+    → xs ≡ filter (is_kept n) xs
+place_stays [] n place x a l e q d = absurd (omega arith)
+place_stays (z ∷ zs) n zero x a l e q d =
+    let p : z.no ≡ n = cc in
+    ap (λ ys. z ∷ ys) (behind_stay z zs n a.0 p) ∙ sym (cond-true (is_kept n z) _ _ (kept_here n z false p (ap (λ (u : Instrument). is_leaving u.state) (sym e) ∙ d)))
+place_stays (z ∷ zs) n (suc place) x a l e q d =
+    ap (λ ys. z ∷ ys) (place_stays zs n place x a.1 (omega arith) e q d) ∙ sym (cond-true (is_kept n z) _ _ (kept_away n z (behind z.no n zs place a.0 q)))
 
 -- ---- the order stays
 

@@ -1,8 +1,7 @@
 -- Each mini block's instrument was admitted, whatever is done; and how many rooms the sites of a new instrument take.
-use Rattle.std.proofs.Common.{◌≡◌, ℕ, ◌+◌, ◌<◌, List, [], ◌∷◌, ◌++◌, Option, Some, None, refl, sym, ap, ◌∙◌, subst, arith, ⊎_elim, inl, inr, length, map, filter, take, drop, get_or, cond}
+use Rattle.std.proofs.Common.{◌≡◌, ℕ, ◌+◌, ◌<◌, List, [], ◌∷◌, ◌++◌, Option, Some, None, refl, sym, ap, ◌∙◌, subst, arith, ⊎_elim, inl, inr, length, map, filter, cond}
 use Rattle.std.specs.Prelude.{Bool, true, false, find, Result, Ok, Err}
 use Rattle.std.proofs.lemmas.Bool.{true≢false, eq-eqb}
-use Rattle.std.proofs.lemmas.List.{take-append-drop}
 use Rattle.pn_types.specs.declared.plan.Site.{Site}
 use Rattle.pn_types.specs.declared.placed.PlacedSite.{PlacedSite}
 use Rattle.rv_word.specs.Plain.{Words}
@@ -20,7 +19,6 @@ use Rattle.instrument.specs.declared.room.Room.{Room}
 use Rattle.instrument.proofs.Folds.{in_append}
 use Rattle.instrument.proofs.Grown.{site_blocks}
 use Rattle.instrument.proofs.Hands.{mini_of}
-use Rattle.instrument.proofs.Holdings.{at_next}
 
 pub admitted_hold : (h : Room → Hold) (n : ℕ) (rooms : List Room) → AreAdmitted n rooms → AreAdmitted n (map (with_hold h) rooms)
 admitted_hold h n rooms k = λ x i. let o = in_map (with_hold h) rooms x i in subst (λ (u : Room). u.base ≡ false → u.owner < n) (sym o.2) (k o.0 o.1)
@@ -99,7 +97,7 @@ of_ok : (b d : Book) (r : Result Book Refused) → r ≡ Ok b → r ≡ Ok d →
 of_ok b d r e f = cc
 
 -- what each site takes on with one more holds of all
-all_placed : (t : Words) (n : ℕ) (slots : List ℕ) (P : ℕ → Book → Type 0) → ((c : ℕ) (s : Site) (b d : Book) → P c b → with_site t n slots s b ≡ Ok d → P (c + 1) d)
+pub all_placed : (t : Words) (n : ℕ) (slots : List ℕ) (P : ℕ → Book → Type 0) → ((c : ℕ) (s : Site) (b d : Book) → P c b → with_site t n slots s b ≡ Ok d → P (c + 1) d)
     → (c : ℕ) (sites : List Site) (book new : Book) → P c book → with_sites t n slots sites book ≡ Ok new → P (c + length sites) new
 all_placed t n slots P step c [] book new k e = let m : c ≡ c + 0 = omega arith in subst (λ i. P i new) m (subst (λ (b : Book). P c b) (of_ok book new (with_sites t n slots [] book) refl e) k)
 all_placed t n slots P step c (s ∷ sites) book new k e =
@@ -147,12 +145,3 @@ count_site n x ys m = by (is_mini_room_of n x) m
     by : (b : Bool) → b ≡ true → length (map site (cond b (x ∷ filter (is_mini_room_of n) ys) (filter (is_mini_room_of n) ys))) ≡ length (sites_of n ys) + 1
     by true e = omega arith
     by false e = absurd cc
-
-pub site_before : (n : ℕ) (rooms : List Room) (i : ℕ) (x : Room) → i < length rooms → x ≡ get_or rooms i x → is_mini_room_of n x ≡ true → length (sites_of n (take i rooms)) < length (sites_of n rooms)
-site_before n rooms i x l e m =
-    let r = at_next rooms i x l e in
-    let a = count_append n (take i rooms) (drop i rooms) in
-    let b = ap (λ (ys : List Room). length (sites_of n ys)) (take-append-drop i rooms) in
-    let c = ap (λ (ys : List Room). length (sites_of n ys)) r.1 in
-    let d = count_site n x (drop (i + 1) rooms) m in
-    omega (arith, a, b, c, d)

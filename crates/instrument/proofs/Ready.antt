@@ -11,6 +11,7 @@ use Rattle.pn_types.specs.declared.plan.Var.{Var}
 use Rattle.prim_code.specs.Counts.{site_words}
 use Rattle.machine.specs.Cores.{In}
 use Rattle.instrument.specs.Books.{Book}
+use Rattle.instrument.specs.Freed.{AreHere}
 use Rattle.instrument.specs.Listed.{AreNumberedBelow}
 use Rattle.instrument.specs.Needs.{Need, need_of, is_var, is_need, sites_in, without}
 use Rattle.instrument.specs.Placers.{HasMemory, AreAdmitted, IsPlacer}
@@ -155,8 +156,8 @@ is_found (Some x) need before after e n h = refl
 
 -- ---- the placer
 
-pub placer_kept : (t u : ToolTextData) (r s : RosterData) (count : ℕ) (ready : List Need) → IsPlacer t r count ready → AreAdmitted count u.book.rooms → AreNumberedBelow count s.instruments → t.spare_rooms ≤ u.spare_rooms → t.takes ≤ u.takes → 7 * sites_in ready ≤ u.entries → r.room ≤ s.room → r.takes ≤ s.takes → IsPlacer u s count ready
-placer_kept t u r s count ready k a b rooms takes entries room slots = record {
+pub placer_kept : (t u : ToolTextData) (r s : RosterData) (count : ℕ) (ready : List Need) → IsPlacer t r count ready → AreAdmitted count u.book.rooms → AreNumberedBelow count s.instruments → AreHere u.book.rooms s.instruments → t.spare_rooms ≤ u.spare_rooms → t.takes ≤ u.takes → 7 * sites_in ready ≤ u.entries → r.room ≤ s.room → r.takes ≤ s.takes → IsPlacer u s count ready
+placer_kept t u r s count ready k a b h rooms takes entries room slots = record {
   memory = record {
     rooms = omega (arith, k.memory.rooms, rooms);
     takes = omega (arith, k.memory.takes, takes);
@@ -167,7 +168,12 @@ placer_kept t u r s count ready k a b rooms takes entries room slots = record {
   };
   admitted = a;
   listed = b;
+  here = h;
 }
+
+-- who was here is so
+pub same_here : (t u : ToolTextData) (r s : RosterData) → u.book ≡ t.book → s.instruments ≡ r.instruments → AreHere t.book.rooms r.instruments → AreHere u.book.rooms s.instruments
+same_here t u r s e f k = subst (λ (is : List Instrument). AreHere u.book.rooms is) (sym f) (subst (λ (b : Book). AreHere b.rooms r.instruments) (sym e) k)
 
 -- no plan is ready any more
 pub given_up : (t u : ToolTextData) (r s : RosterData) (count : ℕ) (before after : List Need) → IsPlacer t r count before → after ≡ [] → ((sites plans : ℕ) → HasMemory t r count sites plans → HasMemory u s count sites plans) → u.book ≡ t.book → s.instruments ≡ r.instruments → IsPlacer u s count after
@@ -178,14 +184,15 @@ given_up t u r s count before after k e kept same listed =
       memory = kept 0 0 none;
       admitted = subst (λ (b : Book). AreAdmitted count b.rooms) (sym same) k.admitted;
       listed = subst (λ (is : List Instrument). AreNumberedBelow count is) (sym listed) k.listed;
+      here = same_here t u r s same listed k.here;
     })
 
 -- a kit was taken out, and not used
 pub placer_less : (t : ToolTextData) (r : RosterData) (count : ℕ) (need : Need) (before after : List Need) → IsPlacer t r count before → after ≡ without need before → IsPlacer t r count after
-placer_less t r count need before after k e = record { memory = left_memory t r count need before after e k.memory; admitted = k.admitted; listed = k.listed }
+placer_less t r count need before after k e = record { memory = left_memory t r count need before after e k.memory; admitted = k.admitted; listed = k.listed; here = k.here }
 
 -- it was used, or part of it
-pub placer_used : (t u : ToolTextData) (r s : RosterData) (count used sites : ℕ) (ready kits : List Need) → HasMemory t r count (sites_in ready + sites) (length ready + 1) → ready ≡ kits → AreAdmitted used u.book.rooms → AreNumberedBelow used s.instruments
+pub placer_used : (t u : ToolTextData) (r s : RosterData) (count used sites : ℕ) (ready kits : List Need) → HasMemory t r count (sites_in ready + sites) (length ready + 1) → ready ≡ kits → AreAdmitted used u.book.rooms → AreNumberedBelow used s.instruments → AreHere u.book.rooms s.instruments
     → t.spare_rooms ≤ u.spare_rooms + 2 * sites → t.takes ≤ u.takes + 2 * sites → t.entries ≤ u.entries + 7 * sites → r.room ≤ s.room + 1 → r.takes ≤ s.takes + 2 → used ≤ count + 1 → IsPlacer u s used kits
-placer_used t u r s count used sites ready kits k e a b rooms takes entries room slots n =
-    subst (λ (ns : List Need). IsPlacer u s used ns) e (record { memory = memory_used t u r s count (sites_in ready) (length ready) sites used k rooms takes entries room slots n; admitted = a; listed = b })
+placer_used t u r s count used sites ready kits k e a b h rooms takes entries room slots n =
+    subst (λ (ns : List Need). IsPlacer u s used ns) e (record { memory = memory_used t u r s count (sites_in ready) (length ready) sites used k rooms takes entries room slots n; admitted = a; listed = b; here = h })

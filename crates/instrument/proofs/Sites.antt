@@ -1,13 +1,12 @@
--- The sites of an instrument are dropped one after another, in one walk over the rooms.
+-- The sites of an instrument are dropped one after another.
 use Rattle.std.proofs.Common.{◌≡◌, ℕ, zero, suc, ◌+◌, ◌/◌, ◌<◌, ◌≤◌, List, [], ◌∷◌, Option, Some, None, refl, sym, ap, ◌∙◌, subst, arith, ⊎_elim, inl, inr, filter, take, drop, get_or, length, map, cond}
 use Rattle.std.specs.Prelude.{Bool, true, false, not, ◌&&◌, ◌==◌, find}
 use Rattle.std.proofs.lemmas.Bool.{true≢false, cond-true, cond-false, cases_Bool, and_parts, and_from, le-leb, lt-ltb, eqb-true, eq-eqb}
-use Rattle.std.proofs.lemmas.List.{length-map, take-append-drop, get_or_default}
+use Rattle.std.proofs.lemmas.List.{length-map, take-append-drop}
 use Rattle.tool_space.specs.Rooms.{is_within}
 use Rattle.machine.specs.Cores.{In}
 use Rattle.machine.proofs.Lists.{in_map}
 use Rattle.instrument.specs.Books.{Book, is_held, leaving, is_mini_of, with_hold, mini_leaves, base_leaves, rooms_left, without_site}
-use Rattle.instrument.specs.Ledgers.{LedgerData}
 use Rattle.instrument.specs.Placements.{is_site_of, without_sites}
 use Rattle.instrument.specs.Spaces.{AreDistant, AllDistant, words_of_room, IsWhole, AreDistinct}
 use Rattle.instrument.specs.ToolTexts.{is_held_mini, held_minis, for_drops}
@@ -90,10 +89,6 @@ in_at rooms k x l e = in_drop k rooms x (subst (λ (zs : List Room). In x zs) (s
 filter_at : (n : ℕ) (rooms : List Room) (k : ℕ) (x : Room) → k < length rooms → x ≡ get_or rooms k x → filter (is_site_of n) (drop k rooms) ≡ cond (is_site_of n x) (x ∷ filter (is_site_of n) (drop (k + 1) rooms)) (filter (is_site_of n) (drop (k + 1) rooms))
 filter_at n rooms k x l e = ap (filter (is_site_of n)) (at_next rooms k x l e).1
 
-pub site_passed : (n : ℕ) (book : Book) (k : ℕ) (x : Room) → k < length book.rooms → x ≡ get_or book.rooms k x → is_site_of n x ≡ false
-    → without_sites (filter (is_site_of n) (drop (k + 1) book.rooms)) book ≡ without_sites (filter (is_site_of n) (drop k book.rooms)) book
-site_passed n book k x l e s = ap (λ xs. without_sites xs book) (sym (filter_at n book.rooms k x l e ∙ cond-false (is_site_of n x) _ _ s))
-
 pub site_dropped : (n : ℕ) (book : Book) (k : ℕ) (x : Room) → k < length book.rooms → x ≡ get_or book.rooms k x → AreDistinct book.rooms → is_site_of n x ≡ true
     → without_sites (filter (is_site_of n) (drop (k + 1) (without_site x book).rooms)) (without_site x book) ≡ without_sites (filter (is_site_of n) (drop k book.rooms)) book
 site_dropped n book k x l e d s =
@@ -174,36 +169,3 @@ some_held [] x i s = absurd i
 
 pub entries_there : (n : ℕ) (rooms : List Room) (x : Room) → In x rooms → is_site_of n x ≡ true → 3 ≤ for_drops rooms
 entries_there n rooms x i s = let h = some_held rooms x i (site_held n x s) in omega (arith, h)
-
--- ---- the walk
-
-abbrev pub nowhere : Room
-nowhere = record { point = 0; at = 0; len = 0; base = false; owner = 0; hold = Held }
-
--- the room that is read at a place
-pub read_at : (rooms read : List Room) (k : ℕ) → read ≡ rooms → k < length rooms → get_or read k nowhere ≡ get_or rooms k (get_or read k nowhere)
-read_at rooms read k e l = ap (λ (rs : List Room). get_or rs k nowhere) e ∙ get_or_default rooms k nowhere (get_or read k nowhere) l
-
--- what the walk keeps
-pub record IsWalk (n k : ℕ) (first now : LedgerData) : Type 0 where
-  pub book : without_sites (filter (is_site_of n) (drop k now.book.rooms)) now.book ≡ without_sites (filter (is_site_of n) first.book.rooms) first.book
-  pub len : length now.book.rooms ≡ length first.book.rooms
-  pub distinct : AreDistinct now.book.rooms
-  pub spare : now.spare_rooms ≡ first.spare_rooms
-  pub entries : first.spare_entries + for_drops now.book.rooms ≤ now.spare_entries + for_drops first.book.rooms
-
-pub walk_passes : (n k : ℕ) (first now : LedgerData) (x : Room) → k < length now.book.rooms → x ≡ get_or now.book.rooms k x → is_site_of n x ≡ false → IsWalk n k first now → IsWalk n (k + 1) first now
-walk_passes n k first now x l e s w = record { book = site_passed n now.book k x l e s ∙ w.book; len = w.len; distinct = w.distinct; spare = w.spare; entries = w.entries }
-
-pub walk_drops : (n k : ℕ) (first now next : LedgerData) (x : Room) → k < length now.book.rooms → x ≡ get_or now.book.rooms k x → is_site_of n x ≡ true → IsWalk n k first now
-    → next.book ≡ without_site x now.book → next.spare_rooms ≡ now.spare_rooms → now.spare_entries ≤ next.spare_entries + 3 → IsWalk n (k + 1) first next
-walk_drops n k first now next x l e s w b r a =
-    let h = held_without x now.book (in_at now.book.rooms k x l e) (site_held n x s) in
-    let g = ap (λ (z : Book). held_minis z.rooms) b in
-    record {
-      book = subst (λ (z : Book). without_sites (filter (is_site_of n) (drop (k + 1) z.rooms)) z ≡ without_sites (filter (is_site_of n) first.book.rooms) first.book) (sym b) (site_dropped n now.book k x l e w.distinct s ∙ w.book);
-      len = ap (λ (z : Book). length z.rooms) b ∙ (len_without x now.book ∙ w.len);
-      distinct = subst (λ (z : Book). AreDistinct z.rooms) (sym b) (distinct_without x now.book w.distinct);
-      spare = r ∙ w.spare;
-      entries = omega (arith, h, g, a, w.entries);
-    }

@@ -1,35 +1,37 @@
 -- The slots of instruments in a space: what is given back where some are gone.
-use Rattle.std.proofs.Common.{◌≡◌, ℕ, ◌+◌, ◌^◌, ◌<◌, ◌-◌, List, [], ◌++◌, ap, map, refl, sym, subst, arith, filter, take, drop, get_or, length, cond}
-use Rattle.std.specs.Prelude.{Bool, true, false, nat_lt}
-use Rattle.tool_space.specs.Rooms.{Rooms, new_space, after_give}
+use Rattle.std.proofs.Common.{◌≡◌, ℕ, ◌+◌, ◌^◌, ◌<◌, ◌-◌, List, [], ◌∷◌, ◌++◌, ap, map, sym, subst, arith, cond, drop, get_or, length, take}
+use Rattle.std.specs.Prelude.{nat_lt}
+use Rattle.tool_space.specs.Rooms.{Rooms, IsTaken, new_space, after_give}
 use Rattle.tramp_spec.specs.Banks.{bank_len, first_slot}
 use Rattle.machine.specs.Cores.{In}
 use Rattle.machine.proofs.Lists.{in_map}
 use Rattle.pn_types.specs.declared.placed.Placed.{Placed}
 use Rattle.pn_types.specs.declared.limits.TheConstants.{BANK_LEN, FIRST_SLOT}
 use Rattle.instrument.specs.Admission.{slot_count, slots_from}
-use Rattle.instrument.specs.Listed.{AreInOrder, AreThere}
+use Rattle.instrument.specs.Listed.{AreInOrder}
 use Rattle.instrument.specs.Spaces.{first_or, slots_of, slots_of_placed, IsRow, AreSlotsOf, IsRoster}
 use Rattle.instrument.specs.declared.instrument.Instrument.{Instrument}
-use Rattle.instrument.proofs.Holdings.{space_new, space_map, space_goes, next_stays, left_before}
+use Rattle.instrument.proofs.Holdings.{space_new, space_map, space_out, may_give, middle, parted, taken, without}
 
 pub few_slots : (space : Rooms) (xs : List Instrument) (i : Instrument) → AreSlotsOf space xs → In i xs → slot_count i.placed.vars < 2 ^ 32
 unfolding bank_len
 few_slots space xs i k h = let w = (k.taken.within i h).1 in omega arith
 
-pub one_goes : (space : Rooms) (p : Instrument → Bool) (xs : List Instrument) (i : ℕ) (x : Instrument) → i < length xs → x ≡ get_or xs i x → p x ≡ false → AreSlotsOf space (filter p (take i xs) ++ drop i xs)
-    → AreSlotsOf (cond (nat_lt 0 (slots_of x).len) (after_give space (slots_of x).at (slots_of x).len) space) (filter p (take (i + 1) xs) ++ drop (i + 1) xs)
-one_goes space p xs i x l e q k = record {
-  taken = space_goes slots_of first_slot _ space p xs i x l e q k.taken;
-  rows = λ u h. k.rows u (left_before p xs i x u l e q h);
+-- the slots of one may be given back
+pub may_go : (space : Rooms) (xs : List Instrument) (i : ℕ) (x : Instrument) → i < length xs → x ≡ get_or xs i x → AreSlotsOf space xs
+    → (slot_count x.placed.vars < 2 ^ 32) × (0 < (slots_of x).len → 0 < space.gives) × (0 < (slots_of x).len → IsTaken space (slots_of x).at (slots_of x).len)
+may_go space xs i x l e k =
+    let p = parted xs i x l e in
+    let h = subst (λ (ys : List Instrument). In x ys) (sym p) (middle (take i xs) (drop (i + 1) xs) x) in
+    let b = subst (λ (ys : List Instrument). AreSlotsOf space ys) p k in
+    (few_slots space xs x k h, λ some. may_give slots_of _ _ space (take i xs) (drop (i + 1) xs) x b.taken some, λ some. taken slots_of _ _ space xs k.taken x h)
+
+-- and it is left out
+pub slots_out : (space : Rooms) (xs ys : List Instrument) (x : Instrument) → AreSlotsOf space (xs ++ x ∷ ys) → AreSlotsOf (cond (nat_lt 0 (slots_of x).len) (after_give space (slots_of x).at (slots_of x).len) space) (xs ++ ys)
+slots_out space xs ys x k = record {
+  taken = space_out slots_of first_slot _ space xs ys x k.taken;
+  rows = λ u h. k.rows u (without xs ys x u h);
 }
-
-pub one_stays : (space : Rooms) (p : Instrument → Bool) (xs : List Instrument) (i : ℕ) (x : Instrument) → i < length xs → x ≡ get_or xs i x → p x ≡ true → AreSlotsOf space (filter p (take i xs) ++ drop i xs) → AreSlotsOf space (filter p (take (i + 1) xs) ++ drop (i + 1) xs)
-one_stays space p xs i x l e q k = subst (λ (ys : List Instrument). AreSlotsOf space ys) (sym (next_stays p xs i x l e q)) k
-
-pub gives_keep_takes : (b : Bool) (space : Rooms) (at len : ℕ) → (cond b (after_give space at len) space).takes ≡ space.takes
-gives_keep_takes true space at len = refl
-gives_keep_takes false space at len = refl
 
 -- ---- the roster
 
@@ -41,7 +43,6 @@ roster_new space instruments len capacity e f g = record {
     rows = λ i h. absurd h;
   }));
   order = subst AreInOrder (sym f) tt;
-  there = subst AreThere (sym f) (λ i h. absurd h);
   memory = omega (arith, g);
 }
 

@@ -1,24 +1,25 @@
 -- The rooms of a book in their space, and the entries for drops, where the holds of rooms change.
-use Rattle.std.proofs.Common.{◌≡◌, ℕ, ◌+◌, ◌/◌, ◌<◌, ◌≤◌, List, [], ◌∷◌, ◌++◌, Option, Some, None, refl, sym, ap, ◌∙◌, subst, arith, filter, take, drop, get_or, length, map, cond}
+use Rattle.std.proofs.Common.{◌≡◌, ℕ, ◌+◌, ◌/◌, ◌<◌, ◌≤◌, List, [], ◌∷◌, ◌++◌, Option, Some, None, refl, sym, ap, ◌∙◌, subst, arith, filter, map, cond}
 use Rattle.std.specs.Prelude.{Bool, true, false, not, ◌&&◌, ◌==◌, ◌-◌, IfSome, find}
-use Rattle.std.proofs.lemmas.Bool.{lt-ltb}
 use Rattle.pn_types.specs.declared.limits.TheConstants.{TOOL_TEXT_LEN}
 use Rattle.rv_word.specs.Plain.{Words}
-use Rattle.tool_space.specs.Rooms.{Rooms, new_space, after_give}
+use Rattle.tool_space.specs.Rooms.{Rooms, IsTaken, new_space, after_give}
 use Rattle.tramp_spec.specs.Codes.{tool_at}
 use Rattle.machine.proofs.Lists.{in_map}
 use Rattle.instrument.specs.Agendas.{without_first}
-use Rattle.instrument.specs.Books.{Book, is_held, stays, is_mini_of, mini_leaves, base_leaves, rooms_left, without_site, with_hold, unlinked_at, rooms_behind}
+use Rattle.instrument.specs.Books.{Book, is_held, is_mini_of, mini_leaves, base_leaves, rooms_left, without_site, with_hold, unlinked_at, rooms_behind}
+use Rattle.instrument.specs.Freed.{IsTakenOut}
 use Rattle.instrument.specs.Ledgers.{LedgerData}
 use Rattle.instrument.specs.Placements.{behind_first, first_of, is_site_of, without_sites}
-use Rattle.instrument.specs.Spaces.{IsSpaceOf, words_of_room, IsWhole, AreRoomsOf}
+use Rattle.instrument.specs.Spaces.{words_of_room, IsWhole, AreRoomsOf}
 use Rattle.instrument.specs.ToolTexts.{held_minis, for_drops, IsToolText}
 use Rattle.instrument.specs.declared.entry.Entry.{Entry}
 use Rattle.instrument.specs.declared.entry.Entry.TheVariants.{WriteBase, WriteMini, LinkMini, LinkPoint, UnlinkMini, UnlinkPoint, Free}
 use Rattle.instrument.specs.declared.room.Hold.{Hold}
 use Rattle.instrument.specs.declared.room.Hold.TheVariants.{Unlinked}
 use Rattle.instrument.specs.declared.room.Room.{Room}
-use Rattle.instrument.proofs.Holdings.{space_new, space_map, space_goes, next_stays, left_before}
+use Rattle.instrument.proofs.Grown.{behind_goes}
+use Rattle.instrument.proofs.Holdings.{space_new, space_map, may_give, middle, taken}
 
 pub rooms_new : (t : Words) (space : Rooms) → space ≡ new_space (tool_at t / 4) (TOOL_TEXT_LEN / 4) → AreRoomsOf t space []
 rooms_new t space e = subst (λ (z : Rooms). AreRoomsOf t z []) (sym e) (record {
@@ -79,28 +80,7 @@ pub fewer_behind : (agenda : List Entry) (book : Book) → held_minis (behind_fi
 fewer_behind [] book = omega arith
 fewer_behind (e ∷ es) book = fewer_after e book.rooms
 
-pub fewer_filter : (p : Room → Bool) (rooms : List Room) → held_minis (filter p rooms) ≤ held_minis rooms
-fewer_filter p [] = omega arith
-fewer_filter p (x ∷ xs) = by (p x) (fewer_filter p xs)
-  where
-    by : (b : Bool) → held_minis (filter p xs) ≤ held_minis xs → held_minis (cond b (x ∷ filter p xs) (filter p xs)) ≤ held_minis (x ∷ xs)
-    by true r = omega (arith, r)
-    by false r = omega (arith, r)
-
--- ---- rooms are given back, one after another
-
-pub room_goes : (t : Words) (space : Rooms) (p : Room → Bool) (xs : List Room) (i : ℕ) (x : Room) → i < length xs → x ≡ get_or xs i x → p x ≡ false → AreRoomsOf t space (filter p (take i xs) ++ drop i xs)
-    → 0 < x.len → AreRoomsOf t (after_give space (x.at / 4) x.len) (filter p (take (i + 1) xs) ++ drop (i + 1) xs)
-room_goes t space p xs i x l e q k some = record {
-  taken = subst (λ (z : Rooms). IsSpaceOf words_of_room (tool_at t / 4) (TOOL_TEXT_LEN / 4) z (filter p (take (i + 1) xs) ++ drop (i + 1) xs)) (ap (λ b. cond b (after_give space (x.at / 4) x.len) space) (lt-ltb 0 x.len some))
-      (space_goes words_of_room (tool_at t / 4) (TOOL_TEXT_LEN / 4) space p xs i x l e q k.taken);
-  whole = λ u h. k.whole u (left_before p xs i x u l e q h);
-}
-
-pub room_stays : (t : Words) (space : Rooms) (p : Room → Bool) (xs : List Room) (i : ℕ) (x : Room) → i < length xs → x ≡ get_or xs i x → p x ≡ true → AreRoomsOf t space (filter p (take i xs) ++ drop i xs) → AreRoomsOf t space (filter p (take (i + 1) xs) ++ drop (i + 1) xs)
-room_stays t space p xs i x l e q k = subst (λ (ys : List Room). AreRoomsOf t space ys) (sym (next_stays p xs i x l e q)) k
-
--- ---- the entries that are left, where one is handed out or a point is freed
+-- ---- the entries that are left, where one is handed out
 
 pub more_behind : (agenda : List Entry) (room : ℕ) → room ≤ (without_first (record { entries = agenda; room = room })).room
 more_behind [] room = omega arith
@@ -138,21 +118,40 @@ entry_freed t l m words k b e o q = subst (λ (z : Option Entry). IfSome z (λ x
         let n : m.spare_entries ≡ l.spare_entries + 1 = e ∙ ap (λ (es : List Entry). (without_first (record { entries = es; room = l.spare_entries })).room) a in
         omega (arith, f, h, n, k.entries)
 
-pub text_freed : (t : Words) (l m : LedgerData) (words given : Rooms) (point : ℕ) → IsToolText t l words → AreRoomsOf t given (filter (stays point) l.book.rooms) → m.book.rooms ≡ filter (stays point) l.book.rooms
-    → m.spare_entries ≡ l.spare_entries → IsToolText t m given
-text_freed t l m words given point k r b e =
-    let f = fewer_filter (stays point) l.book.rooms in
-    let h = ap held_minis b in
+-- ---- a room is taken out
+
+fewer_out : (xs ys : List Room) (x : Room) → held_minis (xs ++ ys) ≤ held_minis (xs ++ x ∷ ys)
+fewer_out [] ys x = omega arith
+fewer_out (z ∷ zs) ys x = let r = fewer_out zs ys x in omega (arith, r)
+
+fewer_taken : (point : ℕ) (x : Room) (old new : List Room) → IsTakenOut point x old new → held_minis new ≤ held_minis old
+fewer_taken point x old new o =
+    let f = fewer_out o.before o.after x in
+    let a = ap held_minis o.was in
+    let b = ap held_minis o.now in
+    omega (arith, f, a, b)
+
+-- it may be given back
+pub may_go : (t : Words) (words : Rooms) (point : ℕ) (x : Room) (old new : List Room) → AreRoomsOf t words old → IsTakenOut point x old new → (0 < x.len) × (0 < words.gives) × IsTaken words (x.at / 4) x.len
+may_go t words point x old new k o =
+    let b = subst (λ (ys : List Room). AreRoomsOf t words ys) o.was k in
+    let some = (b.whole x (middle o.before o.after x)).0 in
+    (some, may_give words_of_room _ _ words o.before o.after x b.taken some, taken words_of_room _ _ words (o.before ++ x ∷ o.after) b.taken x (middle o.before o.after x))
+
+pub text_taken : (t : Words) (l m : LedgerData) (words given : Rooms) (point : ℕ) (x : Room) → IsToolText t l words → IsTakenOut point x l.book.rooms m.book.rooms → given ≡ after_give words (x.at / 4) x.len → m.spare_entries ≡ l.spare_entries
+    → IsToolText t m given
+text_taken t l m words given point x k o g e =
+    let f = fewer_taken point x l.book.rooms m.book.rooms o in
+    let before = subst (λ (ys : List Room). AreRoomsOf t words ys) o.was k.rooms in
     record {
-      rooms = subst (λ (z : List Room). AreRoomsOf t given z) (sym b) r;
-      entries = omega (arith, f, h, e, k.entries);
+      rooms = subst (λ (z : Rooms). AreRoomsOf t z m.book.rooms) (sym g) (subst (λ (ys : List Room). AreRoomsOf t (after_give words (x.at / 4) x.len) ys) (sym o.now) (behind_goes t words o.before o.after x before));
+      entries = omega (arith, f, e, k.entries);
     }
 
-pub entries_freed : (l m : LedgerData) (point : ℕ) → m.book.rooms ≡ filter (stays point) l.book.rooms → m.spare_entries ≡ l.spare_entries → l.spare_entries - for_drops l.book.rooms ≤ m.spare_entries - for_drops m.book.rooms
-entries_freed l m point b e =
-    let f = fewer_filter (stays point) l.book.rooms in
-    let h = ap held_minis b in
-    omega (arith, f, h, e)
+pub entries_taken : (l m : LedgerData) (point : ℕ) (x : Room) → IsTakenOut point x l.book.rooms m.book.rooms → m.spare_entries ≡ l.spare_entries → l.spare_entries - for_drops l.book.rooms ≤ m.spare_entries - for_drops m.book.rooms
+entries_taken l m point x o e =
+    let f = fewer_taken point x l.book.rooms m.book.rooms o in
+    omega (arith, f, e)
 
 -- ---- sites are dropped
 

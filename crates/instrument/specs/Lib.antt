@@ -1,3 +1,6 @@
+pub mod RoomPlaces
+pub mod Freed
+pub mod Droppings
 pub mod Books
 pub mod Agendas
 pub mod Ledgers
@@ -7,7 +10,6 @@ pub mod Rosters
 pub mod ToolTexts
 pub mod Shown
 pub mod Needs
-pub mod Bases
 pub mod Placers
 pub mod Handing
 pub mod Fits

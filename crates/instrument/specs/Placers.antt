@@ -3,6 +3,7 @@
 use Rattle.std.specs.Prelude.{◌≡◌, ℕ, ◌+◌, ◌-◌, ◌*◌, ◌<◌, ◌≤◌, ◌^◌, false, List, [], length}
 use Rattle.machine.specs.Cores.{In}
 use Rattle.pn_types.specs.declared.image.Image.{Image}
+use Rattle.instrument.specs.Freed.{AreHere}
 use Rattle.instrument.specs.Listed.{AreNumberedBelow}
 use Rattle.instrument.specs.Needs.{Need, sites_in}
 use Rattle.instrument.specs.Placements.{Placements, no_placements}
@@ -43,3 +44,4 @@ pub record IsPlacer (text : ToolTextData) (roster : RosterData) (count : ℕ) (r
   pub memory : HasMemory text roster count (sites_in ready) (length ready)
   pub admitted : AreAdmitted count text.book.rooms
   pub listed : AreNumberedBelow count roster.instruments
+  pub here : AreHere text.book.rooms roster.instruments

@@ -10,7 +10,7 @@ use Rattle.tool_space.specs.Rooms.{Rooms, is_within, is_free}
 use Rattle.machine.specs.Cores.{In}
 use Rattle.instrument.specs.Admission.{slot_count, slots_from}
 use Rattle.instrument.specs.Fits.{room_for}
-use Rattle.instrument.specs.Listed.{AreInOrder, AreThere}
+use Rattle.instrument.specs.Listed.{AreInOrder}
 use Rattle.instrument.specs.declared.instrument.Instrument.{Instrument}
 use Rattle.instrument.specs.declared.room.Room.{Room}
 
@@ -86,12 +86,10 @@ pub record AreSlotsOf (space : Rooms) (instruments : List Instrument) : Type 0 w
 
 -- ---- the parts of a placer
 
--- The space is of the instruments' slots, and has the takes; the instruments are in order, and none is gone; and there is memory for
--- so many more.
+-- The space is of the instruments' slots, the instruments are in order, and there is memory for so many more.
 pub record IsRoster (space : Rooms) (instruments : List Instrument) (len capacity room : ℕ) : Type 0 where
   pub slots : AreSlotsOf space instruments
   pub order : AreInOrder instruments
-  pub there : AreThere instruments
   pub memory : len + room ≤ capacity
 
 -- no word is of two rooms, and each room is whole

@@ -3,9 +3,7 @@
 ghost use Rattle.std.specs.Prelude.{◌≡◌, ◌+◌, ◌*◌, ◌<◌, ◌^◌, IfSome, length};
 ghost use Rattle.rv_word.specs.Table.{decode_of};
 ghost use Rattle.instrument.specs.Admission as table;
-ghost use Rattle.instrument.specs.ToolTexts as texts;
 
-use crate::room::Room;
 use pn_types::Var;
 use relocate::moved_len;
 
@@ -29,25 +27,12 @@ pub fn base_len(word: u32) -> u32
     3 + moved_len(word)
 }
 
-/// How many mini blocks of sites that weren't dropped have rooms.
-fn held_minis(rooms: &[Room]) -> usize
-    ensures { result ≡ texts.held_minis rooms.now }
+/// How many entries of the agenda are enough to place so many sites, and to drop them and all that have one of so many rooms: four to
+/// place a site, and three to drop it. None where they are more than can be counted.
+pub fn entries_for(rooms: usize, sites: usize) -> Option<usize>
+    ensures { IfSome result (λ entries. entries ≡ 3 * rooms + 7 * sites) }
 {
-    let mut minis = 0;
-    for room in rooms {
-        if !room.base && room.hold.is_held() {
-            minis += 1;
-        }
-    }
-    minis
-}
-
-/// How many entries of the agenda are needed to place so many sites, and to drop them and all that are held: four to place a
-/// site, and three to drop it. None where they are more than can be counted.
-pub fn entries_for(rooms: &[Room], sites: usize) -> Option<usize>
-    ensures { IfSome result (λ entries. entries ≡ texts.for_drops rooms.now + 7 * sites) }
-{
-    let drops = held_minis(rooms).checked_mul(3)?;
+    let drops = rooms.checked_mul(3)?;
     drops.checked_add(sites.checked_mul(7)?)
 }
 

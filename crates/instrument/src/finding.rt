@@ -1,9 +1,10 @@
 //! An instrument is found by its number: the listed ones stand in the order of theirs.
 
-ghost use Rattle.std.specs.Prelude.{◌≡◌, ◌==◌, ◌<◌, IfNone, IfSome, Some, find, length, map, slice_get};
+ghost use Rattle.std.specs.Prelude.{◌≡◌, ◌==◌, ◌<◌, ◌+◌, ◌++◌, IfNone, IfSome, Some, drop, filter, find, length, map, slice_get, take};
 ghost use Rattle.std.specs.Option.{option_copied, option_map};
 ghost use Rattle.machine.specs.Cores.{In};
-ghost use Rattle.instrument.specs.Listed.{AreInOrder, with_room};
+ghost use Rattle.instrument.specs.Freed.{is_kept};
+ghost use Rattle.instrument.specs.Listed.{AreInOrder};
 ghost use Rattle.instrument.specs.Placements as placements;
 ghost use Rattle.instrument.specs.declared.instrument.Instrument.{Instrument};
 
@@ -41,12 +42,17 @@ pub fn set_state(instruments: &mut [Instrument], number: InstrumentNo, state: St
     }
 }
 
-/// The instrument of a number has a room: where it was dropped, it is no more marked as gone.
-pub fn note_room(instruments: &mut [Instrument], number: InstrumentNo)
-    requires { AreInOrder instruments.old }
-    ensures { instruments.new ≡ map (with_room number.n) instruments.old }
+/// The place of the instrument of a number, if it was dropped.
+pub fn place_of_dropped(instruments: &[Instrument], number: InstrumentNo) -> Option<usize>
+    requires { AreInOrder instruments.now }
+    ensures within { IfSome result (λ place. place < length instruments.now) }
+    ensures some { IfSome result (λ place. take place instruments.now ++ drop (place + 1) instruments.now ≡ filter (is_kept number.n) instruments.now) }
+    ensures none { IfNone result (instruments.now ≡ filter (is_kept number.n) instruments.now) }
 {
-    if let Some(place) = place_of(instruments, number) {
-        instruments[place].state = instruments[place].state.marked(true);
+    let place = place_of(instruments, number)?;
+    if instruments[place].state.is_leaving() {
+        Some(place)
+    } else {
+        None
     }
 }

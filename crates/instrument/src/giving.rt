@@ -1,35 +1,28 @@
 //! Rooms are given back.
 
-ghost use Rattle.std.specs.Prelude.{◌≡◌, ◌≤◌, filter, length, take};
+ghost use Rattle.std.specs.Prelude.{◌≡◌, ◌≤◌, length, take};
+ghost use Rattle.bucket_chains.specs.Left.{left};
 ghost use Rattle.rv_word.specs.Plain.{Words};
-ghost use Rattle.instrument.specs.Books as books;
 ghost use Rattle.instrument.specs.Spaces.{AreRoomsOf};
 
-use crate::room::Room;
+use crate::room_list::Rooms;
 use tool_space::Space;
 
-/// Gives back the rooms of the unlinked blocks of a point.
-pub fn give_rooms(words: &mut Space, rooms: &[Room], point: u64)
-    requires { (program : Words) × AreRoomsOf program words.old rooms.now }
-    ensures rooms { (program : Words) → AreRoomsOf program words.old rooms.now → AreRoomsOf program words.new (filter (books.stays point) rooms.now) }
+/// Gives back the rooms behind so many.
+pub fn give_behind(words: &mut Space, rooms: &mut Rooms, count: usize)
+    requires tied { (program : Words) × AreRoomsOf program words.old (left rooms.old.places) }
+    requires within { count ≤ length (left rooms.old.places) }
+    ensures rooms { left rooms.new.places ≡ take count (left rooms.old.places) }
+    ensures spare { rooms.new.spare ≡ rooms.old.spare }
+    ensures tied { (program : Words) → AreRoomsOf program words.old (left rooms.old.places) → AreRoomsOf program words.new (left rooms.new.places) }
     ensures takes { words.new.takes ≡ words.old.takes }
 {
-    for room in rooms {
-        if !room.stays(point) {
+    let mut place = rooms.places();
+    while rooms.count() > count && place > 0 {
+        place -= 1;
+        if let Some(room) = rooms.at(place) {
+            rooms.remove(place);
             words.give(room.at / 4, room.len);
         }
-    }
-}
-
-/// Gives back the rooms from a place on.
-pub fn give_behind(words: &mut Space, rooms: &[Room], len: usize)
-    requires tied { (program : Words) × AreRoomsOf program words.old rooms.now }
-    requires within { len ≤ length rooms.now }
-    ensures rooms { (program : Words) → AreRoomsOf program words.old rooms.now → AreRoomsOf program words.new (take len rooms.now) }
-    ensures takes { words.new.takes ≡ words.old.takes }
-{
-    for place in len..rooms.len() {
-        let room = rooms[place];
-        words.give(room.at / 4, room.len);
     }
 }

@@ -1,31 +1,36 @@
-//! Which of the instruments that were dropped are gone.
+//! An instrument that was dropped is gone with its last room.
 
-ghost use Rattle.std.specs.Prelude.{◌≡◌, [], map};
-ghost use Rattle.instrument.specs.Listed.{AreInOrder, marked};
+ghost use Rattle.std.specs.Prelude.{◌≡◌, ◌≤◌, filter};
+ghost use Rattle.instrument.specs.Books as books;
+ghost use Rattle.instrument.specs.Freed.{AreHere, is_settled};
+ghost use Rattle.instrument.specs.Placements as placements;
 
-use crate::finding::note_room;
-use crate::instrument::Instrument;
 use crate::number::InstrumentNo;
-use crate::room::Room;
+use crate::roster::Roster;
+use crate::tool_text::ToolText;
 
-/// All that were dropped are marked as gone.
-fn mark_dropped(instruments: &mut [Instrument])
-    ensures { instruments.new ≡ map (marked []) instruments.old }
+/// The instrument of a number is gone if it was dropped and none of its mini blocks has a room.
+pub fn settle(text: &ToolText, roster: &mut Roster, number: InstrumentNo)
+    ensures { roster.new ≡ record roster.old { instruments = filter (is_settled text.now.book.rooms number.n) roster.old.instruments } }
 {
-    for place in 0..instruments.len() {
-        instruments[place].state = instruments[place].state.marked(false);
+    if !text.has_room_of(number.n) {
+        roster.let_go(number);
     }
 }
 
-/// Those that were dropped are marked as gone, but for those of whose mini blocks one has a room.
-pub fn mark_gone(instruments: &mut [Instrument], rooms: &[Room])
-    requires { AreInOrder instruments.old }
-    ensures { instruments.new ≡ map (marked rooms.now) instruments.old }
+/// Gives back the rooms of the unlinked blocks of a point. The instruments that were dropped go with their last rooms.
+pub fn free(text: &mut ToolText, roster: &mut Roster, point: u64)
+    requires { AreHere text.old.book.rooms roster.old.instruments }
+    ensures program { text.new.program ≡ text.old.program }
+    ensures book { text.new.book ≡ record { rooms = filter (books.stays point) text.old.book.rooms; agenda = text.old.book.agenda } }
+    ensures spare { text.new.spare_rooms ≡ text.old.spare_rooms }
+    ensures takes { text.new.takes ≡ text.old.takes }
+    ensures entries { text.old.entries ≤ text.new.entries }
+    ensures roster { roster.new ≡ record roster.old { instruments = filter (placements.is_here (filter (books.stays point) text.old.book.rooms)) roster.old.instruments } }
 {
-    mark_dropped(instruments);
-    for room in rooms {
+    while let Some(room) = text.take_unlinked(point) {
         if !room.base {
-            note_room(instruments, InstrumentNo { n: room.owner });
+            settle(text, roster, InstrumentNo { n: room.owner });
         }
     }
 }

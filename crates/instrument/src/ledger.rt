@@ -1,78 +1,106 @@
-ghost use Rattle.std.specs.Prelude.{◌≡◌, ◌+◌, ◌<◌, ◌≤◌, [], ◌∷◌, ◌++◌, ◌^◌, None, IfSome, OnErr, OnOk, filter, length, take};
+ghost use Rattle.std.specs.Prelude.{◌≡◌, ◌+◌, ◌<◌, ◌≤◌, [], ◌∷◌, ◌++◌, ◌^◌, None, IfNone, IfOk, IfSome, OnOk, filter, find, length, take, vec_capacity};
+ghost use Rattle.std.specs.List.{list_any};
+ghost use Rattle.rv_word.specs.Plain.{Words};
 ghost use Rattle.instrument.specs.Agendas as lists;
 ghost use Rattle.instrument.specs.Books as books;
+ghost use Rattle.instrument.specs.Freed.{AllStay, IsTakenOut};
 ghost use Rattle.instrument.specs.Ledgers as ledgers;
-ghost use Rattle.instrument.specs.Placements.{agenda_in, behind_first, first_of, is_site_of, point_in, without_sites};
-ghost use Rattle.instrument.specs.Spaces.{AreDistinct};
+ghost use Rattle.instrument.specs.Placements as placements;
+ghost use Rattle.instrument.specs.Placements.{agenda_in, behind_first, first_of, is_mini_room_of, is_site_of, point_in, without_sites};
+ghost use Rattle.instrument.specs.Spaces.{AreDistinct, AreRoomsOf};
 ghost use Rattle.instrument.specs.ToolTexts.{for_drops};
 ghost use Rattle.instrument.specs.declared.entry.Entry.TheVariants.{Free};
 
 use crate::agenda::Agenda;
+use crate::dropping::drop_sites;
 use crate::entry::Entry;
+use crate::giving::give_behind;
 use crate::room::Room;
-use crate::rooms::{find_base, find_mini, free, leave_base, leave_mini, unlink};
-use pn_types::NoMemory;
+use crate::room_list::Rooms;
+use pn_types::{NoMemory, PlacedSite};
 use std::alloc::Global;
 use std::marker::Model;
+use tool_space::Space;
 use tramp_spec::Block;
 
 /// The rooms that were taken and not given back, and the agenda.
 #[derive(Drop)]
 pub struct Ledger {
-    rooms: Vec<Room>,
+    rooms: Rooms,
     agenda: Agenda,
-    // How many more rooms need no memory.
-    spare: usize,
 }
 
 impl Model for Ledger {
-    ghost use Rattle.std.specs.Prelude.{◌+◌, ◌≤◌, vec_capacity, vec_len};
+    ghost use Rattle.bucket_chains.specs.Left.{left};
     ghost use Rattle.instrument.specs.Ledgers.{LedgerData};
 
     ghost Value = { LedgerData };
 
     ghost view = { λ l. record {
-      book = record { rooms = l.rooms.items; agenda = l.agenda.entries };
-      spare_rooms = l.spare;
+      book = record { rooms = left l.rooms.places; agenda = l.agenda.entries };
+      spare_rooms = l.rooms.spare;
       spare_entries = l.agenda.room;
     } };
-
-    ghost invariant = { λ l. vec_len l.rooms + l.spare ≤ vec_capacity l.rooms };
 }
 
 impl Ledger {
     /// A ledger with no rooms and no entries.
-    pub fn new(alloc: Global) -> Ledger
-        ensures { result ≡ ledgers.no_ledger }
+    ///
+    /// # Errors
+    ///
+    /// `NoMemory` where memory is wanting.
+    pub fn new(alloc: Global) -> Result<Ledger, NoMemory>
+        ensures { IfOk result (λ ledger. ledger ≡ ledgers.no_ledger) }
     {
-        Ledger {
-            rooms: Vec::new(alloc),
+        Ok(Ledger {
+            rooms: Rooms::new(alloc)?,
             agenda: Agenda::new(alloc),
-            spare: 0,
-        }
+        })
     }
 
     /// Takes the memory of at least so many more rooms and entries.
     ///
     /// # Errors
     ///
-    /// `NoMemory` where memory is wanting. Then nothing has changed.
+    /// `NoMemory` where memory is wanting. Then the book has not changed, and no memory is lost.
     pub fn reserve(&mut self, rooms: usize, entries: usize) -> Result<(), NoMemory>
         ensures ok { OnOk result (self.new ≡ ledgers.with_spare rooms entries self.old) }
-        ensures err { OnErr result (self.new ≡ self.old) }
+        ensures book { self.new.book ≡ self.old.book }
+        ensures rooms { self.old.spare_rooms ≤ self.new.spare_rooms }
+        ensures entries { self.old.spare_entries ≤ self.new.spare_entries }
     {
-        let spare = self.spare.max(rooms);
-        self.rooms.reserve(spare)?;
-        self.agenda.reserve(entries)?;
-        self.spare = spare;
-        Ok(())
+        self.rooms.reserve(rooms)?;
+        self.agenda.reserve(entries)
     }
 
-    /// The rooms, in the order of their taking.
-    pub fn rooms(&self) -> &[Room]
-        ensures { result.now ≡ self.now.book.rooms }
+    /// How many rooms there are.
+    pub fn count(&self) -> usize
+        ensures { result ≡ length self.now.book.rooms }
     {
-        &self.rooms
+        self.rooms.count()
+    }
+
+    /// The room of the base block of a point whose unlinking wasn't asked for.
+    pub fn find_base(&self, point: u64) -> Option<Room>
+        ensures { result ≡ find (books.is_base_of point) self.now.book.rooms }
+    {
+        self.rooms.find_base(point)
+    }
+
+    /// Whether a mini block of an instrument has a room.
+    pub fn has_room_of(&self, owner: u64) -> bool
+        ensures { result ≡ list_any (is_mini_room_of owner) self.now.book.rooms }
+    {
+        self.rooms.has_mini_of(owner)
+    }
+
+    /// The sites of an instrument, by its rooms. `sites` gives the memory.
+    pub fn sites_of(&self, sites: Vec<PlacedSite>, owner: u64) -> Vec<PlacedSite>
+        requires empty { sites.items ≡ [] }
+        requires room { length (placements.sites_of owner self.now.book.rooms) ≤ vec_capacity sites }
+        ensures { result.items ≡ placements.sites_of owner self.now.book.rooms }
+    {
+        self.rooms.sites_of(sites, owner)
     }
 
     /// How many entries the agenda has.
@@ -82,14 +110,18 @@ impl Ledger {
         self.agenda.len()
     }
 
-    /// Keeps so many rooms and entries from the front, and no others.
-    pub fn truncate(&mut self, rooms: usize, entries: usize)
+    /// Keeps so many rooms and entries from the front, and no others: the other rooms are given back.
+    pub fn truncate(&mut self, words: &mut Space, rooms: usize, entries: usize)
+        requires tied { (program : Words) × AreRoomsOf program words.old self.old.book.rooms }
+        requires within { rooms ≤ length self.old.book.rooms }
         ensures rooms { self.new.book.rooms ≡ take rooms self.old.book.rooms }
         ensures agenda { self.new.book.agenda ≡ take entries self.old.book.agenda }
         ensures spare { self.new.spare_rooms ≡ self.old.spare_rooms }
         ensures entries { self.new.spare_entries ≡ self.old.spare_entries }
+        ensures tied { (program : Words) → AreRoomsOf program words.old self.old.book.rooms → AreRoomsOf program words.new self.new.book.rooms }
+        ensures takes { words.new.takes ≡ words.old.takes }
     {
-        self.rooms.truncate(rooms);
+        give_behind(words, &mut self.rooms, rooms);
         self.agenda.truncate(entries);
     }
 
@@ -102,19 +134,21 @@ impl Ledger {
     {
         let entry = self.agenda.take_first()?;
         if let Entry::UnlinkMini { at, .. } | Entry::UnlinkPoint { at, .. } = &entry {
-            unlink(&mut self.rooms, *at);
+            self.rooms.unlink(*at);
         }
         Some(entry)
     }
 
-    /// Gives back the rooms of the unlinked blocks of a point.
-    pub fn free(&mut self, point: u64)
-        ensures rooms { self.new.book.rooms ≡ filter (books.stays point) self.old.book.rooms }
+    /// Takes out the first room of a point whose block was unlinked.
+    pub fn take_unlinked(&mut self, point: u64) -> Option<Room>
+        ensures none { IfNone result (AllStay point self.old.book.rooms) }
+        ensures same { IfNone result (self.new ≡ self.old) }
+        ensures taken { IfSome result (λ room. IsTakenOut point room self.old.book.rooms self.new.book.rooms) }
         ensures agenda { self.new.book.agenda ≡ self.old.book.agenda }
         ensures spare { self.new.spare_rooms ≡ self.old.spare_rooms }
         ensures entries { self.new.spare_entries ≡ self.old.spare_entries }
     {
-        free(&mut self.rooms, point);
+        self.rooms.take_unlinked(point)
     }
 
     /// Takes out the first Free before which no unlinking of its point stands, and answers its point.
@@ -139,26 +173,6 @@ impl Ledger {
         self.agenda.push(Entry::Free { point });
     }
 
-    /// Drops the site whose mini block has this room: it is unlinked, with its point where no other mini block is held there,
-    /// and the point is freed.
-    pub fn drop_site(&mut self, room: Room)
-        requires { 3 ≤ self.old.spare_entries }
-        ensures book { self.new.book ≡ books.without_site room self.old.book }
-        ensures spare { self.new.spare_rooms ≡ self.old.spare_rooms }
-        ensures entries { self.old.spare_entries ≤ self.new.spare_entries + 3 }
-    {
-        let Room { point, at, .. } = room;
-        leave_mini(&mut self.rooms, at);
-        self.agenda.push(Entry::UnlinkMini { point, at });
-        if find_mini(&self.rooms, point).is_none() {
-            if let Some(base) = find_base(&self.rooms, point) {
-                self.agenda.push(Entry::UnlinkPoint { point, at: base.at });
-            }
-            leave_base(&mut self.rooms, point);
-        }
-        self.agenda.push(Entry::Free { point });
-    }
-
     /// Drops the sites of an instrument, in the order of their placing.
     pub fn drop_sites(&mut self, owner: u64)
         requires distinct { AreDistinct self.old.book.rooms }
@@ -168,12 +182,7 @@ impl Ledger {
         ensures spare { self.new.spare_rooms ≡ self.old.spare_rooms }
         ensures entries { self.old.spare_entries + for_drops self.new.book.rooms ≤ self.new.spare_entries + for_drops self.old.book.rooms }
     {
-        for place in 0..self.rooms().len() {
-            let room = self.rooms()[place];
-            if room.is_site_of(owner) {
-                self.drop_site(room);
-            }
-        }
+        drop_sites(&mut self.rooms, &mut self.agenda, owner);
     }
 
     /// Takes a room behind the others.
@@ -184,8 +193,7 @@ impl Ledger {
         ensures spare { self.new.spare_rooms + 1 ≡ self.old.spare_rooms }
         ensures entries { self.new.spare_entries ≡ self.old.spare_entries }
     {
-        self.rooms.push_reserved(room);
-        self.spare -= 1;
+        self.rooms.push(room);
     }
 
     /// Places the mini block of a site of an instrument.

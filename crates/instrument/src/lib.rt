@@ -3,10 +3,10 @@
 
 mod admission;
 mod agenda;
-mod bases;
 mod blocks;
 mod buffers;
 mod costs;
+mod dropping;
 mod entry;
 mod event;
 mod finding;
@@ -24,7 +24,10 @@ mod placer;
 mod placing;
 mod program;
 mod room;
-mod rooms;
+mod room_changes;
+mod room_index;
+mod room_list;
+mod room_search;
 mod roster;
 mod site_memory;
 mod slots;

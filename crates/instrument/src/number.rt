@@ -1,5 +1,4 @@
 ghost use Rattle.std.specs.Prelude.{◌≡◌};
-ghost use Rattle.instrument.specs.Listed.{is_gone, marked_by};
 ghost use Rattle.instrument.specs.Placements as placements;
 
 /// The number of an instrument, among all that were admitted.
@@ -28,26 +27,6 @@ impl State {
         ensures { result ≡ placements.is_leaving self }
     {
         matches!(self, State::Leaving | State::Gone)
-    }
-
-    /// Nothing of it is left.
-    pub(crate) fn is_gone(self) -> bool
-        ensures { result ≡ is_gone self }
-    {
-        matches!(self, State::Gone)
-    }
-
-    /// Where it was dropped, it is gone unless it has a room.
-    pub(crate) fn marked(self, has_room: bool) -> State
-        ensures { result ≡ marked_by has_room self }
-    {
-        if !self.is_leaving() {
-            self
-        } else if has_room {
-            State::Leaving
-        } else {
-            State::Gone
-        }
     }
 }
 

@@ -21,6 +21,7 @@ use crate::costs::slot_count;
 use crate::event::Event;
 use crate::kit::Kit;
 use crate::kits::{kits_for, sites_in, take_kit};
+use crate::leaving::{free, settle};
 use crate::memory::{kit_for, take_memory};
 use crate::number::{InstrumentNo, Refused, State};
 use crate::roster::Roster;
@@ -120,7 +121,7 @@ impl Placer {
     {
         self.text.drop_sites(number.n);
         self.roster.set_state(number, State::Leaving);
-        self.roster.settle(self.text.rooms());
+        settle(&self.text, &mut self.roster, number);
     }
 
     /// How many entries the agenda has.
@@ -173,8 +174,7 @@ impl Placer {
         ensures entries { self.old.entries ≤ self.new.entries }
         ensures ready { self.new.ready ≡ self.old.ready }
     {
-        self.text.free(point);
-        self.roster.settle(self.text.rooms());
+        free(&mut self.text, &mut self.roster, point);
     }
 
     /// Takes the memory, and keeps the numbers, for the admission of each of these plans, which are ready then. What was kept for

@@ -1,16 +1,13 @@
 //! A site is placed: its blocks get the lowest rooms.
 
-ghost use Rattle.std.specs.Prelude.{◌≡◌, ◌+◌, ◌*◌, ◌<◌, ◌≤◌, ◌^◌, [], IfErr, IfNone, IfSome, OnOk, Ok, Err, find, length, vec_capacity};
-ghost use Rattle.std.specs.Option.{is_some};
+ghost use Rattle.std.specs.Prelude.{◌≡◌, ◌+◌, ◌*◌, ◌<◌, ◌≤◌, ◌^◌, [], IfErr, IfNone, IfSome, OnOk, Ok, Err, length, vec_capacity};
 ghost use Rattle.prim_code.specs.Counts.{word_count};
 ghost use Rattle.prim_code.specs.Named.{AreBelow};
 ghost use Rattle.rv_word.specs.Plain.{Words, program_word};
 ghost use Rattle.tramp_spec.specs.Statements.{body_of};
 ghost use Rattle.instrument.specs.Admission as table;
-ghost use Rattle.instrument.specs.Books.{is_base_of};
 ghost use Rattle.instrument.specs.Spaces.{AreRoomsOf, HasNoRoom, IsRoomTaken};
 
-use crate::bases::has_base;
 use crate::blocks::{build_mini, move_base};
 use crate::buffers::Buffers;
 use crate::costs::base_len;
@@ -125,7 +122,7 @@ fn place_based(
     }
 }
 
-/// Places a site of an instrument: a base block too, where its point has none, which `mark` may tell. `buffers` give the memory.
+/// Places a site of an instrument: a base block too, where its point has none. `buffers` give the memory.
 ///
 /// # Errors
 ///
@@ -137,7 +134,6 @@ pub fn place_site(
     owner: u64,
     slots: &[u32],
     site: &Site,
-    mark: Option<bool>,
     buffers: Buffers,
 ) -> Result<(), Refused>
     requires tied { AreRoomsOf program.now words.old ledger.old.book.rooms }
@@ -147,7 +143,6 @@ pub fn place_site(
     requires low { words.old.end < 2 ^ 60 }
     requires named { AreBelow (length slots.now) site.now.stmts }
     requires count { word_count site.now.stmts + 1 < 2 ^ 32 }
-    requires mark { IfSome mark (λ based. based ≡ is_some (find (is_base_of site.now.at) ledger.old.book.rooms)) }
     requires buffers { buffers ≡ word_count site.now.stmts + 1 }
     ensures ok { OnOk result (table.with_site program.now owner slots.now site.now ledger.old.book ≡ Ok ledger.new.book) }
     ensures refused { IfErr result (λ refused. table.with_site program.now owner slots.now site.now ledger.old.book ≡ Err refused) }
@@ -159,7 +154,7 @@ pub fn place_site(
     ensures end { words.new.end ≡ words.old.end }
 {
     let Buffers { base, mini, .. } = buffers;
-    if has_base(mark, ledger.rooms(), site.at) {
+    if ledger.find_base(site.at).is_some() {
         return place_mini(ledger, words, owner, slots, site, None, mini);
     }
     place_based(program, ledger, words, owner, slots, site, base, mini)

@@ -110,6 +110,13 @@ impl Room {
         !self.base && self.owner == owner && self.hold.is_held()
     }
 
+    /// It is that of a mini block of an instrument.
+    pub fn is_mini_room_of(&self, owner: u64) -> bool
+        ensures { result ≡ placements.is_mini_room_of owner self.now }
+    {
+        !self.base && self.owner == owner
+    }
+
     /// It stays where the point is freed.
     pub fn stays(&self, point: u64) -> bool
         ensures { result ≡ books.stays point self.now }

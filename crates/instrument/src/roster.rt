@@ -1,35 +1,25 @@
 //! The instruments that aren't gone, by number.
 
-ghost use Rattle.std.specs.Prelude.{◌≡◌, ◌+◌, ◌*◌, ◌==◌, ◌<◌, ◌≤◌, ◌^◌, ◌++◌, ◌∷◌, [], false, true, IfOk, IfSome, OnErr, OnOk, None, Some, filter, find, flat_map, length, map, vec_capacity, vec_len};
+ghost use Rattle.std.specs.Prelude.{◌≡◌, ◌+◌, ◌*◌, ◌==◌, ◌<◌, ◌≤◌, ◌^◌, ◌++◌, ◌∷◌, [], IfOk, IfSome, OnErr, OnOk, None, Some, filter, find, flat_map, length, map};
 ghost use Rattle.std.specs.Option.{option_copied, option_map};
 ghost use Rattle.tramp_spec.specs.Slots.{places_of};
 ghost use Rattle.instrument.specs.Admission.{slot_count};
 ghost use Rattle.instrument.specs.Fits.{slots_for};
-ghost use Rattle.instrument.specs.Listed.{AreNumberedBelow, is_gone, is_there};
+ghost use Rattle.instrument.specs.Freed.{is_kept};
+ghost use Rattle.instrument.specs.Listed.{AreNumberedBelow};
 ghost use Rattle.instrument.specs.Placements as placements;
 ghost use Rattle.instrument.specs.Rosters as rosters;
 ghost use Rattle.instrument.specs.Spaces.{IsRow, slots_of};
 
 use crate::costs::{self, takes_for};
-use crate::finding::{find_instrument, set_state};
+use crate::finding::{find_instrument, place_of_dropped, set_state};
 use crate::instrument::Instrument;
-use crate::leaving::mark_gone;
 use crate::number::{InstrumentNo, State};
-use crate::room::Room;
-use crate::slots::give_gone;
+use crate::slots::give_slots;
 use pn_types::{BANK_LEN, FIRST_SLOT, NoMemory, Placed};
 use std::alloc::{AllocError, Global};
 use std::marker::Model;
 use tool_space::Space;
-
-/// Leaves out the instruments that are marked as gone.
-fn keep_here(instruments: &mut Vec<Instrument>)
-    ensures instruments { instruments.new.items ≡ filter is_there instruments.old.items }
-    ensures no_more { vec_len instruments.new ≤ vec_len instruments.old }
-    ensures capacity { vec_capacity instruments.new ≡ vec_capacity instruments.old }
-{
-    instruments.retain(|instrument| !instrument.state.is_gone());
-}
 
 /// The instruments that aren't gone, and the slots beside theirs.
 #[derive(Drop)]
@@ -100,19 +90,19 @@ impl Roster {
 
     /// The instrument of a number is in a state from now on.
     pub fn set_state(&mut self, number: InstrumentNo, state: State)
-        requires { is_gone state ≡ false }
         ensures { self.new ≡ record self.old { instruments = map (placements.with_state number.n state) self.old.instruments } }
     {
         set_state(&mut self.instruments, number, state);
     }
 
-    /// Leaves out the instruments that are gone, and gives back their slots. `rooms` are the rooms of all blocks.
-    pub fn settle(&mut self, rooms: &[Room])
-        ensures { self.new ≡ record self.old { instruments = filter (placements.is_here rooms.now) self.old.instruments } }
+    /// An instrument that was dropped is gone: its slots are given back. One that wasn't dropped stays.
+    pub fn let_go(&mut self, number: InstrumentNo)
+        ensures { self.new ≡ record self.old { instruments = filter (is_kept number.n) self.old.instruments } }
     {
-        mark_gone(&mut self.instruments, rooms);
-        give_gone(&mut self.slots, &self.instruments);
-        keep_here(&mut self.instruments);
+        if let Some(place) = place_of_dropped(&self.instruments, number) {
+            give_slots(&mut self.slots, &self.instruments[place].placed);
+            self.instruments.remove(place);
+        }
     }
 
     /// Takes the memory that so many more instruments need, and the taking of their slots.
@@ -159,7 +149,6 @@ impl Roster {
         requires takes { 0 < self.old.takes }
         requires few { slot_count instrument.placed.vars < 2 ^ 32 }
         requires row { IsRow instrument }
-        requires there { is_there instrument ≡ true }
         requires number { AreNumberedBelow instrument.no self.old.instruments }
         requires free { slots_for (flat_map (λ i. places_of i.placed) self.old.instruments) (slot_count instrument.placed.vars) ≡ Some (slots_of instrument).at }
         ensures instruments { self.new.instruments ≡ self.old.instruments ++ instrument ∷ [] }

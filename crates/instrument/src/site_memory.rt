@@ -33,29 +33,25 @@ fn buffers_for(alloc: Global, sites: &[Site]) -> Result<VecDeque<Buffers>, NoMem
     Ok(buffers)
 }
 
-/// The memory that the placing of sites needs: for the words of each one's blocks, for a mark of each, and for what is answered.
+/// The memory that the placing of sites needs: for the words of each one's blocks, and for what is answered.
 /// Contracts see how many words the mini block of each site has.
 #[derive(Drop)]
 pub struct SiteMemory {
     /// The memory of each site's blocks, in order.
     pub buffers: VecDeque<Buffers>,
-    /// No marks, and room for one of each site.
-    pub marks: VecDeque<bool>,
     /// No sites, and room for as many.
     pub placed: Vec<PlacedSite>,
 }
 
 impl Model for SiteMemory {
     ghost use Rattle.std.specs.Prelude.{◌≡◌, ◌≤◌, List, [], ℕ, length, vec_capacity};
-    ghost use Rattle.std.specs.VecDeque.{deque_capacity};
 
     ghost Value = { List ℕ };
 
     ghost view = { λ m. m.buffers.items };
 
     ghost invariant = { λ m.
-        (m.marks.items ≡ []) × (length m.buffers.items ≤ deque_capacity m.marks)
-        × (m.placed.items ≡ []) × (length m.buffers.items ≤ vec_capacity m.placed) };
+        (m.placed.items ≡ []) × (length m.buffers.items ≤ vec_capacity m.placed) };
 }
 
 impl SiteMemory {
@@ -70,7 +66,6 @@ impl SiteMemory {
     {
         Ok(SiteMemory {
             buffers: buffers_for(alloc, sites)?,
-            marks: VecDeque::with_capacity(alloc, sites.len())?,
             placed: Vec::with_capacity(alloc, sites.len())?,
         })
     }

@@ -1,12 +1,11 @@
 //! The slots of instruments.
 
-ghost use Rattle.std.specs.Prelude.{◌≡◌, ◌+◌, ◌^◌, ◌<◌, ◌≤◌, [], IfOk, filter, length, nat_lt, vec_capacity, if◌then◌else◌};
+ghost use Rattle.std.specs.Prelude.{◌≡◌, ◌+◌, ◌^◌, ◌<◌, ◌≤◌, [], IfOk, length, nat_lt, vec_capacity, if◌then◌else◌};
 ghost use Rattle.tool_space.specs.Rooms.{IsTaken, after_give};
 ghost use Rattle.tramp_spec.specs.Banks.{first_slot};
 ghost use Rattle.instrument.specs.Admission as table;
 ghost use Rattle.instrument.specs.Admission.{slot_count};
-ghost use Rattle.instrument.specs.Listed.{is_there};
-ghost use Rattle.instrument.specs.Spaces.{AreSlotsOf, first_or, slots_of_placed};
+ghost use Rattle.instrument.specs.Spaces.{first_or, slots_of_placed};
 
 use crate::costs::slot_count;
 use crate::instrument::Instrument;
@@ -25,7 +24,7 @@ fn first_slot_of(placed: &Placed) -> u32
 }
 
 /// Gives back the slots of an instrument, if it has any.
-fn give_slots(slots: &mut Space, placed: &Placed)
+pub fn give_slots(slots: &mut Space, placed: &Placed)
     requires few { slot_count placed.now.vars < 2 ^ 32 }
     requires reserved { 0 < slot_count placed.now.vars → 0 < slots.old.gives }
     requires taken { 0 < slot_count placed.now.vars → IsTaken slots.old (slots_of_placed placed.now).at (slots_of_placed placed.now).len }
@@ -34,19 +33,6 @@ fn give_slots(slots: &mut Space, placed: &Placed)
     let count = slot_count(placed.vars.as_slice());
     if count > 0 {
         slots.give(u64::from(first_slot_of(placed)), count);
-    }
-}
-
-/// Gives back the slots of the instruments that are marked as gone.
-pub fn give_gone(slots: &mut Space, instruments: &[Instrument])
-    requires { AreSlotsOf slots.old instruments.now }
-    ensures slots { AreSlotsOf slots.new (filter is_there instruments.now) }
-    ensures takes { slots.new.takes ≡ slots.old.takes }
-{
-    for instrument in instruments {
-        if instrument.state.is_gone() {
-            give_slots(slots, &instrument.placed);
-        }
     }
 }
 

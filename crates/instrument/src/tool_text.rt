@@ -1,30 +1,28 @@
 //! The blocks of the tool text: their rooms, and what is to be done for them.
 
-ghost use Rattle.std.specs.Prelude.{◌≡◌, ◌+◌, ◌*◌, ◌<◌, ◌≤◌, ◌++◌, ◌∷◌, [], ◌^◌, Ok, Err, IfErr, IfOk, IfSome, OnOk, filter, length, map, take};
+ghost use Rattle.std.specs.Prelude.{◌≡◌, ◌+◌, ◌*◌, ◌<◌, ◌≤◌, ◌++◌, ◌∷◌, [], ◌^◌, Ok, Err, IfErr, IfNone, IfOk, IfSome, OnOk, filter, length, map, take};
+ghost use Rattle.std.specs.List.{list_any};
 ghost use Rattle.pn_types.specs.Images.{IsImage};
 ghost use Rattle.pn_types.specs.declared.plan.Site.{Site};
 ghost use Rattle.prim_code.specs.Counts.{site_words, word_count};
 ghost use Rattle.prim_code.specs.Named.{AreBelow};
 ghost use Rattle.machine.specs.Cores.{In};
 ghost use Rattle.instrument.specs.Admission as table;
-ghost use Rattle.instrument.specs.Bases.{AreMarks, has_base};
+ghost use Rattle.instrument.specs.Freed.{AllStay, IsTakenOut};
 ghost use Rattle.instrument.specs.Books as books;
-ghost use Rattle.instrument.specs.Placements.{agenda_in, behind_first, first_of, is_site_of, point_in, sites_of, without_sites};
+ghost use Rattle.instrument.specs.Placements.{agenda_in, behind_first, first_of, is_mini_room_of, is_site_of, point_in, sites_of, without_sites};
 ghost use Rattle.instrument.specs.ToolTexts as texts;
 ghost use Rattle.instrument.specs.ToolTexts.{IsGrown};
 ghost use Rattle.instrument.specs.declared.entry.Entry.TheVariants.{Free};
 
-use crate::bases::marks_for;
 use crate::buffers::Buffers;
 use crate::costs::{entries_for, takes_for};
 use crate::entry::Entry;
-use crate::giving::{give_behind, give_rooms};
 use crate::ledger::Ledger;
 use crate::number::Refused;
 use crate::placing::place_site;
 use crate::program::Program;
 use crate::room::Room;
-use crate::rooms::sites_of;
 use crate::site_memory::SiteMemory;
 use pn_types::{Image, NoMemory, PlacedSite, SEGMENTS_TO, Site, TOOL_TEXT_LEN};
 use std::alloc::{AllocError, Global};
@@ -63,18 +61,19 @@ impl ToolText {
     {
         let program = Program::new(alloc, image)?;
         let words = Space::new(alloc, program.tool_at() / 4, (TOOL_TEXT_LEN / 4) as u32)?;
+        let ledger = Ledger::new(alloc)?;
         Ok(ToolText {
             program,
-            ledger: Ledger::new(alloc),
+            ledger,
             words,
         })
     }
 
-    /// The rooms, in the order of their taking.
-    pub fn rooms(&self) -> &[Room]
-        ensures { result.now ≡ self.now.book.rooms }
+    /// Whether a mini block of an instrument has a room.
+    pub fn has_room_of(&self, owner: u64) -> bool
+        ensures { result ≡ list_any (is_mini_room_of owner) self.now.book.rooms }
     {
-        self.ledger.rooms()
+        self.ledger.has_room_of(owner)
     }
 
     /// How many entries the agenda has.
@@ -122,16 +121,20 @@ impl ToolText {
         self.ledger.put_back(point);
     }
 
-    /// Gives back the rooms of the unlinked blocks of a point.
-    pub fn free(&mut self, point: u64)
+    /// Gives back the first room of a point whose block was unlinked, and answers it.
+    pub fn take_unlinked(&mut self, point: u64) -> Option<Room>
+        ensures none { IfNone result (AllStay point self.old.book.rooms) }
+        ensures same { IfNone result (self.new ≡ self.old) }
+        ensures taken { IfSome result (λ room. IsTakenOut point room self.old.book.rooms self.new.book.rooms) }
         ensures program { self.new.program ≡ self.old.program }
-        ensures book { self.new.book ≡ record { rooms = filter (books.stays point) self.old.book.rooms; agenda = self.old.book.agenda } }
+        ensures agenda { self.new.book.agenda ≡ self.old.book.agenda }
         ensures spare { self.new.spare_rooms ≡ self.old.spare_rooms }
         ensures takes { self.new.takes ≡ self.old.takes }
         ensures entries { self.old.entries ≤ self.new.entries }
     {
-        give_rooms(&mut self.words, self.ledger.rooms(), point);
-        self.ledger.free(point);
+        let room = self.ledger.take_unlinked(point)?;
+        self.words.give(room.at / 4, room.len);
+        Some(room)
     }
 
     /// Drops the sites of an instrument, in the order of their placing.
@@ -163,7 +166,7 @@ impl ToolText {
         let Some(takes) = takes_for(sites) else {
             return Err(AllocError);
         };
-        let Some(entries) = entries_for(self.ledger.rooms(), sites) else {
+        let Some(entries) = entries_for(self.ledger.count(), sites) else {
             return Err(AllocError);
         };
         // A site has two rooms at most, and each is one take.
@@ -171,14 +174,12 @@ impl ToolText {
         self.words.reserve(takes)
     }
 
-    /// Places a site of an instrument, for which memory was reserved. `mark` may tell whether its point has a base block. `buffers`
-    /// give the memory of its blocks' words.
+    /// Places a site of an instrument, for which memory was reserved. `buffers` give the memory of its blocks' words.
     fn place_site(
         &mut self,
         owner: u64,
         slots: &[u32],
         site: &Site,
-        mark: Option<bool>,
         buffers: Buffers,
     ) -> Result<(), Refused>
         requires rooms { 2 ≤ self.old.spare_rooms }
@@ -186,7 +187,6 @@ impl ToolText {
         requires entries { 7 ≤ self.old.entries }
         requires named { AreBelow (length slots.now) site.now.stmts }
         requires count { word_count site.now.stmts + 1 < 2 ^ 32 }
-        requires mark { IfSome mark (λ based. based ≡ has_base self.old.book.rooms site.now) }
         requires buffers { buffers ≡ word_count site.now.stmts + 1 }
         ensures ok { OnOk result (table.with_site self.old.program owner slots.now site.now self.old.book ≡ Ok self.new.book) }
         ensures refused { IfErr result (λ refused. table.with_site self.old.program owner slots.now site.now self.old.book ≡ Err refused) }
@@ -204,7 +204,6 @@ impl ToolText {
             owner,
             slots,
             site,
-            mark,
             buffers,
         )
     }
@@ -215,7 +214,6 @@ impl ToolText {
         owner: u64,
         slots: &[u32],
         sites: &[Site],
-        marks: &mut VecDeque<bool>,
         buffers: &mut VecDeque<Buffers>,
     ) -> Result<(), Refused>
         requires rooms { 2 * length sites.now ≤ self.old.spare_rooms }
@@ -223,7 +221,6 @@ impl ToolText {
         requires entries { 7 * length sites.now ≤ self.old.entries }
         requires named { (s : Site) → In s sites.now → AreBelow (length slots.now) s.stmts }
         requires count { (s : Site) → In s sites.now → word_count s.stmts + 1 < 2 ^ 32 }
-        requires marks { AreMarks self.old.book.rooms sites.now marks.old.items }
         requires buffers { buffers.old.items ≡ map site_words sites.now }
         ensures ok { OnOk result (table.with_sites self.old.program owner slots.now sites.now self.old.book ≡ Ok self.new.book) }
         ensures refused { IfErr result (λ refused. table.with_sites self.old.program owner slots.now sites.now self.old.book ≡ Err refused) }
@@ -237,7 +234,7 @@ impl ToolText {
             let Some(buffers) = buffers.pop_front() else {
                 unreachable!();
             };
-            self.place_site(owner, slots, site, marks.pop_front(), buffers)?;
+            self.place_site(owner, slots, site, buffers)?;
         }
         Ok(())
     }
@@ -251,8 +248,7 @@ impl ToolText {
         ensures takes { self.new.takes ≡ self.old.takes }
         ensures entries { self.old.entries ≤ self.new.entries }
     {
-        give_behind(&mut self.words, self.ledger.rooms(), rooms);
-        self.ledger.truncate(rooms, entries);
+        self.ledger.truncate(&mut self.words, rooms, entries);
     }
 
     /// Places the sites of an instrument, for which memory was reserved, and answers them. `memory` is their own.
@@ -283,19 +279,14 @@ impl ToolText {
         ensures takes_left { self.old.takes ≤ self.new.takes + 2 * length sites.now }
         ensures entries_left { self.old.entries ≤ self.new.entries + 7 * length sites.now }
     {
-        let rooms = self.ledger.rooms().len();
+        let rooms = self.ledger.count();
         let entries = self.ledger.entries();
-        let SiteMemory {
-            buffers,
-            marks,
-            placed,
-        } = memory;
+        let SiteMemory { buffers, placed } = memory;
         let mut buffers = buffers;
-        let mut marks = marks_for(marks, self.ledger.rooms(), sites);
-        if let Err(refused) = self.place_each(owner, slots, sites, &mut marks, &mut buffers) {
+        if let Err(refused) = self.place_each(owner, slots, sites, &mut buffers) {
             self.truncate(rooms, entries);
             return Err(refused);
         }
-        Ok(sites_of(placed, self.ledger.rooms(), owner))
+        Ok(self.ledger.sites_of(placed, owner))
     }
 }

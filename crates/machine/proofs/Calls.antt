@@ -11,14 +11,15 @@ use Rattle.code_store.specs.Stores.{IsInToolText, StoredCode}
 use Rattle.machine.specs.Cores.{In, Row, Status, Live, Core}
 use Rattle.machine.specs.Effects.{after, is_kept, with_status}
 use Rattle.machine.specs.Effects as effects
-use Rattle.machine.specs.Events.{Event, Free, HasMini, May, MayWrite, Write, is_before}
+use Rattle.machine.specs.Events.{Event, Free, HasMini, May, MayWrite, Write, current_base, is_before}
 use Rattle.machine.specs.Links.{HasLink, owners_left}
 use Rattle.machine.specs.Reached.{AreOwners, IsReached, owner_by}
 use Rattle.machine.specs.Views.{BlockList, IsSound, core_of}
+use Rattle.machine.proofs.BlockLooks.{base_own, is_base_of}
 use Rattle.machine.proofs.Lists.{find_gives}
 use Rattle.machine.proofs.Owning.{has_word, owners_freed, owners_more, owners_same, word_holds}
 use Rattle.machine.proofs.Unlink.{before_of}
-use Rattle.machine.proofs.Reaching.{good, links, one_row, reaches_more, within}
+use Rattle.machine.proofs.Reaching.{good, links, one_at, one_row, reaches_more, within}
 
 module _ (harts : List Hart) (prog : Prog) (store : StoredCode) (blocks : BlockList) (budget : ℕ) (k : IsSound harts prog store blocks.rows budget) where
   abbrev core : Core
@@ -34,6 +35,18 @@ module _ (harts : List Hart) (prog : Prog) (store : StoredCode) (blocks : BlockL
   -- what leads to a live mini block is of its point
   pub before_own : (p m : ℕ) → HasMini core p m Live → (r : Row) → In r blocks.rows → is_before store.code m r ≡ true → r.point ≡ p
   before_own p m h r hr e = let v = good core k.reached in before_of core v.0 v.1 m h.row h.listed h.mini h.at h.is r hr e ∙ h.point
+
+  -- blocks that begin at one address are one
+  pub all_apart : (x y : Row) → In x blocks.rows → In y blocks.rows → x.at ≡ y.at → x ≡ y
+  all_apart x y hx hy e = one_at core k.reached x y hx hy e
+
+  -- what begins where a mini block does is of its point
+  pub own_mini : (p m : ℕ) (status : Status) → HasMini core p m status → (r : Row) → In r blocks.rows → r.at ≡ m → r.point ≡ p
+  own_mini p m status h r hr e = ap (λ (x : Row). x.point) (all_apart r h.row hr h.listed (e ∙ sym h.at)) ∙ h.point
+
+  -- so is what begins where a base block does
+  pub own_base : (p : ℕ) (base : Row) → current_base blocks.rows p ≡ Some base → (r : Row) → In r blocks.rows → r.at ≡ base.at → r.point ≡ p
+  own_base p base h r hr e = let g = find_gives (is_base_of p) blocks.rows base h in ap (λ (x : Row). x.point) (all_apart r base hr g.0 e) ∙ base_own p base g.1
 
   pub all_within : (r : Row) → In r blocks.rows → IsInToolText store.program r.at r.len
   all_within r h = within core k.reached r h

@@ -50,6 +50,9 @@ pub mod ThreeTurns
 pub mod ThreeCounters
 pub mod HartInside
 pub mod BlockLists
+pub mod BlockLooks
+pub mod BlockWalks
+pub mod BlockFrees
 pub mod Reaching
 pub mod Owning
 pub mod Calls

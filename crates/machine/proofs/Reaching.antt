@@ -17,7 +17,7 @@ use Rattle.machine.specs.Reached.{IsReached}
 use Rattle.machine.specs.Replays.{replay, Legal, owns}
 use Rattle.machine.proofs.Beginning.{begins}
 use Rattle.machine.proofs.Blocks.{link_in}
-use Rattle.machine.proofs.Homes.{covered, one_place, piece_of}
+use Rattle.machine.proofs.Homes.{covered, one_block, one_place, piece_of}
 use Rattle.machine.proofs.Invariant.{Piece, the_row, Inv}
 use Rattle.machine.proofs.Replaying.{legal-append, replay-append}
 use Rattle.machine.proofs.Steps.{all_events, fixed}
@@ -57,6 +57,14 @@ one_row c s v x y a hx hy ex ey = by (piece_of c.program c.code c.rows v.ps v.cl
         let lo' = subst (λ (r : Row). r.at ≤ a) q.2 w.0 in
         let hi' = subst (λ (r : Row). a < r.at + 4 * r.len) q.2 w.1 in
         p.2 ∙ (ap the_row (one_place c.program c.code c.rows v.ps v.clock v.static p.0 q.0 a p.1 q.1 lo hi lo' hi') ∙ sym q.2)
+
+-- so are blocks that begin at one address
+pub one_at : (c : Core) → IsReached c → (x y : Row) → In x c.rows → In y c.rows → x.at ≡ y.at → x ≡ y
+one_at c k x y hx hy e =
+    let v = (good c k).1 in
+    let p = piece_of c.program c.code c.rows v.ps v.clock v.static x hx in
+    let q = piece_of c.program c.code c.rows v.ps v.clock v.static y hy in
+    p.2 ∙ (ap the_row (one_block c.program c.code c.rows v.ps v.clock v.static p.0 q.0 p.1 q.1 (sym (ap (λ (r : Row). r.at) p.2) ∙ (e ∙ ap (λ (r : Row). r.at) q.2))) ∙ sym q.2)
 
 tool_word : (t : Words) (at len a n : ℕ) → at % 4 ≡ 0 → tool_at t ≤ at → at + 4 * len ≤ tool_at t + TOOL_TEXT_LEN → a ≡ at + 4 * n → a + 4 ≤ at + 4 * len → is_tool_word t a ≡ true
 tool_word t at len a n al lo hi e l =

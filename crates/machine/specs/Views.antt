@@ -6,9 +6,9 @@ use Rattle.tramp_spec.specs.Harts.{Hart}
 use Rattle.code_store.specs.Stores.{StoredCode}
 use Rattle.machine.specs.Cores.{Status, Written, Live, Retired, Row, Core}
 use Rattle.machine.specs.Reached.{IsReached, AreOwners}
-use Rattle.machine.specs.declared.block_list.BlockStatus.{BlockStatus}
-use Rattle.machine.specs.declared.block_list.BlockStatus.TheVariants as status
-use Rattle.machine.specs.declared.block_list.BlockRow.{BlockRow}
+use Rattle.machine.specs.declared.block_row.BlockStatus.{BlockStatus}
+use Rattle.machine.specs.declared.block_row.BlockStatus.TheVariants as status
+use Rattle.machine.specs.declared.block_row.BlockRow.{BlockRow}
 
 abbrev pub status_of : BlockStatus → Status
 status_of status.Written = Written

@@ -1,157 +1,94 @@
-ghost use Rattle.std.specs.Prelude.{◌≡◌, ℕ, ◌+◌, ◌-◌, ◌*◌, ◌^◌, ◌<◌, ◌≤◌, ◌&&◌, ◌==◌, not, [], ◌∷◌, ◌++◌, find, filter, map, length, max, IsTrue, OnErr, OnOk, Some};
+ghost use Rattle.std.specs.Prelude.{◌≡◌, ◌+◌, ◌-◌, ◌*◌, ◌^◌, ◌<◌, ◌≤◌, ◌&&◌, ◌==◌, [], ◌∷◌, ◌++◌, find, filter, map, length, max, IfOk, IsTrue, OnErr, OnOk};
 ghost use Rattle.std.specs.Option.{option_map};
 ghost use Rattle.pn_types.specs.declared.limits.TheConstants.{TOOL_TEXT_LEN};
-ghost use Rattle.machine.specs.Cores.{In, Row, is_current};
+ghost use Rattle.bucket_chains.specs.Left.{buckets_of, left};
+ghost use Rattle.machine.specs.Cores.{In, Row};
 ghost use Rattle.machine.specs.Effects.{at_set, is_kept, retired_at, with_status};
-ghost use Rattle.machine.specs.Events.{current_base, is_before, is_linked, link_at, next_of, row_at};
+ghost use Rattle.machine.specs.Events.{current_base, is_before, row_at};
 ghost use Rattle.machine.specs.Links.{HasLink, IsWithin, is_live_mini, owners_left};
 ghost use Rattle.machine.specs.States.{words_in};
 ghost use Rattle.machine.specs.Views.{row_of, status_of};
 
+use crate::block_row::{BlockRow, BlockStatus};
+use bucket_chains::{BUCKETS, Chains};
 use code_store::Store;
 use pn_types::NoMemory;
-use rv_word::jump_target;
 use std::alloc::Global;
 use std::marker::Model;
-
-/// How far a block is.
-#[derive(Clone, Copy, Debug, PartialEq, Eq, Drop)]
-pub enum BlockStatus {
-    /// It can be linked.
-    Written,
-    /// It is linked.
-    Live,
-    /// It was unlinked.
-    Retired,
-}
-
-/// A block that isn't freed.
-#[derive(Clone, Copy, Debug, PartialEq, Eq, Drop)]
-pub struct BlockRow {
-    /// The point for which it stands.
-    pub point: u64,
-    /// The address of its first word.
-    pub at: u64,
-    /// How many words it has.
-    pub len: u32,
-    /// It is a base block, and not a mini block.
-    pub base: bool,
-    pub status: BlockStatus,
-}
 
 /// The blocks that aren't freed, in the order in which they were written. Contracts see the definitions' list of them, and for
 /// how many more there is room.
 #[derive(Drop)]
 pub struct Blocks {
-    rows: Vec<BlockRow>,
+    // By place; none where a block was freed.
+    rows: Vec<Option<BlockRow>>,
+    // The places in the buckets of their blocks' points.
+    places: Chains,
+    // How many places have no block.
+    empty: usize,
     room: usize,
 }
 
 impl Model for Blocks {
-    ghost use Rattle.std.specs.Prelude.{◌+◌, ◌≤◌, length, map, vec_capacity};
+    ghost use Rattle.std.specs.Prelude.{◌≡◌, ◌+◌, ◌≤◌, length, map, vec_capacity};
+    ghost use Rattle.bucket_chains.specs.Left.{buckets_of, left};
     ghost use Rattle.machine.specs.Views.{BlockList, row_of};
 
     ghost Value = { BlockList };
 
-    ghost view = { λ b. record { rows = map row_of b.rows.items; room = b.room } };
+    ghost view = { λ b. record { rows = map row_of (left b.rows.items); room = b.room } };
 
-    ghost invariant = { λ b. length b.rows.items + b.room ≤ vec_capacity b.rows };
-}
-
-impl BlockStatus {
-    /// It isn't retired.
-    fn is_current(self) -> bool
-        ensures { result ≡ is_current (status_of self) }
-    {
-        match self {
-            BlockStatus::Written | BlockStatus::Live => true,
-            BlockStatus::Retired => false,
-        }
-    }
-}
-
-impl BlockRow {
-    /// It leads to other blocks.
-    fn is_linked(&self) -> bool
-        ensures { result ≡ is_linked (row_of self.now) }
-    {
-        match self.status {
-            BlockStatus::Written => self.base,
-            BlockStatus::Live => true,
-            BlockStatus::Retired => false,
-        }
-    }
-
-    /// It stands for the point, and leads to other blocks.
-    fn is_linked_at(&self, point: u64) -> bool
-        ensures { result ≡ ((row_of self.now).point == point) && is_linked (row_of self.now) }
-    {
-        self.point == point && self.is_linked()
-    }
-
-    /// It isn't one of the retired blocks of the point.
-    fn is_kept(&self, point: u64) -> bool
-        ensures { result ≡ is_kept point (row_of self.now) }
-    {
-        self.point != point || self.status.is_current()
-    }
-
-    /// It is a live mini block of the point.
-    fn is_live_mini(&self, point: u64) -> bool
-        ensures { result ≡ is_live_mini point (Some (row_of self.now)) }
-    {
-        !self.base && self.point == point && matches!(self.status, BlockStatus::Live)
-    }
-
-    /// The address of the word that leads to the next block.
-    pub fn link_at(&self) -> u64
-        requires { link_at (row_of self.now) < 2 ^ 64 }
-        ensures { result ≡ link_at (row_of self.now) }
-    {
-        if self.base {
-            self.at + 4
-        } else {
-            self.at + 4 * u64::from(self.len.saturating_sub(1))
-        }
-    }
-
-    /// The address to which that word leads.
-    pub fn next_of(&self, store: &Store) -> u64
-        requires { HasLink store.now.program (row_of self.now) }
-        ensures { result ≡ next_of store.now.code (row_of self.now) }
-    {
-        let at = self.link_at();
-        match store.fetch(at, true) {
-            Some(marked) => jump_target(marked.word, at).unwrap_or(0),
-            None => 0,
-        }
-    }
+    ghost invariant = { λ b.
+        (b.places.buckets ≡ buckets_of (λ r. r.point) b.rows.items)
+        × (b.room ≤ b.places.room)
+        × (length b.rows.items + b.room ≤ vec_capacity b.rows) };
 }
 
 /// How many words the blocks have.
-fn words_of(rows: &[BlockRow]) -> u32
-    requires { 4 * words_in (map row_of rows.now) ≤ TOOL_TEXT_LEN }
-    ensures { result ≡ words_in (map row_of rows.now) }
+fn words_of(rows: &[Option<BlockRow>]) -> u32
+    requires { 4 * words_in (map row_of (left rows.now)) ≤ TOOL_TEXT_LEN }
+    ensures { result ≡ words_in (map row_of (left rows.now)) }
 {
     let mut words = 0;
     for row in rows {
-        words += row.len;
+        if let Some(row) = row {
+            words += row.len;
+        }
     }
     words
 }
 
-impl Blocks {
-    /// No block, and room for none.
-    pub fn new(alloc: Global) -> Blocks
-        ensures { result ≡ record { rows = []; room = 0 } }
-    {
-        Blocks {
-            rows: Vec::new(alloc),
-            room: 0,
+/// Puts the places of blocks into the buckets of their points, behind those that are there.
+fn put_places(rows: &[Option<BlockRow>], places: &mut Chains)
+    requires { length rows.now ≤ places.old.room }
+    ensures { places.new ≡ record { buckets = places.old.buckets ++ buckets_of (λ r. r.point) rows.now; room = places.old.room - length rows.now } }
+{
+    for row in rows {
+        match row {
+            Some(row) => places.push(row.point),
+            None => places.skip(),
         }
     }
+}
 
-    /// Room for so many blocks more, counting the room that there is.
+impl Blocks {
+    /// No block, and room for none.
+    ///
+    /// # Errors
+    ///
+    /// `NoMemory` where memory is wanting.
+    pub fn new(alloc: Global) -> Result<Blocks, NoMemory>
+        ensures { IfOk result (λ blocks. blocks ≡ record { rows = []; room = 0 }) }
+    {
+        Ok(Blocks {
+            rows: Vec::new(alloc),
+            places: Chains::new(alloc)?,
+            empty: 0,
+            room: 0,
+        })
+    }
+
+    /// Room for so many blocks more, counting the room that there is. Only this takes memory.
     ///
     /// # Errors
     ///
@@ -160,18 +97,34 @@ impl Blocks {
         ensures ok { OnOk result (self.new ≡ record self.old { room = max blocks self.old.room }) }
         ensures err { OnErr result (self.new ≡ self.old) }
     {
+        self.compact();
         let room = self.room.max(blocks as usize);
         self.rows.reserve(room)?;
+        self.places.reserve(room)?;
         self.room = room;
         Ok(())
     }
 
-    /// One block more, behind the others. It takes no memory.
+    /// Leaves out the places that have no block, where they are more than half of the places and more than the buckets.
+    fn compact(&mut self)
+        ensures { self.new ≡ self.old }
+    {
+        if self.empty <= self.rows.len() / 2 || self.empty <= BUCKETS as usize {
+            return;
+        }
+        self.rows.retain(|row| row.is_some());
+        self.places.clear();
+        put_places(&self.rows, &mut self.places);
+        self.empty = 0;
+    }
+
+    /// One block more, behind the others.
     pub fn push(&mut self, row: BlockRow)
         requires { 0 < self.old.room }
         ensures { self.new ≡ record { rows = self.old.rows ++ row_of row ∷ []; room = self.old.room - 1 } }
     {
-        self.rows.push_reserved(row);
+        self.rows.push_reserved(Some(row));
+        self.places.push(row.point);
         self.room -= 1;
     }
 
@@ -179,23 +132,48 @@ impl Blocks {
     pub fn current_base(&self, point: u64) -> Option<BlockRow>
         ensures { option_map row_of result ≡ current_base self.now.rows point }
     {
-        self.rows.iter().copied().find(|row| row.base
-            && row.point == point
-            && row.status.is_current())
+        let mut next = self.places.first(point);
+        while let Some(place) = next {
+            if let Some(row) = self.rows[place]
+                && row.is_current_base(point)
+            {
+                return Some(row);
+            }
+            next = self.places.next(place);
+        }
+        None
     }
 
-    /// The block that begins at an address.
-    pub fn row_at(&self, at: u64) -> Option<BlockRow>
+    /// The block of a point that begins at an address.
+    fn row_of_point(&self, point: u64, at: u64) -> Option<BlockRow>
+        ensures { option_map row_of result ≡ find (λ r. (r.point == point) && (r.at == at)) self.now.rows }
+    {
+        let mut next = self.places.first(point);
+        while let Some(place) = next {
+            if let Some(row) = self.rows[place]
+                && row.is_at(point, at)
+            {
+                return Some(row);
+            }
+            next = self.places.next(place);
+        }
+        None
+    }
+
+    /// The block that begins at an address. It must be of the point, if there is one.
+    pub fn row_at(&self, point: u64, at: u64) -> Option<BlockRow>
+        requires { (r : Row) → In r self.now.rows → r.at ≡ at → r.point ≡ point }
         ensures { option_map row_of result ≡ row_at self.now.rows at }
     {
-        self.rows.iter().copied().find(|row| row.at == at)
+        self.row_of_point(point, at)
     }
 
-    /// Whether a live mini block of the point begins at an address.
+    /// Whether a live mini block of the point begins at an address. No two blocks may begin at one address.
     pub fn has_live_mini(&self, point: u64, at: u64) -> bool
+        requires { (r q : Row) → In r self.now.rows → In q self.now.rows → r.at ≡ q.at → r ≡ q }
         ensures { result ≡ is_live_mini point (row_at self.now.rows at) }
     {
-        match self.row_at(at) {
+        match self.row_of_point(point, at) {
             Some(row) => row.is_live_mini(point),
             None => false,
         }
@@ -207,22 +185,31 @@ impl Blocks {
         requires of_point { (r : Row) → In r self.now.rows → IsTrue (is_before store.now.code at r) → r.point ≡ point }
         ensures { option_map row_of result ≡ find (is_before store.now.code at) self.now.rows }
     {
-        for row in &self.rows {
-            if row.is_linked_at(point) && row.next_of(store) == at {
-                return Some(*row);
+        let mut next = self.places.first(point);
+        while let Some(place) = next {
+            if let Some(row) = self.rows[place]
+                && row.is_before(store, point, at)
+            {
+                return Some(row);
             }
+            next = self.places.next(place);
         }
         None
     }
 
-    /// The block at an address has a status from now on.
-    pub fn set_status(&mut self, at: u64, status: BlockStatus)
+    /// The block at an address has a status from now on. It must be of the point, if there is one.
+    pub fn set_status(&mut self, point: u64, at: u64, status: BlockStatus)
+        requires { (r : Row) → In r self.old.rows → r.at ≡ at → r.point ≡ point }
         ensures { self.new ≡ record self.old { rows = map (with_status (at_set at (status_of status))) self.old.rows } }
     {
-        for row in self.rows.iter_mut() {
-            if row.at == at {
-                row.status = status;
+        let mut next = self.places.first(point);
+        while let Some(place) = next {
+            if let Some(row) = self.rows[place]
+                && row.is_at(point, at)
+            {
+                self.rows[place] = Some(BlockRow { status, ..row });
             }
+            next = self.places.next(place);
         }
     }
 
@@ -230,10 +217,17 @@ impl Blocks {
     pub fn retire_point(&mut self, point: u64)
         ensures { self.new ≡ record self.old { rows = map (with_status (retired_at point)) self.old.rows } }
     {
-        for row in self.rows.iter_mut() {
-            if row.is_linked_at(point) {
-                row.status = BlockStatus::Retired;
+        let mut next = self.places.first(point);
+        while let Some(place) = next {
+            if let Some(row) = self.rows[place]
+                && row.is_linked_at(point)
+            {
+                self.rows[place] = Some(BlockRow {
+                    status: BlockStatus::Retired,
+                    ..row
+                });
             }
+            next = self.places.next(place);
         }
     }
 
@@ -243,12 +237,18 @@ impl Blocks {
         ensures rows { self.new ≡ record self.old { rows = filter (is_kept point) self.old.rows } }
         ensures store { store.new ≡ record store.old { owners = owners_left point self.old.rows store.old.owners } }
     {
-        for row in &self.rows {
-            if !row.is_kept(point) {
+        let mut next = self.places.first(point);
+        while let Some(place) = next {
+            next = self.places.next(place);
+            if let Some(row) = self.rows[place]
+                && !row.is_kept(point)
+            {
                 store.drop_block(row.at, row.len);
+                self.rows[place] = None;
+                self.places.remove(place);
+                self.empty = self.empty.saturating_add(1);
             }
         }
-        self.rows.retain(|row| row.is_kept(point));
     }
 
     /// How many words the blocks have.

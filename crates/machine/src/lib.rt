@@ -3,6 +3,7 @@
 #![tactic(auto)]
 
 mod block_list;
+mod block_row;
 mod hart;
 mod instruments;
 mod laws;

@@ -89,7 +89,7 @@ impl Machine {
             resv: Reservations::new(alloc, harts)?,
             out: Output::new(alloc)?,
             store: Store::new(alloc, image)?,
-            blocks: Blocks::new(alloc),
+            blocks: Blocks::new(alloc)?,
             budget,
         })
     }

@@ -10,7 +10,7 @@ ghost use Rattle.machine.specs.Reached.{owner_by};
 ghost use Rattle.machine.specs.States.{with_core};
 ghost use Rattle.machine.specs.Views.{row_of};
 
-use crate::block_list::{BlockRow, BlockStatus};
+use crate::block_row::{BlockRow, BlockStatus};
 use crate::hart::HartState;
 use crate::machine::Machine;
 use code_store::Store;
@@ -65,7 +65,7 @@ impl Machine {
     {
         if let Some(base) = self.blocks.current_base(point) {
             lead_to(&mut self.store, &base, at);
-            self.blocks.set_status(at, BlockStatus::Live);
+            self.blocks.set_status(point, at, BlockStatus::Live);
         }
     }
 
@@ -76,10 +76,10 @@ impl Machine {
         ensures { self.new ≡ with_core self.old (after self.old.core (UnlinkMini point at)) }
     {
         if let Some(holder) = self.blocks.before(&self.store, point, at) {
-            if let Some(mini) = self.blocks.row_at(at) {
+            if let Some(mini) = self.blocks.row_at(point, at) {
                 let next = mini.next_of(&self.store);
                 lead_to(&mut self.store, &holder, next);
-                self.blocks.set_status(at, BlockStatus::Retired);
+                self.blocks.set_status(point, at, BlockStatus::Retired);
             }
         }
     }
@@ -93,7 +93,7 @@ impl Machine {
         if let Some(base) = self.blocks.current_base(point) {
             self.store
                 .set_word(point, MarkedWord::enter(jump_word(point, base.at)));
-            self.blocks.set_status(base.at, BlockStatus::Live);
+            self.blocks.set_status(point, base.at, BlockStatus::Live);
         }
     }
 

@@ -1,10 +1,9 @@
-use Rattle.std.proofs.Common.{◌≡◌, ◌++◌, take, drop}
-use Rattle.rv_word.specs.Plain.{Words}
-use Rattle.instrument.specs.Spaces.{AreRoomsOf}
+use Rattle.instrument.proofs.GivenBack.{IsGiving}
 use Rattle.instrument.proofs.giving.give_behind.Given as goal
 
+-- the rooms from the place on were given back
 abbrev pub invariant-loop-place : goal.invariant-loop-place
-invariant-loop-place l = record {
-  rooms : (program : Words) → AreRoomsOf program l.initial.words l.rooms → AreRoomsOf program l.words (take l.len l.rooms ++ drop l.place l.rooms);
-  takes : l.words.takes ≡ l.initial.words.takes;
-}
+invariant-loop-place l = IsGiving l.count l.fn.rooms l.fn.words l.rooms l.words l.place
+
+abbrev pub decreases-loop-place : goal.decreases-loop-place
+decreases-loop-place l = l.place

@@ -7,16 +7,18 @@ use Rattle.tramp_spec.specs.Slots.{places_of}
 use Rattle.instrument.specs.Admission.{slot_count, slots_from}
 use Rattle.instrument.specs.Books.{Book}
 use Rattle.instrument.specs.Fits.{slots_for}
+use Rattle.instrument.specs.Freed.{AreHere}
 use Rattle.instrument.specs.Listed.{AreNumberedBelow}
 use Rattle.instrument.specs.Needs.{Need, need_of, sites_in}
 use Rattle.instrument.specs.Placers.{PlacerData, AreAdmitted, HasMemory}
 use Rattle.instrument.specs.Spaces.{IsRow, slots_of}
 use Rattle.instrument.specs.declared.instrument.Instrument.{Instrument}
 use Rattle.instrument.proofs.Added.{row_from, first_from}
+use Rattle.instrument.proofs.Freed.{here_placed}
 use Rattle.instrument.proofs.Listed.{below_added}
 use Rattle.instrument.proofs.Memoryless.{refused_memoryless}
 use Rattle.instrument.proofs.Owners.{sites_none, admitted_placed}
-use Rattle.instrument.proofs.Ready.{placer_less, placer_used, kits_memory, is_found}
+use Rattle.instrument.proofs.Ready.{placer_less, placer_used, kits_memory, is_found, same_here}
 use Rattle.instrument.proofs.placer.Placer.admit.Goals as goal
 
 pub add-requires-clause-row : goal.add-requires-clause-row
@@ -53,7 +55,7 @@ pub invariant_of-self-in_default : goal.invariant_of-self-in_default
 invariant_of-self-in_default c =
     let k = placer_less c.self.inside.text c.self.inside.roster c.self.inside.count (need_of c.args.plan.now) c.self.inside.kits.items c.take_kit-kit.new.kits.items c.self.invariant c.take_kit-kit.ensures.kits in
     let e = c.kit_for-kit.ensures in
-    record { memory = e.kept _ _ k.memory; admitted = subst (λ (b : Book). AreAdmitted c.self.inside.count b.rooms) (sym e.book) k.admitted; listed = subst (λ (is : List Instrument). AreNumberedBelow c.self.inside.count is) (sym e.instruments) k.listed }
+    record { memory = e.kept _ _ k.memory; admitted = subst (λ (b : Book). AreAdmitted c.self.inside.count b.rooms) (sym e.book) k.admitted; listed = subst (λ (is : List Instrument). AreNumberedBelow c.self.inside.count is) (sym e.instruments) k.listed; here = same_here c.self.inside.text c.kit_for-kit.new.text c.self.inside.roster c.kit_for-kit.new.roster e.book e.instruments k.here }
 
 pub returns-in_default-clause-memory : goal.returns-in_default-clause-memory
 returns-in_default-clause-memory c = λ h e.
@@ -68,6 +70,7 @@ invariant_of-self-in_default-free_slots c =
     placer_used c.kit_for-kit.new.text c.kit_for-kit.new.text c.kit_for-kit.new.roster c.free_slots.new.self c.self.inside.count c.self.inside.count (length c.args.plan.now.sites) c.deref.result.now c.take_kit-kit.new.kits.items
     c.in-Ok.ensures.memory c.deref.ensures.value (subst (λ (b : Book). AreAdmitted c.self.inside.count b.rooms) (sym e.book) c.self.invariant.admitted)
     (subst (λ (is : List Instrument). AreNumberedBelow c.self.inside.count is) (sym (s.instruments ∙ e.instruments)) c.self.invariant.listed)
+    (same_here c.self.inside.text c.kit_for-kit.new.text c.self.inside.roster c.free_slots.new.self e.book (s.instruments ∙ e.instruments) c.self.invariant.here)
     (omega arith) (omega arith) (omega arith) (omega (arith, s.room)) (omega (arith, s.takes)) (omega arith)
 
 pub place-requires-clause-new : goal.place-requires-clause-new
@@ -81,6 +84,7 @@ invariant_of-self-in_err-instrument c =
     placer_used c.kit_for-kit.new.text c.place.new.text c.kit_for-kit.new.roster c.free_slots.new.self c.self.inside.count c.self.inside.count (length c.args.plan.now.sites) c.deref.result.now c.take_kit-kit.new.kits.items
     c.in-Ok.ensures.memory c.deref.ensures.value (subst (λ (b : Book). AreAdmitted c.self.inside.count b.rooms) (sym (c.in_err-instrument.ensures.unchanged ∙ e.book)) c.self.invariant.admitted)
     (subst (λ (is : List Instrument). AreNumberedBelow c.self.inside.count is) (sym (s.instruments ∙ e.instruments)) c.self.invariant.listed)
+    (same_here c.self.inside.text c.place.new.text c.self.inside.roster c.free_slots.new.self (c.in_err-instrument.ensures.unchanged ∙ e.book) (s.instruments ∙ e.instruments) c.self.invariant.here)
     (omega (arith, p.rooms_left)) (omega (arith, p.takes_left)) (omega (arith, p.entries_left)) (omega (arith, s.room)) (omega (arith, s.takes)) (omega arith)
 
 pub returns-in_err-instrument-clause-memory : goal.returns-in_err-instrument-clause-memory
@@ -94,7 +98,10 @@ invariant_of-self-2 c =
     let a = c.add.ensures in
     let before = subst (λ (b : Book). AreAdmitted c.self.inside.count b.rooms) (sym e.book) c.self.invariant.admitted in
     let listed = subst (λ (is : List Instrument). AreNumberedBelow c.self.inside.count is) (sym (s.instruments ∙ e.instruments)) c.self.invariant.listed in
+    let here = here_placed c.kit_for-kit.new.text.program c.self.inside.count _ c.args.plan.now.sites c.kit_for-kit.new.text.book c.place.new.text.book c.free_slots.new.self.instruments c.in_ok-instrument.instrument
+    (same_here c.self.inside.text c.kit_for-kit.new.text c.self.inside.roster c.free_slots.new.self e.book (s.instruments ∙ e.instruments) c.self.invariant.here) c.in_ok-instrument.ensures.ok (ap (λ (i : Instrument). i.state) c.in_ok-instrument.ensures.instrument) in
     placer_used c.kit_for-kit.new.text c.place.new.text c.kit_for-kit.new.roster c.add.new.self c.self.inside.count (c.self.inside.count + 1) (length c.args.plan.now.sites) c.deref.result.now c.take_kit-kit.new.kits.items
     c.in-Ok.ensures.memory c.deref.ensures.value (admitted_placed c.kit_for-kit.new.text.program c.self.inside.count _ c.args.plan.now.sites c.kit_for-kit.new.text.book c.place.new.text.book before c.in_ok-instrument.ensures.ok)
     (subst (λ (is : List Instrument). AreNumberedBelow (c.self.inside.count + 1) is) (sym a.instruments) (below_added c.self.inside.count c.free_slots.new.self.instruments c.in_ok-instrument.instrument listed (ap (λ (i : Instrument). i.no) c.in_ok-instrument.ensures.instrument)))
+    (subst (λ (is : List Instrument). AreHere c.place.new.text.book.rooms is) (sym a.instruments) here)
     (omega (arith, p.rooms_left)) (omega (arith, p.takes_left)) (omega (arith, p.entries_left)) (omega (arith, s.room, a.room)) (omega (arith, s.takes, a.takes)) (omega arith)

@@ -1,5 +1,6 @@
 use Rattle.std.proofs.Common.{arith, subst, sym}
 use Rattle.instrument.specs.Books.{Book}
+use Rattle.instrument.specs.Freed.{AreHere}
 use Rattle.instrument.specs.Placers.{AreAdmitted}
 use Rattle.instrument.proofs.Ready.{placer_kept}
 use Rattle.instrument.proofs.placer.Placer.next_free.Goals as goal
@@ -10,4 +11,5 @@ invariant_of-self c =
     let e = c.take_free.ensures in
     placer_kept c.self.inside.text c.take_free.new.self c.self.inside.roster c.self.inside.roster c.self.inside.count c.self.inside.kits.items k
     (subst (λ (b : Book). AreAdmitted c.self.inside.count b.rooms) (sym e.book) k.admitted)
-    k.listed (omega (arith, e.spare)) (omega (arith, e.takes)) (omega (arith, e.entries, k.memory.entries)) (omega arith) (omega arith)
+    k.listed (subst (λ (b : Book). AreHere b.rooms c.self.inside.roster.instruments) (sym e.book) k.here)
+    (omega (arith, e.spare)) (omega (arith, e.takes)) (omega (arith, e.entries, k.memory.entries)) (omega arith) (omega arith)

@@ -4,7 +4,7 @@ use Rattle.instrument.specs.Listed.{AreNumberedBelow}
 use Rattle.instrument.specs.Needs.{sites_in}
 use Rattle.instrument.specs.Placers.{AreAdmitted, HasMemory}
 use Rattle.instrument.specs.declared.instrument.Instrument.{Instrument}
-use Rattle.instrument.proofs.Ready.{given_up}
+use Rattle.instrument.proofs.Ready.{given_up, same_here}
 use Rattle.instrument.proofs.placer.Placer.reserve.Goals as goal
 
 pub invariant_of-self-in_err-take_memory : goal.invariant_of-self-in_err-take_memory
@@ -20,4 +20,5 @@ invariant_of-self-2 c =
           (subst (λ n. HasMemory c.take_memory.new.text c.take_memory.new.roster c.self.inside.count c.in-Some.sites n) (c.len.ensures ∙ c.in_ok-kits.kits.ok.0) e.memory);
       admitted = subst (λ (b : Book). AreAdmitted c.self.inside.count b.rooms) (sym e.book) c.self.invariant.admitted;
       listed = subst (λ (is : List Instrument). AreNumberedBelow c.self.inside.count is) (sym e.instruments) c.self.invariant.listed;
+      here = same_here c.self.inside.text c.take_memory.new.text c.self.inside.roster c.take_memory.new.roster e.book e.instruments c.self.invariant.here;
     }

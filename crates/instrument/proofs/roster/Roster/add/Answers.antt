@@ -1,6 +1,6 @@
 use Rattle.std.proofs.Common.{◌∙◌, ◌∷◌, [], ◌++◌, ◌≡◌, List, ap, sym, subst, arith, Some}
 use Rattle.std.proofs.lemmas.Grind.{common_steps}
-use Rattle.instrument.specs.Listed.{AreInOrder, AreNumberedBelow, AreThere}
+use Rattle.instrument.specs.Listed.{AreInOrder, AreNumberedBelow}
 use Rattle.instrument.specs.Rosters.{RosterData}
 use Rattle.instrument.specs.Admission.{slot_count}
 use Rattle.instrument.specs.Spaces.{AreSlotsOf, slots_of}
@@ -8,7 +8,6 @@ use Rattle.instrument.specs.declared.instrument.Instrument.{Instrument}
 use Rattle.instrument.specs.declared.roster.Roster.TheInside.{Inside}
 use Rattle.instrument.proofs.Added.{found_in, slots_added, none_added}
 use Rattle.instrument.proofs.Listed.{order_added}
-use Rattle.instrument.proofs.Marked.{there_added}
 use Rattle.instrument.proofs.roster.Roster.add.Goals as goal
 use Rattle.instrument.proofs.roster.Roster.add.Goals.{then-count-gt0, else-count-gt0}
 
@@ -17,7 +16,6 @@ invariant_of-self c =
     let free = subst (λ (r : RosterData). found_in r.instruments (slot_count c.args.instrument.placed.vars) ≡ Some (slots_of c.args.instrument).at) (sym c.self.view_is) c.requires.free in
     let count = c.slot_count-count.ensures ∙ ap slot_count c.as_slice.ensures in
     let above = subst (λ (r : RosterData). AreNumberedBelow c.args.instrument.no r.instruments) (sym c.self.view_is) c.requires.number in
-    let there = there_added c.self.inside.instruments.items c.args.instrument c.requires.there c.self.invariant.there in
     let order = order_added c.self.inside.instruments.items c.args.instrument c.self.invariant.order above in
     record {
       slots = elim c.if-count-gt0.branch [
@@ -36,10 +34,6 @@ invariant_of-self c =
       order = elim c.if-count-gt0.branch [
         | then-count-gt0 w ↦ subst AreInOrder (sym (c.push_reserved.ensures.items ∙ ap (λ (r : Inside). r.instruments.items ++ c.args.instrument ∷ []) w.self-inside-is)) order
         | else-count-gt0 w ↦ subst AreInOrder (sym (c.push_reserved.ensures.items ∙ ap (λ (r : Inside). r.instruments.items ++ c.args.instrument ∷ []) w.self-inside-is)) order
-      ];
-      there = elim c.if-count-gt0.branch [
-        | then-count-gt0 w ↦ subst AreThere (sym (c.push_reserved.ensures.items ∙ ap (λ (r : Inside). r.instruments.items ++ c.args.instrument ∷ []) w.self-inside-is)) there
-        | else-count-gt0 w ↦ subst AreThere (sym (c.push_reserved.ensures.items ∙ ap (λ (r : Inside). r.instruments.items ++ c.args.instrument ∷ []) w.self-inside-is)) there
       ];
       memory = elim c.if-count-gt0.branch [
         | then-count-gt0 w ↦ grind (arith, common_steps)

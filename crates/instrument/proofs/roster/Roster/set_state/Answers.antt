@@ -1,11 +1,10 @@
 use Rattle.std.proofs.Common.{rules, ◌∙◌, List, ap, map, refl, subst, sym}
 use Rattle.std.proofs.lemmas.List.{with_items_is}
-use Rattle.instrument.specs.Listed.{AreInOrder, AreThere}
+use Rattle.instrument.specs.Listed.{AreInOrder}
 use Rattle.instrument.specs.Placements.{with_state}
 use Rattle.instrument.specs.Spaces.{AreSlotsOf}
 use Rattle.instrument.specs.declared.instrument.Instrument.{Instrument}
 use Rattle.instrument.proofs.Listed.{order_map}
-use Rattle.instrument.proofs.Marked.{there_states}
 use Rattle.instrument.proofs.Slotted.{slots_map}
 use Rattle.instrument.proofs.roster.Roster.set_state.Goals as goal
 
@@ -18,6 +17,5 @@ invariant_of-self c =
     record {
       slots = subst (λ (is : List Instrument). AreSlotsOf c.self.inside.slots is) same (slots_map c.self.inside.slots (with_state n state) items (λ i. refl) c.self.invariant.slots);
       order = subst AreInOrder same (order_map (with_state n state) items (λ i. refl) c.self.invariant.order);
-      there = subst AreThere same (there_states n state items c.requires c.self.invariant.there);
       memory = c.self.invariant.memory;
     }

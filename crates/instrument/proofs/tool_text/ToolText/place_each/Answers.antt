@@ -1,28 +1,21 @@
-use Rattle.std.proofs.Common.{refl, ◌∙◌, ◌≡◌, ◌+◌, List, ap, subst, arith, drop, map}
+use Rattle.std.proofs.Common.{refl, ◌∙◌, ◌≡◌, List, ap, subst, arith, drop, map}
 use Rattle.std.specs.Prelude.{Ok}
 use Rattle.pn_types.specs.declared.plan.Site.{Site}
 use Rattle.prim_code.specs.Counts.{site_words}
 use Rattle.rv_word.specs.Plain.{Words}
 use Rattle.instrument.specs.Admission.{with_site}
-use Rattle.instrument.specs.Bases.{AreMarks}
-use Rattle.instrument.proofs.Based.{first_mark, next_marks}
 use Rattle.instrument.proofs.Grown.{grown_none, grown_site, item_in, each_next}
 use Rattle.instrument.proofs.Holdings.{at_next}
 use Rattle.instrument.proofs.tool_text.ToolText.place_each.Goals as goal
 
 pub loop-site-init : goal.loop-site-init
-loop-site-init c = record { book = refl; program = refl; grown = grown_none c.args.self.now.book; buffers = c.requires.buffers; marks = c.requires.marks; rooms = omega arith; takes = omega arith; entries = omega arith }
+loop-site-init c = record { book = refl; program = refl; grown = grown_none c.args.self.now.book; buffers = c.requires.buffers; rooms = omega arith; takes = omega arith; entries = omega arith }
 
 pub place_site-requires-clause-named : goal.place_site-requires-clause-named
 place_site-requires-clause-named c = c.requires.named c.site-item.result (item_in c.args.sites.now c.loop-site.site-index c.site-item.result c.loop-site-test.true c.site-item.is)
 
 pub place_site-requires-clause-count : goal.place_site-requires-clause-count
 place_site-requires-clause-count c = c.requires.count c.site-item.result (item_in c.args.sites.now c.loop-site.site-index c.site-item.result c.loop-site-test.true c.site-item.is)
-
-pub place_site-requires-clause-mark : goal.place_site-requires-clause-mark
-place_site-requires-clause-mark c =
-    first_mark c.loop-site.self.book.rooms c.site-item.result (drop (c.loop-site.site-index + 1) c.args.sites.now) c.loop-site.marks.items c.pop_front-in-loop-site.new.self.items c.pop_front-in-loop-site.result
-    (subst (λ (ss : List Site). AreMarks c.loop-site.self.book.rooms ss c.loop-site.marks.items) (at_next c.args.sites.now c.loop-site.site-index c.site-item.result c.loop-site-test.true c.site-item.is).1 c.loop-site.invariant.marks) c.pop_front-in-loop-site.ensures.items
 
 pub loop-site-preserved : goal.loop-site-preserved
 loop-site-preserved c =
@@ -34,8 +27,6 @@ loop-site-preserved c =
       program = e.program ∙ i.program;
       grown = grown_site c.args.self.now.program c.args.owner c.args.slots.now c.site-item.result c.args.self.now.book c.loop-site.self.book c.place_site.new.self.book i.grown ok;
       buffers = c.pop_front.ensures.rest ∙ (ap (drop 1) i.buffers ∙ ap (λ (ss : List Site). drop 1 (map site_words ss)) (at_next c.args.sites.now c.loop-site.site-index c.site-item.result c.loop-site-test.true c.site-item.is).1);
-      marks = next_marks c.args.self.now.program c.args.owner c.args.slots.now c.site-item.result (drop (c.loop-site.site-index + 1) c.args.sites.now) c.loop-site.self.book c.place_site.new.self.book c.loop-site.marks.items c.pop_front-in-loop-site.new.self.items
-          (subst (λ (ss : List Site). AreMarks c.loop-site.self.book.rooms ss c.loop-site.marks.items) (at_next c.args.sites.now c.loop-site.site-index c.site-item.result c.loop-site-test.true c.site-item.is).1 i.marks) c.pop_front-in-loop-site.ensures.rest ok;
       rooms = omega (arith, i.rooms, e.rooms_left);
       takes = omega (arith, i.takes, e.takes_left);
       entries = omega (arith, i.entries, e.entries_left);

@@ -10,8 +10,7 @@ pub sites_of-requires-clause-room : goal.sites_of-requires-clause-room
 sites_of-requires-clause-room c =
     let n = sites_counted c.args.self.now.program c.args.owner c.args.slots.now c.args.sites.now c.args.self.now.book c.place_each.new.self.book c.requires.new c.in_default.ensures.ok in
     let v = ap (λ (d : ToolTextData). length (sites_of c.args.owner d.book.rooms)) c.self-2.view_is in
-    let r = ap (λ rooms. length (sites_of c.args.owner rooms)) c.rooms-2.ensures in
     let m = ap length (c.memory.view_is ∙ c.requires.memory) in
     let s = length-map c.args.sites.now site_words in
-    let room = c.memory.invariant.3 in
-    omega (arith, n, v, r, m, s, room)
+    let room = c.memory.invariant.1 in
+    omega (arith, n, v, m, s, room)

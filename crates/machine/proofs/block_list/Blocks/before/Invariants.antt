@@ -1,10 +1,11 @@
-use Rattle.std.proofs.Common.{◌≡◌, drop}
-use Rattle.std.specs.Prelude.{find, map}
-use Rattle.machine.specs.Events.{is_before}
-use Rattle.machine.specs.Views.{row_of}
+use Rattle.std.proofs.Common.{length}
+use Rattle.bucket_chains.proofs.Nexts.{places_from}
+use Rattle.machine.proofs.BlockLooks.{Looks, leads_at}
 use Rattle.machine.proofs.block_list.Blocks.before.Given as goal
 
--- the block is among the rest, if it is there
-abbrev pub invariant-loop-row : goal.invariant-loop-row
-invariant-loop-row l =
-    find (is_before l.store.code l.at) (map row_of (drop l.row-index l.row-items)) ≡ find (is_before l.store.code l.at) (map row_of l.row-items)
+-- the block is among those from the next place on, if it is there
+abbrev pub invariant-loop-next : goal.invariant-loop-next
+invariant-loop-next l = Looks l.point (leads_at l.store.code l.point l.at) l.self-inside.rows.items l.next
+
+abbrev pub decreases-loop-next : goal.decreases-loop-next
+decreases-loop-next l = places_from (length l.self-inside.rows.items) l.next

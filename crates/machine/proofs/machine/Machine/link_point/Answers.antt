@@ -9,8 +9,13 @@ use Rattle.machine.specs.Effects.{at_set, point_linked}
 use Rattle.machine.specs.Events.{LinkPoint, MayLinkPoint}
 use Rattle.machine.specs.States.{Machine}
 use Rattle.machine.specs.Views.{core_of, row_of}
-use Rattle.machine.proofs.Calls.{relinked}
+use Rattle.machine.proofs.Calls.{own_base, relinked}
 use Rattle.machine.proofs.machine.Machine.link_point.Goals as goal
+
+pub set_status-requires : goal.set_status-requires
+set_status-requires c =
+    let m = c.self.inside in
+    own_base m.harts.items (prog_of m.mem m.resv m.out) m.store m.blocks m.budget c.self.invariant c.args.point (row_of c.in-Some.base) (sym c.current_base.ensures ∙ ap (option_map row_of) c.in-Some.is)
 
 pub invariant_of-self : goal.invariant_of-self
 invariant_of-self c =

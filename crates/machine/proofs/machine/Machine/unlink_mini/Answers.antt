@@ -8,7 +8,7 @@ use Rattle.machine.specs.Effects.{at_set, lead_to, mini_unlinked, with_status}
 use Rattle.machine.specs.Events.{HasMini, UnlinkMini, before, next_of, row_at}
 use Rattle.machine.specs.States.{Machine, with_core}
 use Rattle.machine.specs.Views.{BlockList, core_of, row_of}
-use Rattle.machine.proofs.Calls.{all_link, found_links, before_own, relinked}
+use Rattle.machine.proofs.Calls.{all_link, before_own, found_links, own_mini, relinked}
 use Rattle.machine.proofs.machine.Machine.unlink_mini.Goals as goal
 
 pub before-requires-clause-links : goal.before-requires-clause-links
@@ -22,10 +22,20 @@ before-requires-clause-of_point c =
     let may = subst (λ (z : Machine). HasMini z.core c.args.point c.args.at Live) (sym c.self.view_is) c.requires in
     λ r h e. before_own m.harts.items (prog_of m.mem m.resv m.out) m.store m.blocks m.budget c.self.invariant c.args.point c.args.at may r h e
 
+pub row_at-requires : goal.row_at-requires
+row_at-requires c =
+    let m = c.self.inside in
+    own_mini m.harts.items (prog_of m.mem m.resv m.out) m.store m.blocks m.budget c.self.invariant c.args.point c.args.at Live (subst (λ (z : Machine). HasMini z.core c.args.point c.args.at Live) (sym c.self.view_is) c.requires)
+
 pub next_of-next-requires : goal.next_of-next-requires
 next_of-next-requires c =
     let m = c.self.inside in
     found_links m.harts.items (prog_of m.mem m.resv m.out) m.store m.blocks m.budget c.self.invariant _ (row_of c.in-Some-row_at.mini) (sym c.row_at.ensures ∙ ap (option_map row_of) c.in-Some-row_at.is)
+
+pub set_status-requires : goal.set_status-requires
+set_status-requires c =
+    let m = c.self.inside in
+    own_mini m.harts.items (prog_of m.mem m.resv m.out) m.store m.blocks m.budget c.self.invariant c.args.point c.args.at Live (subst (λ (z : Machine). HasMini z.core c.args.point c.args.at Live) (sym c.self.view_is) c.requires)
 
 pub lead_to-requires : goal.lead_to-requires
 lead_to-requires c =

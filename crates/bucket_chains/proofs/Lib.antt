@@ -1,0 +1,6 @@
+pub mod Places
+pub mod Pushed
+pub mod Removed
+pub mod Walks
+pub mod Nexts
+pub mod Skips

@@ -1,0 +1,9 @@
+use Rattle.std.proofs.Common.{arith}
+use Rattle.bucket_chains.proofs.Places.{blank}
+use Rattle.bucket_chains.proofs.chains.Chains.new.Goals as goal
+
+pub invariant_of-result : goal.invariant_of-result
+invariant_of-result c = (
+  blank c.new.ensures.items c.new-2.ensures.items c.new-3.ensures.items c.in_ok-no_places.ensures c.in_ok-no_places-2.ensures,
+  record { buckets = omega (arith, c.new.ensures.len); nexts = omega (arith, c.new-2.ensures.len); befores = omega (arith, c.new-3.ensures.len) },
+)
