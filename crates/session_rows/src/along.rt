@@ -16,6 +16,20 @@ use report::report;
 use session::{Inputs, Session, StartFault};
 use std::alloc::Global;
 
+/// A quantum that is told. Where it finds no memory it is asked for once more: nothing had changed.
+fn take(session: &mut Session, told: &Quantum) -> Result<(), NoMemory>
+    requires going { session.old.closed ≡ false }
+    requires quantum { IsQuantum session.old.inputs.settings.harts told.now }
+    ensures going { session.new.closed ≡ false }
+    ensures inputs { session.new.inputs ≡ session.old.inputs }
+{
+    let taken = session.quantum(told.worker, told.hart, told.turns);
+    if taken.is_err() {
+        let _ = session.quantum(told.worker, told.hart, told.turns)?;
+    }
+    Ok(())
+}
+
 /// Lets a session take the quanta. Those that no hart could take are left out.
 fn follow(session: &mut Session, quanta: &[Quantum]) -> Result<(), NoMemory>
     requires going { session.old.closed ≡ false }
@@ -23,7 +37,7 @@ fn follow(session: &mut Session, quanta: &[Quantum]) -> Result<(), NoMemory>
     ensures { session.new.closed ≡ false }
 {
     'quanta: for told in quanta {
-        let _ = session.quantum(told.worker, told.hart, told.turns)?;
+        take(session, told)?;
     }
     Ok(())
 }

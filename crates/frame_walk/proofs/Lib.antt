@@ -1,0 +1,5 @@
+pub mod Starts
+pub mod Lengths
+pub mod Rooms
+pub mod Steps
+pub mod Waits

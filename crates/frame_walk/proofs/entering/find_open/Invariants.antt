@@ -1,0 +1,8 @@
+use Rattle.std.proofs.Common.{◌≡◌, drop}
+use Rattle.std.specs.Prelude.{find}
+use Rattle.frame_walk.specs.Openings.{holds}
+use Rattle.frame_walk.proofs.entering.find_open.Given as goal
+
+-- the Open is among those that are left
+abbrev pub invariant-loop-i : goal.invariant-loop-i
+invariant-loop-i l = find (holds l.at) l.opens ≡ find (holds l.at) (drop l.i l.opens)

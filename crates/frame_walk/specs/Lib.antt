@@ -1,0 +1,5 @@
+pub mod Frames
+pub mod Walks
+pub mod Openings
+pub mod Rooms
+pub mod Laws

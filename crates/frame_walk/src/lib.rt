@@ -1,0 +1,19 @@
+//! Which procedures are open where an instrument is armed: the walk of a hart's frames, and what the statements at the entries
+//! of the procedures that it meets make of the instrument's variables.
+#![tactic(auto)]
+
+mod acting;
+mod entering;
+mod frame;
+mod laws;
+mod open;
+mod opening;
+#[cfg(test)]
+mod tests;
+mod walk_start;
+
+pub use frame::Frame;
+pub use laws::{arguments_wait, cold_begins, opens_low, same_starts, walks_end};
+pub use open::Open;
+pub use opening::open_values;
+pub use walk_start::WalkStart;

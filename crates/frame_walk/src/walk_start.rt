@@ -1,0 +1,10 @@
+/// Where the walk of a hart starts that isn't stopped.
+#[derive(Clone, Copy, Debug, PartialEq, Eq, Drop)]
+pub struct WalkStart {
+    /// Its pc.
+    pub pc: u64,
+    /// Its x1, the return address.
+    pub ra: u64,
+    /// Its x8, the frame pointer.
+    pub fp: u64,
+}
