@@ -6,7 +6,7 @@
 The files are those of examples/ and, below FOLDER, the ELF files (*.elf) and assembly texts (*.s). Of each case bytes of one
 file are flipped or replaced, taken out, doubled or cut off at the end, and each command that reads such a file is run with it.
 The cases are numbered from FIRST (0 where left out), and one of a number is always the same. A run may end with a status from
-0 to 10, within 20 seconds, and after any but 0 and 7 the output is one line. PARADYN is crates/paradyn/out/paradyn where left
+0 to 9, within 20 seconds, and after any but 0 and 7 the output is one line. PARADYN is crates/paradyn/out/paradyn where left
 out."""
 
 import collections
@@ -111,7 +111,7 @@ def fault_of(words):
         ended = subprocess.run([PARADYN, *map(str, words)], capture_output=True, timeout=SECONDS, stdin=subprocess.DEVNULL)
     except subprocess.TimeoutExpired:
         return None, "no end"
-    if not 0 <= ended.returncode <= 10 or ended.returncode == 1:
+    if not 0 <= ended.returncode <= 9 or ended.returncode == 1:
         return ended.returncode, "a status that isn't named"
     if ended.stderr:
         return ended.returncode, "an error text"

@@ -1,4 +1,5 @@
-//! Admits plans up to the first that is refused, and prints how many were admitted and why the next wasn't.
+//! Admits plans up to the first that is refused, and prints how many were admitted, why the next wasn't, and what Opens an admitted
+//! one has.
 #![tactic(auto)]
 
 mod plans;
@@ -11,9 +12,10 @@ ghost use Rattle.pn_types.specs.declared.plan.Site.{Site};
 ghost use Rattle.prim_code.specs.Counts.{predicted};
 ghost use Rattle.prim_code.specs.Named.{AreBelow};
 ghost use Rattle.instrument.specs.Admission.{slot_count};
+ghost use Rattle.instrument.specs.Armable.{IsArmable};
 
-use instrument::{Placer, Refused};
-use plans::{counted_words, counters};
+use instrument::{Placer, Refused, State};
+use plans::{counted_words, timers};
 use pn_types::{Image, NoMemory, Plan, Segment, Seq};
 use std::alloc::Global;
 use std::io;
@@ -59,6 +61,7 @@ fn fill(alloc: Global, instruments: u32, plan: &Plan, cost: Option<u64>) -> Resu
     requires named { (s : Site) → In s plan.now.sites → AreBelow (length plan.now.vars) s.stmts }
     requires words { predicted plan.now < 2 ^ 32 }
     requires slots { slot_count plan.now.vars < 2 ^ 32 }
+    requires armable { IsArmable plan.now.vars plan.now.opens }
 {
     let image = image(alloc)?;
     let mut placer = Placer::new(alloc, &image, instruments)?;
@@ -76,13 +79,46 @@ fn fill(alloc: Global, instruments: u32, plan: &Plan, cost: Option<u64>) -> Resu
     })
 }
 
+/// An Open of an instrument: its range, and how many statements it has.
+#[derive(Debug, Drop)]
+struct Opened {
+    start: u64,
+    len: u64,
+    stmts: usize,
+}
+
+/// The first Open of a plan's instrument, where the plan is admitted and has one.
+fn first_open(alloc: Global, plan: &Plan) -> Result<Option<Opened>, NoMemory>
+    requires named { (s : Site) → In s plan.now.sites → AreBelow (length plan.now.vars) s.stmts }
+    requires words { predicted plan.now < 2 ^ 32 }
+    requires slots { slot_count plan.now.vars < 2 ^ 32 }
+    requires armable { IsArmable plan.now.vars plan.now.opens }
+{
+    let image = image(alloc)?;
+    let mut placer = Placer::new(alloc, &image, 1)?;
+    let Ok(number) = placer.admit(alloc, plan, None) else {
+        return Ok(None);
+    };
+    if placer.state(number) == State::Gone {
+        return Ok(None);
+    }
+    match placer.placed(number).opens.as_slice().first() {
+        None => Ok(None),
+        Some(range) => Ok(Some(Opened {
+            start: range.start,
+            len: range.len,
+            stmts: range.stmts.as_slice().len(),
+        })),
+    }
+}
+
 fn main(rt: HostRuntime) -> Result<ExitCode, io::Error> {
     let alloc = rt.alloc();
-    let many = counters(alloc, 4095)?;
-    let none = counters(alloc, 0)?;
+    let three = timers(alloc, 3)?;
+    let none = timers(alloc, 0)?;
     let everywhere = counted_words(alloc, TEXT_AT, 4096)?;
-    let filled = fill(alloc, 64, &many, None)?;
-    println!(rt; "4095 counters: {filled:?}")?;
+    let filled = fill(alloc, 1024, &three, None)?;
+    println!(rt; "3 timers, 1024 allowed: {filled:?}")?;
     let filled = fill(alloc, 64, &none, None)?;
     println!(rt; "no site, 64 allowed: {filled:?}")?;
     let filled = fill(alloc, 1024, &none, None)?;
@@ -93,5 +129,7 @@ fn main(rt: HostRuntime) -> Result<ExitCode, io::Error> {
     println!(rt; "4096 sites, 20480 words allowed: {filled:?}")?;
     let filled = fill(alloc, 64, &everywhere, Some(20_479))?;
     println!(rt; "4096 sites, 20479 words allowed: {filled:?}")?;
+    let opened = first_open(alloc, &everywhere)?;
+    println!(rt; "4096 sites, admitted: {opened:?}")?;
     Ok(ExitCode::SUCCESS)
 }

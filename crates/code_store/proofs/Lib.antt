@@ -5,3 +5,4 @@ pub mod Fetches
 pub mod Blocks
 pub mod Beginnings
 pub mod Operations
+pub mod Flats

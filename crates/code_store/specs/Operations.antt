@@ -1,5 +1,5 @@
 -- For proofs alone: the operations that the slots of a store keep for their words.
-use Rattle.std.specs.Prelude.{◌≡◌, ℕ, ◌+◌, ◌/◌, ◌<◌, ◌^◌, if◌then◌else◌, not, Bool, true, false, Option, Some, None, Result, Ok, Err, List, IfSome}
+use Rattle.std.specs.Prelude.{◌≡◌, ℕ, ◌+◌, ◌/◌, ◌<◌, ◌^◌, if◌then◌else◌, not, Bool, true, false, Option, Some, None, Result, Ok, Err, List, [], ◌∷◌, IfSome}
 use Rattle.rv_word.specs.Exec.{Prog, Done, done, exec_decoded, next}
 use Rattle.rv_word.specs.Registers.{reg}
 use Rattle.rv_word.specs.Table.{decode_of}
@@ -12,7 +12,7 @@ use Rattle.rv_word.specs.declared.outcome.Cause.TheVariants.{Access}
 use Rattle.rv_word.specs.declared.outcome.Next.{Next}
 use Rattle.rv_word.specs.declared.outcome.Next.TheVariants as ways
 use Rattle.rv_exec.specs.Flat.{instr_of}
-use Rattle.tramp_spec.specs.Marks.{is_jump, is_own}
+use Rattle.tramp_spec.specs.Marks.{is_jump}
 use Rattle.tramp_spec.specs.Banks.{bank_at, bank_len, is_in_bank}
 use Rattle.tramp_spec.specs.Steps.{Bench, Stood, stand, step_decoded, with_doubleword, with_value}
 use Rattle.tramp_spec.specs.declared.mark.Mark.{Mark}
@@ -20,7 +20,7 @@ use Rattle.tramp_spec.specs.declared.mark.Mark.TheVariants.{Own, Enter, Tool, Le
 use Rattle.tramp_spec.specs.declared.mark.MarkedWord.{MarkedWord}
 use Rattle.rv_exec.specs.declared.flat.Flat.{Flat}
 use Rattle.code_store.specs.declared.operation.Operation.{Operation}
-use Rattle.code_store.specs.declared.operation.Operation.TheVariants.{Run, Compute, LoadBank, StoreBank, NoAccess, Stop}
+use Rattle.code_store.specs.declared.operation.Operation.TheVariants.{Run, LoadBank, StoreBank, NoAccess, Stop}
 
 -- the instruction reaches no memory and makes no call
 abbrev pub computes : Option Instr → Bool
@@ -61,8 +61,7 @@ bank_stored v at pc x = if is_in_bank bank_len at then Ok (stand (next pc) (with
 
 -- what the instruction does under a mark that isn't the program's and reaches n doublewords
 abbrev pub Does : ℕ → Option Instr → Operation → Type 0
-Does n i (Run flat) = ⊥
-Does n i (Compute flat) = (instr_of flat ≡ i) × IfSome i HasWord × RunsAlike n i
+Does n i (Run flat) = (instr_of flat ≡ i) × IfSome i HasWord × RunsAlike n i
 Does n i (LoadBank rd rs1 offset) =
     (rd < 32) × (rs1 < 32) × ((ticks pc : ℕ) (x : Bench) → step_decoded n i ticks pc x ≡ bank_loaded rd (wrap (reg x.regs rs1 + offset)) ticks pc x)
 Does n i (StoreBank rs1 rs2 offset) =
@@ -74,7 +73,6 @@ Does n i (Stop cause) = (ticks pc : ℕ) (x : Bench) → step_decoded n i ticks 
 -- the operation of a word of the program
 abbrev pub Executes : Option Instr → Operation → Type 0
 Executes i (Run flat) = (instr_of flat ≡ i) × IfSome i HasWord
-Executes i (Compute flat) = ⊥
 Executes i (LoadBank rd rs1 offset) = ⊥
 Executes i (StoreBank rs1 rs2 offset) = ⊥
 Executes i (NoAccess rs1 offset) = ⊥
@@ -90,20 +88,31 @@ IsOperationBy Leave i o = Does 0 i o
 abbrev pub IsOperationOf : MarkedWord → Operation → Type 0
 IsOperationOf w o = IsOperationBy w.mark (decode_of w.word) o
 
--- what a word of the program does, and none where another word or none is fetched
-abbrev pub IsOwnOf : Option MarkedWord → Option Flat → Type 0
-IsOwnOf None None = Unit {0}
-IsOwnOf None (Some flat) = ⊥
-IsOwnOf (Some w) None = is_own w.mark ≡ false
-IsOwnOf (Some w) (Some flat) = (w.mark ≡ Own) × (instr_of flat ≡ decode_of w.word) × IfSome (decode_of w.word) HasWord
+-- ---- flats
 
-abbrev pub own_of : Operation → Option Flat
-own_of (Run flat) = Some flat
-own_of (Compute flat) = None
-own_of (LoadBank rd rs1 offset) = None
-own_of (StoreBank rs1 rs2 offset) = None
-own_of (NoAccess rs1 offset) = None
-own_of (Stop cause) = None
+-- in the list of flats a word of the program does what it does, and another is no instruction
+abbrev pub IsFlatBy : Mark → Option Instr → Flat → Type 0
+IsFlatBy Own i flat = (instr_of flat ≡ i) × IfSome i HasWord
+IsFlatBy Enter i flat = instr_of flat ≡ None
+IsFlatBy Tool i flat = instr_of flat ≡ None
+IsFlatBy Leave i flat = instr_of flat ≡ None
+
+abbrev pub IsFlatOf : MarkedWord → Flat → Type 0
+IsFlatOf w flat = IsFlatBy w.mark (decode_of w.word) flat
+
+-- there is a flat exactly where a word is fetched, and it is that word's
+abbrev pub IsFlatAt : Option MarkedWord → Option Flat → Type 0
+IsFlatAt None None = Unit {0}
+IsFlatAt None (Some flat) = ⊥
+IsFlatAt (Some w) None = ⊥
+IsFlatAt (Some w) (Some flat) = IsFlatOf w flat
+
+-- word by word
+abbrev pub AreFlatsOf : List MarkedWord → List Flat → Type 0
+AreFlatsOf [] [] = Unit {0}
+AreFlatsOf (w ∷ ws) (flat ∷ flats) = IsFlatOf w flat × AreFlatsOf ws flats
+AreFlatsOf [] (flat ∷ flats) = ⊥
+AreFlatsOf (w ∷ ws) [] = ⊥
 
 -- ---- inside
 

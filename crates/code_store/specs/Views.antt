@@ -5,8 +5,10 @@ use Rattle.pn_types.specs.declared.limits.TheConstants.{TOOL_TEXT_LEN}
 use Rattle.tramp_spec.specs.Codes.{Code, is_word_of, tool_at}
 use Rattle.tramp_spec.specs.Marks.{tool}
 use Rattle.tramp_spec.specs.declared.mark.MarkedWord.{MarkedWord}
+use Rattle.rv_exec.specs.declared.flat.Flat.{Flat}
 use Rattle.code_store.specs.declared.word_use.WordUse.{WordUse}
 use Rattle.code_store.specs.declared.word_use.WordUse.TheVariants.{Unwritten, Free, Block}
+use Rattle.code_store.specs.Operations.{AreFlatsOf}
 use Rattle.code_store.specs.Owners.{Owners}
 
 -- ---- one word
@@ -58,10 +60,11 @@ AreBlank (w ∷ ws) (u ∷ us) = (u ≡ Unwritten → w ≡ tool 0) × AreBlank 
 
 -- ---- a store
 
--- The arrays fit each other: a slot for each word of the program, and a slot and a use for each word of the tool text, which
+-- The arrays fit each other: a slot and a flat for each word of the program, and a slot and a use for each word of the tool text, which
 -- begins where it must.
-pub record FitTogether (words : List ℕ) (text_at : ℕ) (text : List MarkedWord) (tools_at : ℕ) (tools : List MarkedWord) (uses : List WordUse) : Type 0 where
+pub record FitTogether (words : List ℕ) (text_at : ℕ) (text : List MarkedWord) (flats : List Flat) (tools_at : ℕ) (tools : List MarkedWord) (uses : List WordUse) : Type 0 where
   pub slots : length text ≡ length words
+  pub does : AreFlatsOf text flats
   pub behind : tools_at ≡ tool_at (record { at = text_at; words = words })
   pub room : 4 * length tools ≡ TOOL_TEXT_LEN
   pub used : length uses ≡ length tools

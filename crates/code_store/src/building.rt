@@ -4,11 +4,14 @@ ghost use Rattle.std.specs.Prelude.{◌≡◌, ◌<◌, ◌^◌, IfOk, map, repl
 ghost use Rattle.std.specs.List.{AllByRecursion};
 ghost use Rattle.rv_word.specs.Names.{words_of};
 ghost use Rattle.tramp_spec.specs.Marks.{own, tool};
+ghost use Rattle.code_store.specs.Operations.{AreFlatsOf};
 ghost use Rattle.code_store.specs.declared.word_use.WordUse.TheVariants.{Unwritten};
 
+use crate::operation::Operation;
 use crate::slot::Slot;
 use crate::word_use::WordUse;
 use pn_types::NoMemory;
+use rv_exec::Flat;
 use rv_word::split_word;
 use std::alloc::Global;
 use tramp_spec::MarkedWord;
@@ -43,13 +46,26 @@ pub fn own_slots(alloc: Global, words: &[u32]) -> Result<Vec<Slot>, NoMemory>
     Ok(slots)
 }
 
+/// What the words do to which these slots belong.
+pub fn flats_of(alloc: Global, slots: &[Slot]) -> Result<Vec<Flat>, NoMemory>
+    ensures { IfOk result (λ flats. AreFlatsOf slots.now flats.items) }
+{
+    let mut flats = Vec::with_capacity(alloc, slots.len())?;
+    for slot in slots {
+        flats.push(slot.flat())?;
+    }
+    Ok(flats)
+}
+
 /// Slots for words of the tool text at which nothing was put.
 pub fn blank_slots(alloc: Global, count: usize) -> Result<Vec<Slot>, NoMemory>
     ensures { IfOk result (λ slots. slots.items ≡ replicate count (tool 0)) }
 {
+    let blank = MarkedWord::tool(0);
+    let operation = Operation::new(blank);
     let mut slots = Vec::with_capacity(alloc, count)?;
     for _ in 0..count {
-        slots.push(Slot::new(MarkedWord::tool(0)))?;
+        slots.push(Slot::with(blank, operation))?;
     }
     Ok(slots)
 }

@@ -1,20 +1,17 @@
 ghost use Rattle.std.specs.Prelude.{◌≡◌, ◌<◌, false, Some, IfSome};
-ghost use Rattle.std.specs.Option.{option_copied};
 ghost use Rattle.rv_word.specs.Words.{HasWord};
 ghost use Rattle.rv_word.specs.declared.instr.Instr.TheVariants.{Load, Store};
-ghost use Rattle.code_store.specs.Operations.{Does, IsOperationOf, computes, own_of, reached};
+ghost use Rattle.code_store.specs.Operations.{Does, IsOperationOf, computes, reached};
 
 use rv_exec::{Flat, flattened};
 use rv_word::{Cause, Instr, LoadOp, StoreOp, decode};
 use tramp_spec::{Mark, MarkedWord};
 
 /// What a word does under its mark, as one variant.
-#[derive(Drop)]
+#[derive(Clone, Copy, Drop)]
 pub enum Operation {
-    /// A word of the program.
+    /// What the word does in the program. So does each word of the program; any other where it computes, branches or jumps.
     Run(Flat),
-    /// Another word that computes, branches or jumps, which does what it does in the program.
-    Compute(Flat),
     /// A word of the tool loads a doubleword of the bank.
     LoadBank { rd: u32, rs1: u32, offset: u64 },
     /// A word of the tool stores to a doubleword of the bank.
@@ -116,24 +113,9 @@ impl Operation {
         let instr = decode(marked.word);
         match marked.mark {
             Mark::Own => Operation::Run(flattened(instr)),
-            _ if computes(instr) => Operation::Compute(flattened(instr)),
+            _ if computes(instr) => Operation::Run(flattened(instr)),
             Mark::Tool => other(true, instr),
             Mark::Enter | Mark::Leave => other(false, instr),
-        }
-    }
-
-    /// What a word of the program does; none for another word.
-    #[inline(always)]
-    pub(crate) fn own(&self) -> Option<&Flat>
-        ensures { option_copied result ≡ own_of self.now }
-    {
-        match self {
-            Operation::Run(flat) => Some(flat),
-            Operation::Compute(_)
-            | Operation::LoadBank { .. }
-            | Operation::StoreBank { .. }
-            | Operation::NoAccess { .. }
-            | Operation::Stop(_) => None,
         }
     }
 }

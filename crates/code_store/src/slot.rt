@@ -1,7 +1,6 @@
-ghost use Rattle.std.specs.Prelude.{◌≡◌, Some};
-ghost use Rattle.std.specs.Option.{option_copied};
+ghost use Rattle.std.specs.Prelude.{◌≡◌};
 ghost use Rattle.tramp_spec.specs.Marks.{inside_after, is_jump, is_own};
-ghost use Rattle.code_store.specs.Operations.{IsOperationOf, IsOwnOf};
+ghost use Rattle.code_store.specs.Operations.{IsFlatOf, IsOperationOf};
 
 use crate::operation::Operation;
 use rv_exec::Flat;
@@ -47,8 +46,16 @@ impl Slot {
     pub(crate) fn new(marked: MarkedWord) -> Slot
         ensures { result ≡ marked }
     {
+        Slot::with(marked, Operation::new(marked))
+    }
+
+    /// The word with its operation.
+    pub(crate) fn with(marked: MarkedWord, operation: Operation) -> Slot
+        requires { IsOperationOf marked operation }
+        ensures { result ≡ marked }
+    {
         Slot {
-            operation: Operation::new(marked),
+            operation,
             word: marked.word,
             mark: marked.mark,
             keeps_inside: match marked.mark {
@@ -79,12 +86,14 @@ impl Slot {
         &self.operation
     }
 
-    /// What the word does, if it is one of the program.
-    #[inline(always)]
-    pub fn own(&self) -> Option<&Flat>
-        ensures { IsOwnOf (Some self.now) (option_copied result) }
+    /// What the word does, if it is one of the program, and else no instruction.
+    pub(crate) fn flat(&self) -> Flat
+        ensures { IsFlatOf self.now result }
     {
-        self.operation.own()
+        match self.operation {
+            Operation::Run(flat) if self.is_tick() => flat,
+            _ => Flat::Illegal,
+        }
     }
 
     /// Whether the word is a tick of the program.
@@ -92,7 +101,7 @@ impl Slot {
     pub fn is_tick(&self) -> bool
         ensures { result ≡ is_own self.now.mark }
     {
-        self.own().is_some()
+        self.mark == Mark::Own
     }
 
     /// Whether a hart that goes on is inside behind the word.

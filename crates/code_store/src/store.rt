@@ -1,4 +1,4 @@
-ghost use Rattle.std.specs.Prelude.{◌≡◌, false, ◌+◌, ◌-◌, ◌*◌, ◌/◌, ◌<◌, ◌≤◌, ◌^◌, ◌||◌, IfOk, IsTrue, length};
+ghost use Rattle.std.specs.Prelude.{◌≡◌, ℕ, false, ◌+◌, ◌-◌, ◌*◌, ◌/◌, ◌<◌, ◌≤◌, ◌^◌, ◌||◌, IfOk, IsTrue, length};
 ghost use Rattle.std.specs.FinMap.{get, insert, remove};
 ghost use Rattle.std.specs.List.{AllByRecursion};
 ghost use Rattle.std.specs.Option.{option_copied};
@@ -6,10 +6,11 @@ ghost use Rattle.pn_types.specs.Images.{IsImage};
 ghost use Rattle.rv_word.specs.Plain.{program_word};
 ghost use Rattle.tramp_spec.specs.Codes.{fetched_at, is_text_word, is_tool_word, put_words, tool_at};
 ghost use Rattle.code_store.specs.Owners.{owners_with, owners_without};
-ghost use Rattle.code_store.specs.Operations.{IsOwnOf};
+ghost use Rattle.code_store.specs.Operations.{IsFlatAt};
 ghost use Rattle.code_store.specs.Stores.{first_code, IsInToolText};
+ghost use Rattle.code_store.specs.Views.{at_place};
 
-use crate::building::{blank_slots, blank_uses, have_32_bits, own_slots, words};
+use crate::building::{blank_slots, blank_uses, flats_of, have_32_bits, own_slots, words};
 use crate::slot::Slot;
 use crate::span::{Span, place_of};
 use crate::word_use::WordUse;
@@ -27,6 +28,8 @@ pub struct Store {
     /// The program's words, which stay.
     words: Vec<u32>,
     text: Span,
+    /// What the text's words do beside their slots, so that the program's words run one after another by these alone.
+    flats: Vec<Flat>,
     tool: Span,
     /// What the words of the tool text are for.
     uses: Vec<WordUse>,
@@ -44,7 +47,7 @@ impl Model for Store {
 
     ghost view = { λ s. record { program = record { at = s.text.at; words = s.words.items }; code = code_of s.text.at s.text.slots.items s.tool.at s.tool.slots.items s.uses.items; owners = owners_of s.tool.at s.uses.items } };
 
-    ghost invariant = { λ s. FitTogether s.words.items s.text.at s.text.slots.items s.tool.at s.tool.slots.items s.uses.items };
+    ghost invariant = { λ s. FitTogether s.words.items s.text.at s.text.slots.items s.flats.items s.tool.at s.tool.slots.items s.uses.items };
 }
 
 impl Store {
@@ -70,6 +73,7 @@ impl Store {
             at: image.text_at,
             slots: own_slots(alloc, &words)?,
         };
+        let flats = flats_of(alloc, &text.slots)?;
         let end = image.text_at + 4 * words.len() as u64;
         let tool = Span {
             at: end.next_multiple_of(4096),
@@ -79,6 +83,7 @@ impl Store {
         Ok(Store {
             words,
             text,
+            flats,
             tool,
             uses,
         })
@@ -107,15 +112,14 @@ impl Store {
         }
     }
 
-    /// What the word does that a hart outside fetches, if it is one of the program.
+    /// The first address of the text, and what each of its words does that a hart outside fetches: for another word than one of the
+    /// program, no instruction.
     #[inline(always)]
-    pub fn own(&self, pc: u64) -> Option<&Flat>
-        ensures { IsOwnOf (fetched_at self.now.program self.now.code pc false) (option_copied result) }
+    pub fn flats(&self) -> (u64, &[Flat])
+        ensures flats { (pc : ℕ) → IsFlatAt (fetched_at self.now.program self.now.code pc false) (at_place result.0 result.1.now pc) }
+        ensures ends { result.0 + 4 * length result.1.now < 2 ^ 64 }
     {
-        match self.slot(pc, false) {
-            Some(slot) => slot.own(),
-            None => None,
-        }
+        (self.text.at, self.flats.as_slice())
     }
 
     /// The first address of the tool text.
@@ -197,7 +201,9 @@ impl Store {
         requires { place < length self.old.program.words }
         ensures { self.new ≡ record self.old { code = insert self.old.code (self.old.program.at + 4 * place) word } }
     {
-        self.text.slots[place] = Slot::new(word);
+        let slot = Slot::new(word);
+        self.flats[place] = slot.flat();
+        self.text.slots[place] = slot;
     }
 
     /// Puts a word in the place of the tool text's word of this number.

@@ -9,8 +9,8 @@ abbrev pub commands : List CommandName
 commands = Run ∷ Live ∷ Replay ∷ Asm ∷ Points ∷ Plan ∷ Stress ∷ Relog ∷ []
 
 abbrev pub form_of : CommandName → Form
-form_of Run = record { word = codes "run"; places = codes "program" ∷ codes "conf" ∷ []; options = codes "harts" ∷ codes "seed" ∷ codes "quantum" ∷ codes "budget" ∷ codes "bins" ∷ codes "width" ∷ codes "log" ∷ codes "instruments" ∷ [] }
-form_of Live = record { word = codes "live"; places = codes "program" ∷ codes "conf" ∷ []; options = codes "harts" ∷ codes "workers" ∷ codes "quantum" ∷ codes "budget" ∷ codes "bins" ∷ codes "width" ∷ codes "log" ∷ codes "instruments" ∷ [] }
+form_of Run = record { word = codes "run"; places = codes "program" ∷ codes "conf" ∷ []; options = codes "harts" ∷ codes "seed" ∷ codes "quantum" ∷ codes "budget" ∷ codes "bins" ∷ codes "width" ∷ codes "log" ∷ codes "instruments" ∷ codes "start" ∷ [] }
+form_of Live = record { word = codes "live"; places = codes "program" ∷ codes "conf" ∷ []; options = codes "harts" ∷ codes "workers" ∷ codes "quantum" ∷ codes "budget" ∷ codes "bins" ∷ codes "width" ∷ codes "log" ∷ codes "instruments" ∷ codes "start" ∷ [] }
 form_of Replay = record { word = codes "replay"; places = codes "program" ∷ codes "conf" ∷ codes "record" ∷ []; options = [] }
 form_of Asm = record { word = codes "asm"; places = codes "text" ∷ []; options = [] }
 form_of Points = record { word = codes "points"; places = codes "program" ∷ []; options = [] }

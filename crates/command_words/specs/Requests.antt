@@ -1,11 +1,12 @@
 -- What the words ask for.
-use Rattle.std.specs.Prelude.{◌≤◌, ◌<◌, ◌^◌, ℕ, Bool, false, List, [], ◌∷◌, Option, Some, None, codes, option_map, unwrap_or}
-use Rattle.std.specs.Option.{option_and_then}
+use Rattle.std.specs.Prelude.{◌≤◌, ◌<◌, ◌^◌, ℕ, if◌then◌else◌, Bool, false, List, [], ◌∷◌, Option, Some, None, codes, option_map, unwrap_or}
+use Rattle.std.specs.Option.{option_and_then, option_map_or}
 use Rattle.std.specs.Str.{bytes_eq}
 use Rattle.pn_types.specs.Settings.{AreInRange}
 use Rattle.pn_types.specs.declared.limits.TheConstants.{MAX_HARTS, MAX_QUANTUM, MAX_WORKERS}
 use Rattle.pn_types.specs.declared.settings.Settings.{Settings}
-use Rattle.pn_types.specs.declared.settings.Start.TheVariants.{Cold}
+use Rattle.pn_types.specs.declared.settings.Start.{Start}
+use Rattle.pn_types.specs.declared.settings.Start.TheVariants.{Cold, Warm}
 use Rattle.command_words.specs.Grammar.{Text, Given, given_in, taken_of}
 use Rattle.command_words.specs.Commands.{form_of, command_named}
 use Rattle.command_words.specs.Numbers.{number_between, number_given, harts_option, workers_option, seed_option, quantum_option, budget_option, bins_option, width_option, instruments_option}
@@ -18,18 +19,26 @@ use Rattle.command_words.specs.declared.commands.CommandName.TheVariants.{Run, L
 abbrev pub place_in : Given → Text → Text
 place_in given name = unwrap_or (given name) []
 
--- settings of these numbers, where each is told
-abbrev pub settings_told : Option ℕ → Option ℕ → Option ℕ → Option ℕ → Option ℕ → Option Settings
-settings_told harts budget bins width instruments =
-    option_and_then (λ h. option_and_then (λ t. option_and_then (λ b. option_and_then (λ w. option_map (λ i.
-    record { harts = h; budget = t; bins = b; width = w; start = Cold; instruments = i })
-    instruments) width) bins) budget) harts
+-- `cold` or `warm`
+abbrev pub start_named : Text → Option Start
+start_named text = if bytes_eq text (codes "cold") then Some Cold else if bytes_eq text (codes "warm") then Some Warm else None
+
+-- the start that is given, and else warm
+abbrev pub start_given : Given → Option Start
+start_given given = option_map_or start_named (given (codes "start")) (Some Warm)
+
+-- settings of these numbers and this start, where each is told
+abbrev pub settings_told : Option ℕ → Option ℕ → Option ℕ → Option ℕ → Option ℕ → Option Start → Option Settings
+settings_told harts budget bins width instruments start =
+    option_and_then (λ h. option_and_then (λ t. option_and_then (λ b. option_and_then (λ w. option_and_then (λ i. option_map (λ s.
+    record { harts = h; budget = t; bins = b; width = w; start = s; instruments = i })
+    start) instruments) width) bins) budget) harts
 
 -- The settings of a run.
 abbrev pub settings_of : Given → Option Settings
 settings_of given =
     settings_told (number_given given harts_option) (number_given given budget_option) (number_given given bins_option) (number_given given width_option)
-    (number_given given instruments_option)
+    (number_given given instruments_option) (start_given given)
 
 -- ---- requests
 

@@ -30,7 +30,7 @@ const COMMANDS: [CommandName; 8] = [
     CommandName::Relog,
 ];
 
-const RUN_OPTIONS: [&str; 8] = [
+const RUN_OPTIONS: [&str; 9] = [
     "harts",
     "seed",
     "quantum",
@@ -39,9 +39,10 @@ const RUN_OPTIONS: [&str; 8] = [
     "width",
     "log",
     "instruments",
+    "start",
 ];
 
-const LIVE_OPTIONS: [&str; 8] = [
+const LIVE_OPTIONS: [&str; 9] = [
     "harts",
     "workers",
     "quantum",
@@ -50,6 +51,7 @@ const LIVE_OPTIONS: [&str; 8] = [
     "width",
     "log",
     "instruments",
+    "start",
 ];
 
 /// The first of some commands whose word this is.

@@ -1,7 +1,7 @@
 ghost use Rattle.std.specs.Prelude.{◌≡◌, ◌≤◌, MatchResult, IfOk, IfSome, Some, None, map, option_map, string_bytes};
 ghost use Rattle.command_words.specs.Asked.{asked};
 ghost use Rattle.command_words.specs.Numbers.{number_between, number_given};
-ghost use Rattle.command_words.specs.Requests.{place_in, settings_of, run_request, live_request, plan_request, stress_request, request_from, request_of, begins_live, HasRanges};
+ghost use Rattle.command_words.specs.Requests.{place_in, settings_of, start_given, start_named, run_request, live_request, plan_request, stress_request, request_from, request_of, begins_live, HasRanges};
 ghost use Rattle.command_words.specs.Walked.{option_seen};
 ghost use Rattle.pn_types.specs.Settings.{AreInRange};
 
@@ -133,6 +133,29 @@ fn number_given<'a, 'n, G: Given<'a>>(given: &G, option: NumberOption<'n>) -> Op
     }
 }
 
+/// The start of this name.
+fn start_named(text: &str) -> Option<Start>
+    ensures { result ≡ start_named text.now }
+{
+    if text == "cold" {
+        return Some(Start::Cold);
+    }
+    if text == "warm" {
+        return Some(Start::Warm);
+    }
+    None
+}
+
+/// The start that is given, and else warm.
+fn start_given<'a, G: Given<'a>>(given: &G) -> Option<Start>
+    ensures { result ≡ start_given (G.given given.now) }
+{
+    match given.value("start") {
+        Some(text) => start_named(text),
+        None => Some(Start::Warm),
+    }
+}
+
 fn settings<'a, G: Given<'a>>(given: &G) -> Option<Settings>
     ensures settings { result ≡ settings_of (G.given given.now) }
     ensures ranges { IfSome result AreInRange }
@@ -142,12 +165,13 @@ fn settings<'a, G: Given<'a>>(given: &G) -> Option<Settings>
     let bins = number_given(given, BINS)?;
     let width = number_given(given, WIDTH)?;
     let instruments = number_given(given, INSTRUMENTS)?;
+    let start = start_given(given)?;
     Some(Settings {
         harts: harts as u32,
         budget,
         bins: bins as u32,
         width,
-        start: Start::Cold,
+        start,
         instruments: instruments as u32,
     })
 }

@@ -10,7 +10,7 @@ use Rattle.pn_types.specs.declared.plan.Var.{Var}
 use Rattle.rv_word.specs.Memory.{Memory}
 use Rattle.tramp_spec.specs.Slots.{initials}
 use Rattle.tramp_spec.specs.Values.{acted, all_hold, values_behind, values_after}
-use Rattle.frame_walk.specs.declared.open.Open.{Open}
+use Rattle.pn_types.specs.declared.plan.Open.{Open}
 use Rattle.frame_walk.specs.declared.walk_start.WalkStart.{WalkStart}
 use Rattle.frame_walk.specs.Frames.{calls}
 use Rattle.frame_walk.specs.Walks.{walk_of, walk_from}

@@ -9,7 +9,7 @@ use Rattle.rv_word.specs.Memory.{Memory}
 use Rattle.pn_types.specs.declared.plan.Stmt.{Stmt}
 use Rattle.tramp_spec.specs.Values.{values_behind, values_after}
 use Rattle.frame_walk.specs.declared.frame.Frame.{Frame}
-use Rattle.frame_walk.specs.declared.open.Open.{Open}
+use Rattle.pn_types.specs.declared.plan.Open.{Open}
 use Rattle.frame_walk.specs.Frames.{call_before, frame_at, is_text, calls_of, calls}
 use Rattle.frame_walk.specs.Openings.{of_calls}
 use Rattle.frame_walk.specs.Rooms.{IsNarrow, IsSmall, HasRoom}

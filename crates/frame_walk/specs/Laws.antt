@@ -11,7 +11,7 @@ use Rattle.rv_word.specs.Memory.{Memory}
 use Rattle.rv_word.specs.Registers.{reg}
 use Rattle.tramp_spec.specs.Slots.{initials}
 use Rattle.tramp_spec.specs.Values.{values_behind}
-use Rattle.frame_walk.specs.declared.open.Open.{Open}
+use Rattle.pn_types.specs.declared.plan.Open.{Open}
 use Rattle.frame_walk.specs.declared.walk_start.WalkStart.{WalkStart}
 use Rattle.frame_walk.specs.Walks.{Walk, walk_from, start_of, addresses}
 use Rattle.frame_walk.specs.Openings.{opening}

@@ -5,7 +5,7 @@ use Rattle.pn_types.specs.declared.plan.Var.{Var}
 use Rattle.rv_word.specs.Memory.{in_range}
 use Rattle.tramp_spec.specs.Slots.{initials}
 use Rattle.tramp_spec.specs.Values.{values_after}
-use Rattle.frame_walk.specs.declared.open.Open.{Open}
+use Rattle.pn_types.specs.declared.plan.Open.{Open}
 use Rattle.frame_walk.specs.Walks.{Walk}
 
 -- an address lies in the range of an Open

@@ -4,7 +4,7 @@ use Rattle.std.specs.List.{AllByRecursion}
 use Rattle.pn_types.specs.declared.plan.Act.{Act}
 use Rattle.pn_types.specs.declared.plan.Act.TheVariants.{Up, Down, Put, Start, Stop}
 use Rattle.pn_types.specs.declared.plan.Stmt.{Stmt}
-use Rattle.frame_walk.specs.declared.open.Open.{Open}
+use Rattle.pn_types.specs.declared.plan.Open.{Open}
 
 -- an act puts no number of more than 32 bits
 abbrev pub IsNarrow : Act → Type 0

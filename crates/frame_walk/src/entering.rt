@@ -11,8 +11,8 @@ ghost use Rattle.frame_walk.specs.Rooms.{HasRoom, IsSmall};
 
 use crate::acting::pass_all;
 use crate::frame::{call_before, caller_of, frame_at, is_text};
-use crate::open::Open;
 use crate::walk_start::WalkStart;
+use pn_types::Open;
 use rv_mem::Mem;
 
 /// The most frames of a walk.

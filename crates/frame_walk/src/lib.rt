@@ -6,7 +6,6 @@ mod acting;
 mod entering;
 mod frame;
 mod laws;
-mod open;
 mod opening;
 #[cfg(test)]
 mod tests;
@@ -14,6 +13,5 @@ mod walk_start;
 
 pub use frame::Frame;
 pub use laws::{arguments_wait, cold_begins, opens_low, same_starts, walks_end};
-pub use open::Open;
 pub use opening::open_values;
 pub use walk_start::WalkStart;

@@ -8,9 +8,8 @@ ghost use Rattle.frame_walk.specs.Rooms.{IsSmall};
 ghost use Rattle.frame_walk.specs.Walks.{walk_from};
 
 use crate::entering::enter;
-use crate::open::Open;
 use crate::walk_start::WalkStart;
-use pn_types::Var;
+use pn_types::{Open, Var};
 use rv_mem::Mem;
 
 /// Puts what the variables are initially.

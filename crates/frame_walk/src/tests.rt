@@ -6,10 +6,9 @@ ghost use Rattle.std.specs.List.{AllByRecursion};
 ghost use Rattle.pn_types.specs.Images.{IsImage};
 ghost use Rattle.frame_walk.specs.Rooms.{IsSmall};
 
-use crate::open::Open;
 use crate::opening::open_values;
 use crate::walk_start::WalkStart;
-use pn_types::{Act, Cmp, Cond, Image, Left, NoMemory, Segment, Seq, Stmt, Text, Var};
+use pn_types::{Act, Cmp, Cond, Image, Left, NoMemory, Open, Segment, Seq, Stmt, Text, Var};
 use rv_mem::{FIRST_STACK_AT, Mem, STACK_LEN};
 use std::alloc::Global;
 use std::test::Fail;

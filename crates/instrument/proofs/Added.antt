@@ -95,7 +95,7 @@ count_counters zero = refl
 count_counters (suc n) = let r = count_counters n in let e = sum_by-cons slots_of_var counter (counters n) in omega (arith, r, e)
 
 abbrev user : ℕ → ℕ → Instrument
-user at len = record { no = 0; placed = record { vars = counters len; slots = at ∷ []; sites = [] }; state = Placing }
+user at len = record { no = 0; placed = record { vars = counters len; slots = at ∷ []; sites = []; opens = [] }; state = Placing }
 
 used : (space : Rooms) (is : List Instrument) (at len : ℕ) → AreSlotsOf space is → 0 < len → IsLowestRoom space at len → (space.from ≤ at) × (at + len ≤ space.end) → IsSpaceOf slots_of first_slot (bank_len - first_slot) (after_take space at len) (is ++ user at len ∷ [])
 used space is at len k some r w =

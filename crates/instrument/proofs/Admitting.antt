@@ -129,7 +129,7 @@ module _ (first : Core) (s : Scene) (es : List Event) (w : Whole first s es) (pl
     slots = slots_from slot plan.vars
 
     abbrev new : Instrument
-    new = record { no = s.placer.count; placed = record { vars = plan.vars; slots = slots_from slot plan.vars; sites = sites_of s.placer.count after.rooms }; state = Placing }
+    new = record { no = s.placer.count; placed = record { vars = plan.vars; slots = slots_from slot plan.vars; sites = sites_of s.placer.count after.rooms; opens = plan.opens }; state = Placing }
 
     abbrev st : State
     st = record { core = s.core; book = after }
@@ -179,7 +179,7 @@ module _ (first : Core) (s : Scene) (es : List Event) (w : Whole first s es) (pl
     carried_old : (i : Instrument) → In i s.placer.instruments → Carried st plans i
     carried_old i hi =
         let c = o.carried i hi in
-        record { plan = c.plan; is = get_before s.plans (plan ∷ []) i.no c.plan c.is; vars = c.vars; many = c.many; places = c.places; stmts = c.stmts; sites = sites_on i hi i.placed.sites (c.plan).sites c.sites }
+        record { plan = c.plan; is = get_before s.plans (plan ∷ []) i.no c.plan c.is; vars = c.vars; many = c.many; places = c.places; stmts = c.stmts; sites = sites_on i hi i.placed.sites (c.plan).sites c.sites; opens = c.opens }
 
     sites_are : sites_of s.placer.count after.rooms ≡ minis p.ks
     sites_are =
@@ -197,6 +197,7 @@ module _ (first : Core) (s : Scene) (es : List Event) (w : Whole first s es) (pl
       stmts = ok.stmts;
       sites = subst (λ l. SitesHold st new l plan.sites) (sym sites_are)
           (subst (λ (u : State). SitesHold u new (minis p.ks) plan.sites) p.state (news_hold s.placer.count slots p.ks plan.sites (at_of s) w.kept w.neat p.can p.blocks new refl));
+      opens = refl;
     }
 
     shares : (i : Instrument) → In i s.placer.instruments → (q : ℕ) → IsSlotOf (places_of i.placed) q → IsSlotOf (places_of new.placed) q → ⊥

@@ -66,6 +66,7 @@ carried_state st plans n q i c = record {
   places = c.places;
   stmts = c.stmts;
   sites = same i.placed.sites (c.plan).sites c.sites;
+  opens = c.opens;
 }
   where
     same : (ps : List PlacedSite) (qs : List Site) → SitesHold st i ps qs → SitesHold st (with_state n q i) ps qs

@@ -122,7 +122,7 @@ module _ (first : Core) (s : Scene) (es : List Event) (w : Whole first s es) (n 
   )
 
   carried_on : (j : Instrument) → Carried st s.plans j → Carried after s.plans j
-  carried_on j c = record { plan = c.plan; is = c.is; vars = c.vars; many = c.many; places = c.places; stmts = c.stmts; sites = sites_on j j.placed.sites (c.plan).sites c.sites }
+  carried_on j c = record { plan = c.plan; is = c.is; vars = c.vars; many = c.many; places = c.places; stmts = c.stmts; sites = sites_on j j.placed.sites (c.plan).sites c.sites; opens = c.opens }
 
   orderly : Orderly after left s.plans s.placer.count
   orderly =

@@ -99,6 +99,7 @@ carried_on st new m plans i c = record {
   places = c.places;
   stmts = c.stmts;
   sites = sites_on st new m i i.placed.sites (c.plan).sites c.sites;
+  opens = c.opens;
 }
 
 pub orderly_on : (st new : State) (m : Moved st new) (instruments left : List Instrument) (plans : List Plan) (count : ℕ) → Orderly st instruments plans count

@@ -153,6 +153,7 @@ force_always image harts budget limit acts p c =
               sites = carries_sites s i i.placed.sites (w.linked i h e)
                   (λ q hq. site_room i.no s.placer.book.rooms q (subst (λ u. In q u) (w.orderly.sites i h (ap is_leaving e)) hq))
                   i.placed.sites (k.plan).sites (λ q hq. hq) k.sites;
+              opens = k.opens;
             },
           );
     }

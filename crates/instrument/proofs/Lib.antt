@@ -40,11 +40,13 @@ pub mod Holdings
 pub mod Fitted
 pub mod Slotted
 pub mod Listed
+pub mod Armable
 pub mod Texts
 pub mod Sites
 pub mod RoomsTaken
 pub mod Grown
 pub mod Added
+pub mod SameOpens
 pub mod Ready
 pub mod Owners
 pub mod Memoryless

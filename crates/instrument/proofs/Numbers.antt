@@ -87,7 +87,7 @@ pub record Taken (p : Placements) (plan : Plan) (q : Placements) : Type 0 where
 taken : (p : Placements) (plan : Plan) (slot : ℕ) (r : Result Book Refused) (q : Placements) → with_instrument plan slot r p ≡ Ok q → Taken p plan q
 taken p plan slot (Err r) q e = absurd cc
 taken p plan slot (Ok book) q e = record {
-  i = record { no = p.count; placed = record { vars = plan.vars; slots = slots_from slot plan.vars; sites = sites_of p.count book.rooms }; state = Placing };
+  i = record { no = p.count; placed = record { vars = plan.vars; slots = slots_from slot plan.vars; sites = sites_of p.count book.rooms; opens = plan.opens }; state = Placing };
   no = refl;
   state = refl;
   instruments = sym (ap (listed p) e);

@@ -13,11 +13,13 @@ use Rattle.machine.specs.Cores.{In}
 use Rattle.instrument.specs.Books.{Book}
 use Rattle.instrument.specs.Freed.{AreHere}
 use Rattle.instrument.specs.Listed.{AreNumberedBelow}
+use Rattle.instrument.specs.Opens.{is_open}
 use Rattle.instrument.specs.Needs.{Need, need_of, is_var, is_need, sites_in, without}
 use Rattle.instrument.specs.Placers.{HasMemory, AreAdmitted, IsPlacer}
 use Rattle.instrument.specs.Rosters.{RosterData}
 use Rattle.instrument.specs.ToolTexts.{ToolTextData}
 use Rattle.instrument.specs.declared.instrument.Instrument.{Instrument}
+use Rattle.instrument.proofs.SameOpens.{open_decides}
 
 -- ---- the same need
 
@@ -45,15 +47,18 @@ var_own v w e =
 
 need_same : (n m : Need) → is_need n m ≡ true → n ≡ m
 need_same n m e =
-    let p = and_parts (pointwise is_var n.vars m.vars) (pointwise (λ v w. v == w) n.words m.words) e in
+    let p = and_parts (pointwise is_var n.vars m.vars) (pointwise (λ v w. v == w) n.words m.words && pointwise is_open n.opens m.opens) e in
+    let q = and_parts (pointwise (λ v w. v == w) n.words m.words) (pointwise is_open n.opens m.opens) p.1 in
     let vars = (pointwise_decides (λ v w. (var_same v w, var_own v w)) n.vars m.vars).0 p.0 in
-    let words = (pointwise_decides number_decides n.words m.words).0 p.1 in
-    λ i. record { vars = vars i; words = words i }
+    let words = (pointwise_decides number_decides n.words m.words).0 q.0 in
+    let opens = (pointwise_decides open_decides n.opens m.opens).0 q.1 in
+    λ i. record { vars = vars i; words = words i; opens = opens i }
 
 need_own : (n m : Need) → n ≡ m → is_need n m ≡ true
 need_own n m e =
     and_from _ _ ((pointwise_decides (λ v w. (var_same v w, var_own v w)) n.vars m.vars).1 (ap (λ (u : Need). u.vars) e))
-    ((pointwise_decides number_decides n.words m.words).1 (ap (λ (u : Need). u.words) e))
+    (and_from _ _ ((pointwise_decides number_decides n.words m.words).1 (ap (λ (u : Need). u.words) e))
+    ((pointwise_decides open_decides n.opens m.opens).1 (ap (λ (u : Need). u.opens) e)))
 
 -- ---- a kit is found
 

@@ -8,6 +8,7 @@ use Rattle.machine.proofs.Lists.{in_map}
 use Rattle.pn_types.specs.declared.placed.Placed.{Placed}
 use Rattle.pn_types.specs.declared.limits.TheConstants.{BANK_LEN, FIRST_SLOT}
 use Rattle.instrument.specs.Admission.{slot_count, slots_from}
+use Rattle.instrument.specs.Armable.{AreArmable}
 use Rattle.instrument.specs.Listed.{AreInOrder}
 use Rattle.instrument.specs.Spaces.{first_or, slots_of, slots_of_placed, IsRow, AreSlotsOf, IsRoster}
 use Rattle.instrument.specs.declared.instrument.Instrument.{Instrument}
@@ -43,6 +44,7 @@ roster_new space instruments len capacity e f g = record {
     rows = λ i h. absurd h;
   }));
   order = subst AreInOrder (sym f) tt;
+  armable = subst AreArmable (sym f) (λ i h. absurd h);
   memory = omega (arith, g);
 }
 

@@ -52,6 +52,7 @@ pub record Carried (st : State) (plans : List Plan) (i : Instrument) : Type 0 wh
   pub places : ArePlaces (places_of i.placed)
   pub stmts : (q : Site) → In q plan.sites → AreStmtsOf plan.vars q.stmts
   pub sites : SitesHold st i i.placed.sites plan.sites
+  pub opens : i.placed.opens ≡ plan.opens
 
 pub record Orderly (st : State) (instruments : List Instrument) (plans : List Plan) (count : ℕ) : Type 0 where
   pub many : length plans ≡ count

@@ -6,9 +6,11 @@ pub mod Agendas
 pub mod Ledgers
 pub mod Spaces
 pub mod Listed
+pub mod Armable
 pub mod Rosters
 pub mod ToolTexts
 pub mod Shown
+pub mod Opens
 pub mod Needs
 pub mod Placers
 pub mod Handing

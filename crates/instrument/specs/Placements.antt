@@ -81,13 +81,13 @@ abbrev pub is_over : Option ℕ → ℕ → Bool
 is_over None cost = false
 is_over (Some limit) cost = nat_lt limit cost
 
--- the instrument with these slots, whose sites have their rooms in the book
+-- the instrument with these slots, whose sites have their rooms in the book, and with the plan's Opens
 abbrev pub with_instrument : Plan → ℕ → Result Book Refused → Placements → Result Placements Refused
 with_instrument plan slot (Err refused) p = Err refused
 with_instrument plan slot (Ok book) p =
     Ok (record p {
       book = book;
-      instruments = p.instruments ++ record { no = p.count; placed = record { vars = plan.vars; slots = slots_from slot plan.vars; sites = sites_of p.count book.rooms }; state = Placing } ∷ [];
+      instruments = p.instruments ++ record { no = p.count; placed = record { vars = plan.vars; slots = slots_from slot plan.vars; sites = sites_of p.count book.rooms; opens = plan.opens }; state = Placing } ∷ [];
       count = p.count + 1;
     })
 

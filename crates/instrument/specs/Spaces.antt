@@ -9,6 +9,7 @@ use Rattle.tramp_spec.specs.Codes.{tool_at}
 use Rattle.tool_space.specs.Rooms.{Rooms, is_within, is_free}
 use Rattle.machine.specs.Cores.{In}
 use Rattle.instrument.specs.Admission.{slot_count, slots_from}
+use Rattle.instrument.specs.Armable.{AreArmable}
 use Rattle.instrument.specs.Fits.{room_for}
 use Rattle.instrument.specs.Listed.{AreInOrder}
 use Rattle.instrument.specs.declared.instrument.Instrument.{Instrument}
@@ -86,10 +87,11 @@ pub record AreSlotsOf (space : Rooms) (instruments : List Instrument) : Type 0 w
 
 -- ---- the parts of a placer
 
--- The space is of the instruments' slots, the instruments are in order, and there is memory for so many more.
+-- The space is of the instruments' slots, the instruments are in order and can be armed, and there is memory for so many more.
 pub record IsRoster (space : Rooms) (instruments : List Instrument) (len capacity room : ℕ) : Type 0 where
   pub slots : AreSlotsOf space instruments
   pub order : AreInOrder instruments
+  pub armable : AreArmable instruments
   pub memory : len + room ≤ capacity
 
 -- no word is of two rooms, and each room is whole

@@ -44,7 +44,7 @@ pub fn place(
     requires new { placements.sites_of number.n text.old.book.rooms ≡ [] }
     requires kit { kit ≡ need_of plan.now }
     ensures ok { OnOk result (admission.with_sites text.old.program number.n (admission.slots_from first plan.now.vars) plan.now.sites text.old.book ≡ Ok text.new.book) }
-    ensures instrument { IfOk result (λ i. i ≡ record { no = number.n; placed = record { vars = plan.now.vars; slots = admission.slots_from first plan.now.vars; sites = placements.sites_of number.n text.new.book.rooms }; state = Placing }) }
+    ensures instrument { IfOk result (λ i. i ≡ record { no = number.n; placed = record { vars = plan.now.vars; slots = admission.slots_from first plan.now.vars; sites = placements.sites_of number.n text.new.book.rooms; opens = plan.now.opens }; state = Placing }) }
     ensures refused { IfErr result (λ refused. admission.with_sites text.old.program number.n (admission.slots_from first plan.now.vars) plan.now.sites text.old.book ≡ Err refused) }
     ensures unchanged { IfErr result (λ refused. text.new.book ≡ text.old.book) }
     ensures program { text.new.program ≡ text.old.program }
@@ -52,7 +52,12 @@ pub fn place(
     ensures takes_left { text.old.takes ≤ text.new.takes + 2 * length plan.now.sites }
     ensures entries_left { text.old.entries ≤ text.new.entries + 7 * length plan.now.sites }
 {
-    let Kit { vars, slots, sites } = kit;
+    let Kit {
+        vars,
+        slots,
+        sites,
+        opens,
+    } = kit;
     let slots = slots_from(slots, first, vars.as_slice());
     let sites = text.place_sites(number.n, slots.as_slice(), plan.sites.as_slice(), sites)?;
     Ok(Instrument {
@@ -61,6 +66,7 @@ pub fn place(
             vars: Seq::from_vec(vars),
             slots: Seq::from_vec(slots),
             sites: Seq::from_vec(sites),
+            opens,
         },
         state: State::Placing,
     })

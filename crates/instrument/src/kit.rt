@@ -5,9 +5,10 @@ ghost use Rattle.std.specs.Cmp.Lexicographic.{pointwise};
 ghost use Rattle.prim_code.specs.Counts as counts;
 ghost use Rattle.instrument.specs.Needs as needs;
 
+use crate::opens::{are_opens, copy_opens};
 use crate::site_memory::SiteMemory;
 use crate::slots::copy_vars;
-use pn_types::{NoMemory, Plan, Var};
+use pn_types::{NoMemory, Open, Plan, Seq, Var};
 use std::alloc::Global;
 use std::marker::Model;
 
@@ -35,8 +36,8 @@ fn are_vars(ones: &[Var], others: &[Var]) -> bool
     true
 }
 
-/// The memory that the admission of a plan needs for the plan alone: its variables, copied, room for their slots, and the memory
-/// of its sites. Contracts see the need that it meets.
+/// The memory that the admission of a plan needs for the plan alone: its variables and its Opens, copied, room for slots, and the
+/// memory of its sites. Contracts see the need that it meets.
 #[derive(Drop)]
 pub struct Kit {
     /// The variables.
@@ -45,6 +46,8 @@ pub struct Kit {
     pub slots: Vec<u32>,
     /// The memory of the sites.
     pub sites: SiteMemory,
+    /// The Opens.
+    pub opens: Seq<Open>,
 }
 
 impl Model for Kit {
@@ -53,7 +56,7 @@ impl Model for Kit {
 
     ghost Value = { Need };
 
-    ghost view = { λ k. record { vars = k.vars.items; words = k.sites } };
+    ghost view = { λ k. record { vars = k.vars.items; words = k.sites; opens = k.opens } };
 
     ghost invariant = { λ k. (k.slots.items ≡ []) × (length k.vars.items ≤ vec_capacity k.slots) };
 }
@@ -73,6 +76,7 @@ impl Kit {
             vars: copy_vars(alloc, vars)?,
             slots: Vec::with_capacity(alloc, vars.len())?,
             sites: SiteMemory::new(alloc, plan.sites.as_slice())?,
+            opens: copy_opens(alloc, plan.opens.as_slice())?,
         })
     }
 
@@ -90,5 +94,6 @@ impl Kit {
     {
         are_vars(plan.vars.as_slice(), self.vars.as_slice())
             && self.sites.is_for(plan.sites.as_slice())
+            && are_opens(plan.opens.as_slice(), self.opens.as_slice())
     }
 }

@@ -20,6 +20,7 @@ mod leaving;
 mod ledger;
 mod memory;
 mod number;
+mod opens;
 mod placer;
 mod placing;
 mod program;

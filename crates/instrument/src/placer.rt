@@ -7,6 +7,7 @@ ghost use Rattle.pn_types.specs.declared.plan.Site.{Site};
 ghost use Rattle.prim_code.specs.Counts as table;
 ghost use Rattle.prim_code.specs.Named.{AreBelow};
 ghost use Rattle.instrument.specs.Admission as admission;
+ghost use Rattle.instrument.specs.Armable.{IsArmable};
 ghost use Rattle.instrument.specs.Laws.{IsPlaced};
 ghost use Rattle.instrument.specs.Needs.{need_of, without};
 ghost use Rattle.instrument.specs.Placements as placements;
@@ -90,10 +91,11 @@ impl Placer {
         self.roster.instruments().len() >= self.limit as usize
     }
 
-    /// Where an instrument acts that isn't gone.
+    /// Where an instrument acts that isn't gone. It can be armed.
     pub fn placed(&self, number: InstrumentNo) -> &Placed
         requires { placements.state_of self.now.placements number.n ≡ Gone → ⊥ }
-        ensures { option_map (λ i. i.placed) (placements.instrument_at self.now.placements number.n) ≡ Some result.now }
+        ensures placed { option_map (λ i. i.placed) (placements.instrument_at self.now.placements number.n) ≡ Some result.now }
+        ensures armable { IsArmable result.now.vars result.now.opens }
     {
         match self.roster.placed(number) {
             Some(placed) => placed,
@@ -223,6 +225,7 @@ impl Placer {
         requires named { (s : Site) → In s plan.now.sites → AreBelow (length plan.now.vars) s.stmts }
         requires words { table.predicted plan.now < 2 ^ 32 }
         requires slots { admission.slot_count plan.now.vars < 2 ^ 32 }
+        requires armable { IsArmable plan.now.vars plan.now.opens }
         ensures number { IfOk result (λ number. number.n ≡ self.old.placements.count) }
         ensures ok { OnOk result (placements.admission self.old.placements plan.now cost ≡ Ok self.new.placements) }
         ensures refused { IfErr result (λ refused. (refused ≡ NoMemory) ⊎ (placements.admission self.old.placements plan.now cost ≡ Err refused)) }

@@ -326,7 +326,7 @@ module _ (o : Opening) (n : ℕ) (plan : Plan) (c : Course) (p : IsProgram o.ima
       let e : Some k.0 ≡ Some plan = sym (stay.plans i.no k.0 k.1) ∙ (ap (slice_get (scene_at o (to_later n c)).plans) found.1 ∙ r.planned) in
       let q : k.0 ≡ plan = cc in
       let a : Carries (after d (events.Arm i.placed)) i.placed plan = subst (Carries (after d (events.Arm i.placed)) i.placed) q (subst (λ (s : Scene). Carries s.core i.placed k.0) arming_is k.2) in
-      let b : Carries d i.placed plan = record { vars = a.vars; many = a.many; places = a.places; sites = carries_before d i.placed (i.placed).slots (i.placed).sites plan.sites a.sites } in
+      let b : Carries d i.placed plan = record { vars = a.vars; many = a.many; places = a.places; sites = carries_before d i.placed (i.placed).slots (i.placed).sites plan.sites a.sites; opens = a.opens } in
       subst (λ x. Carries (replay (events_of c.before opened) begun) x plan) placed_is (subst (λ x. Carries x i.placed plan) before_core b)
 
   -- ---- what is read

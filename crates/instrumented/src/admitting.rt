@@ -5,6 +5,7 @@ ghost use Rattle.pn_types.specs.declared.plan.Plan.{Plan};
 ghost use Rattle.machine.specs.Cores.{In};
 ghost use Rattle.prim_code.specs.Counts as table;
 ghost use Rattle.instrument.specs.Admission.{slot_count};
+ghost use Rattle.instrument.specs.Armable.{IsArmable};
 ghost use Rattle.instrument.specs.Needs.{need_of, sites_in, without};
 ghost use Rattle.instrument.specs.Placements.{admission};
 ghost use Rattle.instrument.specs.Scenes.{Admits, IsPlanFor};
@@ -63,6 +64,7 @@ impl InstrumentedMachine {
         requires plan { IsPlanFor self.old.state.core.program plan.now }
         requires words { table.predicted plan.now < 2 ^ 32 }
         requires slots { slot_count plan.now.vars < 2 ^ 32 }
+        requires armable { IsArmable plan.now.vars plan.now.opens }
         requires ready { In (need_of plan.now) self.old.ready }
         ensures number { IfOk result (λ number. number.n ≡ self.old.state.placer.count) }
         ensures ok { OnOk result (admission self.old.state.placer plan.now cost ≡ Ok self.new.state.placer) }

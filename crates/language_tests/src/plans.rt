@@ -46,6 +46,22 @@ fn print_sites(rt: &impl Print, plan: &Plan) -> io::Result<()> {
     Ok(())
 }
 
+/// Prints the ranges of the procedures that are told, and how many statements each has.
+fn print_opens(rt: &impl Print, plan: &Plan) -> io::Result<()> {
+    for range in plan.opens.as_slice() {
+        let start = range.start;
+        let len = range.len;
+        let count = range.stmts.as_slice().len();
+        println!(rt; "open {start:#x} length {len} statements {count}")?;
+    }
+    Ok(())
+}
+
+fn print_parts(rt: &impl Print, plan: &Plan) -> io::Result<()> {
+    print_sites(rt, plan)?;
+    print_opens(rt, plan)
+}
+
 /// A metric at a focus of a program.
 #[derive(Clone, Copy)]
 struct Asked<'a> {
@@ -75,7 +91,7 @@ fn print_planned(
         &POINTS,
         &index,
     ) {
-        Ok(plan) => print_sites(rt, &plan),
+        Ok(plan) => print_parts(rt, &plan),
         Err(fault) => println!(rt; "{fault:?}"),
     }
 }

@@ -8,10 +8,11 @@ use Rattle.rv_word.specs.Plain.{Words, PlainHart, Plain}
 use Rattle.tramp_spec.specs.Banks.{bank_len}
 use Rattle.tramp_spec.specs.Harts.{Hart}
 use Rattle.tramp_spec.specs.Slots.{Place, set_place, set_places, places_of}
+use Rattle.frame_walk.specs.Openings.{opening}
+use Rattle.frame_walk.specs.Walks.{walk_now}
 use Rattle.machine.specs.Cores.{Core}
 use Rattle.machine.specs.Effects.{armed}
 use Rattle.machine.specs.Events.{IsQuiet}
-use Rattle.machine.specs.Openings.{opening_now}
 use Rattle.machine.proofs.Lists.{length_slice_set}
 use Rattle.machine.proofs.Invariant.{Piece, Outside, InBase, InMini, Dynamic, Inv}
 
@@ -56,5 +57,5 @@ arms c s i quiet v =
           let q = get_map (armed c i) c.harts h x ex in
           let d = v.harts h q.0 y q.1 ey in
           subst (λ (z : Hart). Dynamic c.program c.budget v.ps z y) (sym q.2)
-          (arms_hart c.program c.budget v.ps (set_places (places_of i) (opening_now i.vars c.prog q.0) (q.0).ticks (q.0).bank) q.0 y (quiet h q.0 q.1) (length_places (places_of i) (opening_now i.vars c.prog q.0) (q.0).ticks (q.0).bank ∙ d.bank) d);
+          (arms_hart c.program c.budget v.ps (set_places (places_of i) (opening i.opens (walk_now c.prog q.0) i.vars) (q.0).ticks (q.0).bank) q.0 y (quiet h q.0 q.1) (length_places (places_of i) (opening i.opens (walk_now c.prog q.0) i.vars) (q.0).ticks (q.0).bank ∙ d.bank) d);
     }

@@ -14,6 +14,8 @@ use Rattle.tramp_spec.specs.Marks.{tool}
 use Rattle.tramp_spec.specs.Slots.{places_of, set_places}
 use Rattle.tramp_spec.specs.Statements.{body_of}
 use Rattle.tramp_spec.specs.declared.mark.MarkedWord.{MarkedWord}
+use Rattle.frame_walk.specs.Openings.{opening}
+use Rattle.frame_walk.specs.Walks.{walk, walk_now}
 use Rattle.prim_code.specs.Fitting.{AreStmtsOf, IsMeasurable}
 use Rattle.prim_code.proofs.Listing.{length_places}
 use Rattle.machine.specs.Cores.{In, Row, Live, Core, is_current}
@@ -21,14 +23,14 @@ use Rattle.machine.specs.Effects.{after, armed}
 use Rattle.machine.specs.Events.{Arm, MayArm, IsEntered}
 use Rattle.machine.specs.Instruments.{words_at, body_in, HasBody, CarriesSites, Carries, Spares, IsSpared}
 use Rattle.machine.specs.Measures.{site_at, opened}
-use Rattle.machine.specs.Openings.{opening, opening_now}
 use Rattle.machine.proofs.Arming.{arms, get_map}
 use Rattle.machine.proofs.Force.{Fits, Mine, Ready, Reads}
 use Rattle.machine.proofs.ForceEvents.{Known}
 use Rattle.machine.proofs.Homes.{piece_of, row_in, one_block, mini_shape, base_shape}
 use Rattle.machine.proofs.Invariant.{Piece, IsBase, Linked, BaseShape, MiniShape, Static, Door, Inv}
 use Rattle.machine.proofs.Lists.{find_gives, find_finds, Stands}
-use Rattle.machine.proofs.Opened.{arming_sets, length_initials, initials_low, AreWithin}
+use Rattle.machine.proofs.Opened.{arming_sets, AreWithin}
+use Rattle.machine.proofs.Openings.{opens_far_below, same_opening}
 use Rattle.machine.proofs.Told.{Stand, starts}
 
 -- ---- bodies, in the code
@@ -223,20 +225,17 @@ module _ (c : Core) (s : Plain) (v : Inv c s) (i : Placed) (plan : Plan) (may : 
 
   -- ---- the slots
 
-  -- the variables open on the patched machine as they do on the program
-  same_opening : (h : ℕ) (x : Hart) → opening_now i.vars c.prog x ≡ opening plan.vars s h
-  same_opening h x = ap (λ vars. opening vars s h) k.vars
-
   stands : (cap : c.budget < 2 ^ 58) (h : ℕ) (x : Hart) (y : PlainHart) → slice_get c.harts h ≡ Some x → slice_get s.harts h ≡ Some y → y.ticks ≤ c.budget
-      → Stand i c.budget (opened plan s h) (set_places (places_of i) (opening_now i.vars c.prog x) x.ticks x.bank) x.ticks
+      → Stand i c.budget (opened plan s h) (set_places (places_of i) (opening i.opens (walk_now c.prog x) i.vars) x.ticks x.bank) x.ticks
   stands cap h x y ex ey low =
       let d = v.harts h x y ex ey in
       let t = d.ticks in
       let spare = starts (c.budget - x.ticks) in
-      let values = opening plan.vars s h in
-      let long : length (opening plan.vars s h) ≡ length i.vars = length_initials plan.vars ∙ ap length (sym k.vars) in
-      let r = arming_sets (places_of i) values x.bank spare x.ticks k.places (long ∙ sym (length_places i.slots i.vars k.many)) d.bank (omega arith) (initials_low plan.vars spare (omega arith) m.narrow) in
-      subst (λ n. Stand i c.budget (opened plan s h) (set_places (places_of i) n x.ticks x.bank) x.ticks) (sym (same_opening h x))
+      let values = opening plan.opens (walk s h) plan.vars in
+      let below = opens_far_below plan m s h in
+      let long : length (opening plan.opens (walk s h) plan.vars) ≡ length i.vars = below.many ∙ ap length (sym k.vars) in
+      let r = arming_sets (places_of i) values x.bank spare x.ticks k.places (long ∙ sym (length_places i.slots i.vars k.many)) d.bank (omega arith) (below.spare spare (omega arith)) in
+      subst (λ n. Stand i c.budget (opened plan s h) (set_places (places_of i) n x.ticks x.bank) x.ticks) (sym (same_opening c s v i plan k h x y ex ey (may.quiet h x ex)))
       (record { size = long; slots = r.stand; runs = λ p e z. r.timers 0 p e z })
 
   pub arms_known : c.budget < 2 ^ 58 → AreWithin c.budget s → Known i plan (families_in v.ps) (ages_in v.ps) (after c (Arm i)) s (λ h. opened plan s h)

@@ -15,13 +15,14 @@ use Rattle.tramp_spec.specs.Marks.{tool}
 use Rattle.tramp_spec.specs.Slots.{Place, places_of, IsSlotOf, set_place, set_places}
 use Rattle.tramp_spec.specs.declared.block.Block.{Block}
 use Rattle.tramp_spec.specs.declared.mark.MarkedWord.{MarkedWord}
+use Rattle.frame_walk.specs.Openings.{opening}
+use Rattle.frame_walk.specs.Walks.{walk_now}
 use Rattle.prim_code.specs.Standing.{SameSlots}
 use Rattle.machine.specs.Cores.{In, Row, Status, Live, Retired, Core, is_current}
 use Rattle.machine.specs.Effects.{after, owned, armed, at_set, retired_at, is_kept, written, mini_linked, point_linked, point_unlinked}
 use Rattle.machine.specs.Events.{Event, Turn, Write, LinkMini, UnlinkMini, LinkPoint, UnlinkPoint, Free, Arm, Sample, May, MayWrite, MayLinkMini, MayLinkPoint, HasMini, IsQuiet, is_linked, StandsIn}
 use Rattle.machine.specs.Instruments.{Spares, Lets, AllLet, body_of_block}
 use Rattle.machine.specs.Measures.{Level, level, passed, passed_by}
-use Rattle.machine.specs.Openings.{opening_now}
 use Rattle.machine.specs.Replays.{replay, Legal, owns}
 use Rattle.machine.specs.Turns.{fetched, may_turn, turn_by, put_back, ticks_by, turn_alone}
 use Rattle.machine.proofs.Adding.{Wrote, write}
@@ -185,7 +186,7 @@ module _ (i : Placed) (plan : Plan) (families ages : ℕ → ℕ) where
           reads = λ h x y ex ey.
               let o = get_map (armed c j) c.harts h x ex in
               let z = o.0 in
-              let values = opening_now j.vars c.prog z in
+              let values = opening j.opens (walk_now c.prog z) j.vars in
               let stand = quiet_reads h z y o.1 ey (quiet h z o.1) in
               let same : SameSlots (places_of i) z.bank (set_places (places_of j) values z.ticks z.bank) = λ q sq. set_leaves (places_of j) values z.ticks q z.bank (λ r. apart q sq r) in
               subst (λ (u : Hart). Reads i plan families ages c.program c.budget (k.inv).ps u y (v h)) (sym o.2)

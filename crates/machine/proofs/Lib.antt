@@ -40,6 +40,7 @@ pub mod ForceTurns
 pub mod ForceKeeping
 pub mod ForceEvents
 pub mod Opened
+pub mod Openings
 pub mod ForceArming
 pub mod Readings
 pub mod LoopLinked

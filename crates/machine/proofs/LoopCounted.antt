@@ -1,6 +1,6 @@
 -- Three rounds of the loop, turn by turn.
 use Rattle.std.proofs.Common.{◌≡◌, ℕ, zero, suc, ◌+◌, ◌%◌, ◌^◌, List, [], ◌∷◌, ◌++◌, None, refl, sym, ap, ◌∙◌, subst, inl, inr}
-use Rattle.std.specs.Prelude.{Bool, true, false, replicate, slice_set, unwrap_or, nat_lt}
+use Rattle.std.specs.Prelude.{Bool, true, false, replicate, slice_index, slice_set, unwrap_or, nat_lt}
 use Rattle.pn_types.specs.declared.placed.PlacedSite.{PlacedSite}
 use Rattle.rv_word.specs.Exec.{Prog, action, perform}
 use Rattle.rv_word.specs.Registers.{reg, with_reg}
@@ -14,15 +14,18 @@ use Rattle.tramp_spec.specs.Jumps.{jump_word}
 use Rattle.tramp_spec.specs.Marks.{tool}
 use Rattle.tramp_spec.specs.Statements.{body_of}
 use Rattle.tramp_spec.specs.Steps.{perform_on}
+use Rattle.frame_walk.specs.Walks.{walk}
+use Rattle.frame_walk.proofs.Waits.{cold_begins}
 use Rattle.machine.specs.Cores.{Core, Row, Live, In, first_hart}
 use Rattle.machine.specs.Effects.{after, owned}
 use Rattle.machine.specs.Events.{Event, Turn, Arm, May, MayArm, HasMini, IsEntered, IsQuiet}
 use Rattle.machine.specs.Instruments.{Carries, InForce, IsSpared, AllLet, body_in}
-use Rattle.machine.specs.Measures.{measure}
+use Rattle.machine.specs.Measures.{difference, level, measure}
 use Rattle.machine.specs.LoopCounted.{loop, loop_core, count_up, rounds, counter, linking, three_rounds, LoopCounted}
 use Rattle.machine.specs.Readings.{readings}
 use Rattle.machine.specs.Replays.{replay, Legal, owns}
 use Rattle.machine.specs.Turns.{turn}
+use Rattle.machine.proofs.Openings.{armed_cold}
 use Rattle.machine.proofs.Replaying.{replay-append, owns-append, legal-append}
 use Rattle.std.proofs.lemmas.Bool.{true≢false}
 use Rattle.machine.proofs.LoopLinked.{program, measurable, bank_is, places, base_row, mini_row, linked, linked_code, linking_legal, Stand, stand}
@@ -153,7 +156,7 @@ bank_so = ap (λ n. replicate n 0) bank_is.1
 
 armed_so : after (linked 1000) (Arm counter) ≡ with_bank (replicate bank_len 0)
 unfolding body_of
-armed_so = refl
+armed_so = ap (λ (x : Hart). record (linked 1000) { harts = x ∷ [] }) (armed_cold (linked 1000) counter (first_hart (start_hart loop 1 0)) refl)
 
 begins : after (linked 1000) (Arm counter) ≡ core linked_code (start loop 1).prog (hart rest 0x10000 0 0 false 0 0)
 unfolding with_reg
@@ -188,6 +191,7 @@ carries = record {
   many = refl;
   places = places;
   sites = (refl, record { row = mini_row; listed = inr (inl refl); mini = refl; point = refl; at = refl; is = body }, tt);
+  opens = refl;
 }
   where
     body : body_in linked_code mini_row ≡ body_of (2 ∷ []) count_up
@@ -218,7 +222,9 @@ at_end = replay-append linking (Arm counter ∷ replicate 30 (Turn 0)) (loop_cor
 
 measured : measure (program_of loop) rounds (0 ∷ []) 0 0 3 (0 ∷ 0 ∷ 0 ∷ []) (start loop 1) ≡ 3
 unfolding decode_of action perform reg with_reg
-measured = refl
+measured =
+    ap (λ values. (difference (slice_index values 0) (slice_index (level (program_of loop) rounds 0 (0 ∷ 0 ∷ 0 ∷ []) (start loop 1) (record { values = values; runs = 0 })).values 0) + 0) % 2 ^ 64)
+    (cold_begins (walk (start loop 1) 0) rounds.vars)
 
 pub loop_counted : LoopCounted
 unfolding in_force

@@ -46,6 +46,8 @@ measurable = record {
   apart = (tt, tt);
   few = (omega arith, tt);
   fitting = ((record { short = omega arith; conds = tt; act = refl }, tt), tt);
+  opens_few = tt;
+  opens_fitting = tt;
 }
 
 -- the bank's length is that of four doublewords and some more

@@ -1,17 +1,15 @@
 -- What arming sets, and with how many ticks.
 use Rattle.std.proofs.Common.{◌≡◌, ℕ, zero, suc, ◌+◌, ◌-◌, ◌%◌, ◌^◌, ◌<◌, ◌≤◌, List, [], ◌∷◌, length, Option, Some, None, refl, sym, ap, ◌∙◌, subst, arith, ⊎_elim}
 use Rattle.std.specs.Prelude.{Bool, true, false, if◌then◌else◌, IsTrue, is_none, slice_get, slice_set, slice_index, ◌==◌, nat_lt}
-use Rattle.std.specs.List.{AllByRecursion}
 use Rattle.std.proofs.lemmas.Bool.{ltb-true, and_parts, cases_eq}
 use Rattle.std.proofs.lemmas.List.{get_or-set_same, get_or-set_other, length-set}
-use Rattle.pn_types.specs.declared.plan.Var.{Var}
 use Rattle.rv_word.specs.Plain.{Words, PlainHart, Plain, Alone, plain, turn_of, hart_after, may_go, can}
 use Rattle.rv_word.specs.Plain as plain
 use Rattle.rv_word.specs.declared.outcome.Next.{Next}
 use Rattle.rv_word.specs.declared.outcome.Next.TheVariants.{Go, Stop}
 use Rattle.rv_exec.specs.Run.{run_from, LegalFrom}
 use Rattle.tramp_spec.specs.Banks.{bank_len}
-use Rattle.tramp_spec.specs.Slots.{Place, width, IsSlotOf, ArePlaces, set_place, set_places, initials, running, read_place}
+use Rattle.tramp_spec.specs.Slots.{Place, width, IsSlotOf, ArePlaces, set_place, set_places, running, read_place}
 use Rattle.prim_code.specs.Standing.{HasValue, StandFor}
 use Rattle.prim_code.proofs.Keeping.{stays, reads}
 use Rattle.machine.specs.Arming.{ArmingSets}
@@ -86,16 +84,6 @@ arming_sets (p ∷ ps) (v ∷ values) bank spare ticks a same size l low =
         → (n : ℕ) (q : Place) → slice_get (p ∷ ps) n ≡ Some q → q.timer ≡ true → read_place true q.slot ticks next ≡ 0
     timer_or p ps ticks next h t zero q e z = let s : p ≡ q = cc in ap (λ (u : Place). read_place true u.slot ticks next) (sym s) ∙ h (ap (λ (u : Place). u.timer) s ∙ z)
     timer_or p ps ticks next h t (suc n) q e z = t n q e z
-
--- ---- opening values
-
-pub length_initials : (vars : List Var) → length (initials vars) ≡ length vars
-length_initials [] = refl
-length_initials (v ∷ vars) = ap suc (length_initials vars)
-
-pub initials_low : (vars : List Var) (spare : ℕ) → spare < 2 ^ 63 → AllByRecursion (λ v. v.initially < 2 ^ 32) vars → AllByRecursion (λ n. n + spare < 2 ^ 64) (initials vars)
-initials_low [] spare l a = tt
-initials_low (v ∷ vars) spare l a = let b = a.0 in (omega arith, initials_low vars spare l a.1)
 
 -- ---- ticks
 

@@ -1,5 +1,5 @@
 -- What the operations of slots leave.
-use Rattle.std.proofs.Common.{◌≡◌, ℕ, ◌<◌, ◌≤◌, ◌-◌, arith, List, Option, Some, None, refl, sym, ap, ◌∙◌, subst, ⊎_elim, inl, inr}
+use Rattle.std.proofs.Common.{◌≡◌, ℕ, ◌<◌, List, Option, Some, None, refl, sym, ap, ◌∙◌, subst, ⊎_elim, inl, inr}
 use Rattle.std.specs.Prelude.{◌⊎◌, IfSome}
 use Rattle.rv_word.specs.Exec.{Prog, Outcome, Stops, Goes, Done, done, exec_decoded, exec_of}
 use Rattle.rv_word.specs.Table.{decode_of}
@@ -14,33 +14,19 @@ use Rattle.tramp_spec.specs.declared.mark.Mark.{Mark}
 use Rattle.tramp_spec.specs.declared.mark.Mark.TheVariants.{Own, Enter, Tool, Leave}
 use Rattle.tramp_spec.specs.declared.mark.MarkedWord.{MarkedWord}
 use Rattle.code_store.specs.Operations.{Does, IsOperationBy, IsOperationOf, done_as, stands_as}
-use Rattle.code_store.specs.declared.operation.Operation.TheVariants.{Run, Compute, LoadBank, StoreBank, NoAccess}
-use Rattle.code_store.specs.Stores.{StoredCode}
-use Rattle.rv_word.specs.declared.outcome.Next.{Next}
-use Rattle.rv_word.specs.declared.outcome.Next.TheVariants as ways
-use Rattle.machine.specs.Stretches.{Left, left_by, left_as, ran, Runs}
-use Rattle.machine.proofs.Stretches.{left}
-use Rattle.machine.specs.Performing.{Performs, PerformsOther, stood_after, bench_from}
+use Rattle.code_store.specs.declared.operation.Operation.TheVariants.{Run, LoadBank, StoreBank, NoAccess}
+use Rattle.machine.specs.Performing.{Performs, PerformsBy, PerformsOther, stood_after, bench_from}
 
 -- ---- the numbers of an operation fit
 
 run_fits_by : (m : Mark) (i : Option Instr) (flat : Flat) → IsOperationBy m i (Run flat) → (instr_of flat ≡ i) × IfSome i HasWord
 run_fits_by Own i flat o = o
-run_fits_by Enter i flat o = absurd o
-run_fits_by Tool i flat o = absurd o
-run_fits_by Leave i flat o = absurd o
+run_fits_by Enter i flat o = (o.0, o.1)
+run_fits_by Tool i flat o = (o.0, o.1)
+run_fits_by Leave i flat o = (o.0, o.1)
 
 pub run_fits : (w : MarkedWord) (flat : Flat) → IsOperationOf w (Run flat) → IfSome (instr_of flat) HasWord
 run_fits w flat o = let f = run_fits_by w.mark (decode_of w.word) flat o in subst (λ i. IfSome i HasWord) (sym f.0) f.1
-
-compute_fits_by : (m : Mark) (i : Option Instr) (flat : Flat) → IsOperationBy m i (Compute flat) → (instr_of flat ≡ i) × IfSome i HasWord
-compute_fits_by Own i flat o = absurd o
-compute_fits_by Enter i flat o = (o.0, o.1)
-compute_fits_by Tool i flat o = (o.0, o.1)
-compute_fits_by Leave i flat o = (o.0, o.1)
-
-pub compute_fits : (w : MarkedWord) (flat : Flat) → IsOperationOf w (Compute flat) → IfSome (instr_of flat) HasWord
-compute_fits w flat o = let f = compute_fits_by w.mark (decode_of w.word) flat o in subst (λ i. IfSome i HasWord) (sym f.0) f.1
 
 load_fits_by : (m : Mark) (i : Option Instr) (rd rs1 offset : ℕ) → IsOperationBy m i (LoadBank rd rs1 offset) → (rd < 32) × (rs1 < 32)
 load_fits_by Own i rd rs1 offset o = absurd o
@@ -80,62 +66,27 @@ stood_is : (stop : Option Cause) (pc : ℕ) (regs bank : List ℕ) → stands_as
 stood_is None pc regs bank = refl
 stood_is (Some cause) pc regs bank = refl
 
-computes_other : (n word : ℕ) (flat : Flat) (h ticks pc : ℕ) (regs bank : List ℕ) (p : Prog) (stop : Option Cause) (new_pc : ℕ) (new_regs : List ℕ) (new_p : Prog) → Does n (decode_of word) (Compute flat)
+runs_other : (n word : ℕ) (flat : Flat) (h ticks pc : ℕ) (regs bank : List ℕ) (p : Prog) (stop : Option Cause) (new_pc : ℕ) (new_regs : List ℕ) (new_p : Prog) → Does n (decode_of word) (Run flat)
     → done (exec_of word pc h regs p) regs p ≡ record { next = next_after stop new_pc; regs = new_regs; prog = new_p }
     → PerformsOther n word ticks pc regs bank p stop new_pc new_regs bank new_p
-computes_other n word flat h ticks pc regs bank p stop new_pc new_regs new_p o e =
+runs_other n word flat h ticks pc regs bank p stop new_pc new_regs new_p o e =
     record {
       step = o.2.step h ticks pc (bench_from regs bank) p ∙ (ap (λ (d : Done). done_as d bank) e ∙ stood_is stop new_pc new_regs bank);
       shares = sym (ap (λ (d : Done). d.prog) e) ∙ o.2.prog h pc regs p;
       stays = ⊎_elim inl (λ same. inr (same, refl)) (left_at_stop (exec_of word pc h regs p) regs p stop new_pc new_regs new_p e);
     }
 
--- the word, run, leaves this
-abbrev Leaves : MarkedWord → ℕ → ℕ → ℕ → List ℕ → List ℕ → Prog → Option Cause → ℕ → List ℕ → Prog → Type 0
-Leaves w h ticks pc regs bank p stop new_pc new_regs new_p = done (exec_of w.word pc h regs p) regs p ≡ record { next = next_after stop new_pc; regs = new_regs; prog = new_p } → Performs w h ticks pc regs bank p stop new_pc new_regs bank new_p
+runs_by : (m : Mark) (word : ℕ) (flat : Flat) (h ticks pc : ℕ) (regs bank : List ℕ) (p : Prog) (stop : Option Cause) (new_pc : ℕ) (new_regs : List ℕ) (new_p : Prog) → IsOperationBy m (decode_of word) (Run flat)
+    → done (exec_of word pc h regs p) regs p ≡ record { next = next_after stop new_pc; regs = new_regs; prog = new_p }
+    → PerformsBy m word h ticks pc regs bank p stop new_pc new_regs bank new_p
+runs_by Own word flat h ticks pc regs bank p stop new_pc new_regs new_p o e = record { does = e; keeps = refl }
+runs_by Enter word flat h ticks pc regs bank p stop new_pc new_regs new_p o e = runs_other 0 word flat h ticks pc regs bank p stop new_pc new_regs new_p o e
+runs_by Tool word flat h ticks pc regs bank p stop new_pc new_regs new_p o e = runs_other bank_len word flat h ticks pc regs bank p stop new_pc new_regs new_p o e
+runs_by Leave word flat h ticks pc regs bank p stop new_pc new_regs new_p o e = runs_other 0 word flat h ticks pc regs bank p stop new_pc new_regs new_p o e
 
-runs_by : (m : Mark) (word : ℕ) (flat : Flat) (h ticks pc : ℕ) (regs bank : List ℕ) (p : Prog) (stop : Option Cause) (new_pc : ℕ) (new_regs : List ℕ) (new_p : Prog) → IsOperationBy m (decode_of word) (Run flat) → Leaves (record { word = word; mark = m }) h ticks pc regs bank p stop new_pc new_regs new_p
-runs_by Own word flat h ticks pc regs bank p stop new_pc new_regs new_p o = λ e. record { does = e; keeps = refl }
-runs_by Enter word flat h ticks pc regs bank p stop new_pc new_regs new_p o = absurd o
-runs_by Tool word flat h ticks pc regs bank p stop new_pc new_regs new_p o = absurd o
-runs_by Leave word flat h ticks pc regs bank p stop new_pc new_regs new_p o = absurd o
-
-computes_by : (m : Mark) (word : ℕ) (flat : Flat) (h ticks pc : ℕ) (regs bank : List ℕ) (p : Prog) (stop : Option Cause) (new_pc : ℕ) (new_regs : List ℕ) (new_p : Prog) → IsOperationBy m (decode_of word) (Compute flat) → Leaves (record { word = word; mark = m }) h ticks pc regs bank p stop new_pc new_regs new_p
-computes_by Own word flat h ticks pc regs bank p stop new_pc new_regs new_p o = absurd o
-computes_by Enter word flat h ticks pc regs bank p stop new_pc new_regs new_p o = computes_other 0 word flat h ticks pc regs bank p stop new_pc new_regs new_p o
-computes_by Tool word flat h ticks pc regs bank p stop new_pc new_regs new_p o = computes_other bank_len word flat h ticks pc regs bank p stop new_pc new_regs new_p o
-computes_by Leave word flat h ticks pc regs bank p stop new_pc new_regs new_p o = computes_other 0 word flat h ticks pc regs bank p stop new_pc new_regs new_p o
-
-left_next : (d : Done) (at : ℕ) (stop : Option Cause) (pc : ℕ) (regs : List ℕ) (p : Prog) → left pc stop regs p ≡ left_as d at → d ≡ record { next = next_after stop pc; regs = regs; prog = p }
-left_next d at stop pc regs p e = by d.next d.regs d.prog e
-  where
-    made : Next → List ℕ → Prog → Done
-    made n others q = record { next = n; regs = others; prog = q }
-
-    again : Left → Done
-    again z = made (next_after z.stop z.pc) z.regs z.prog
-
-    by : (n : Next) (others : List ℕ) (q : Prog) → left pc stop regs p ≡ left_by n at others q → made n others q ≡ made (next_after stop pc) regs p
-    by (ways.Go to) others q f = sym (ap again f)
-    by (ways.Stop cause) others q f = sym (ap again f)
-
--- one word by itself
-one_ran : (h : ℕ) (i j : Option Instr) (pc : ℕ) (regs : List ℕ) (p : Prog) (stop : Option Cause) (new_pc : ℕ) (new_regs : List ℕ) (new_p : Prog) → i ≡ j → left new_pc stop new_regs new_p ≡ ran h i pc regs p → done (exec_decoded j pc h regs p) regs p ≡ record { next = next_after stop new_pc; regs = new_regs; prog = new_p }
-one_ran h i j pc regs p stop new_pc new_regs new_p e z = left_next (done (exec_decoded j pc h regs p) regs p) pc stop new_pc new_regs new_p (z ∙ ap (λ k. ran h k pc regs p) e)
-
-only : (s : StoredCode) (h turns : ℕ) (i : Option Instr) (pc : ℕ) (regs : List ℕ) (p : Prog) (z : Left) → turns ≤ 1 → Runs s h (turns - 1) i pc regs p z → z ≡ ran h i pc regs p
-only s h turns i pc regs p z l r = let e : turns - 1 ≡ 0 = omega arith in subst (λ n. Runs s h n i pc regs p z) e r
-
-pub runs : (s : StoredCode) (turns : ℕ) (w : MarkedWord) (flat : Flat) (h ticks pc : ℕ) (regs bank : List ℕ) (p : Prog) (stop : Option Cause) (new_pc : ℕ) (new_regs : List ℕ) (new_p : Prog) → IsOperationOf w (Run flat)
-    → turns ≤ 1 → Runs s h (turns - 1) (instr_of flat) pc regs p (left new_pc stop new_regs new_p)
+pub runs : (w : MarkedWord) (flat : Flat) (h ticks pc : ℕ) (regs bank : List ℕ) (p : Prog) (stop : Option Cause) (new_pc : ℕ) (new_regs : List ℕ) (new_p : Prog) → IsOperationOf w (Run flat)
+    → done (exec_decoded (instr_of flat) pc h regs p) regs p ≡ record { next = next_after stop new_pc; regs = new_regs; prog = new_p }
     → Performs w h ticks pc regs bank p stop new_pc new_regs bank new_p
-runs s turns w flat h ticks pc regs bank p stop new_pc new_regs new_p o l r =
-    runs_by w.mark w.word flat h ticks pc regs bank p stop new_pc new_regs new_p o
-    (one_ran h (instr_of flat) (decode_of w.word) pc regs p stop new_pc new_regs new_p (run_fits_by w.mark (decode_of w.word) flat o).0 (only s h turns (instr_of flat) pc regs p (left new_pc stop new_regs new_p) l r))
-
-pub computes : (s : StoredCode) (turns : ℕ) (w : MarkedWord) (flat : Flat) (h ticks pc : ℕ) (regs bank : List ℕ) (p : Prog) (stop : Option Cause) (new_pc : ℕ) (new_regs : List ℕ) (new_p : Prog) → IsOperationOf w (Compute flat)
-    → turns ≤ 1 → Runs s h (turns - 1) (instr_of flat) pc regs p (left new_pc stop new_regs new_p)
-    → Performs w h ticks pc regs bank p stop new_pc new_regs bank new_p
-computes s turns w flat h ticks pc regs bank p stop new_pc new_regs new_p o l r =
-    computes_by w.mark w.word flat h ticks pc regs bank p stop new_pc new_regs new_p o
-    (one_ran h (instr_of flat) (decode_of w.word) pc regs p stop new_pc new_regs new_p (compute_fits_by w.mark (decode_of w.word) flat o).0 (only s h turns (instr_of flat) pc regs p (left new_pc stop new_regs new_p) l r))
+runs w flat h ticks pc regs bank p stop new_pc new_regs new_p o e =
+    let i = (run_fits_by w.mark (decode_of w.word) flat o).0 in
+    runs_by w.mark w.word flat h ticks pc regs bank p stop new_pc new_regs new_p o (ap (λ j. done (exec_decoded j pc h regs p) regs p) (sym i) ∙ e)

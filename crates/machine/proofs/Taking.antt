@@ -57,12 +57,12 @@ module _ (harts : List Hart) (p : Prog) (s : StoredCode) (rows : List Row) (budg
         }
 
 -- arming keeps that the parts fit
-pub armed_sound : (harts : List Hart) (p : Prog) (s : StoredCode) (rows : List Row) (budget : ℕ) (i : Placed) → IsSound harts p s rows budget → MayArm (core_of harts p s rows budget) i → IsSound (map (armed_now i) harts) p s rows budget
+pub armed_sound : (harts : List Hart) (p : Prog) (s : StoredCode) (rows : List Row) (budget : ℕ) (i : Placed) → IsSound harts p s rows budget → MayArm (core_of harts p s rows budget) i → IsSound (map (armed_now p.mem i) harts) p s rows budget
 armed_sound harts p s rows budget i sound may =
     record {
       reached = reaches_more (core_of harts p s rows budget) (Arm i) sound.reached may;
       owners = sound.owners;
-      reservations = sound.reservations ∙ sym (length-map harts (armed_now i));
-      few = subst (λ n. n ≤ MAX_HARTS) (sym (length-map harts (armed_now i))) sound.few;
+      reservations = sound.reservations ∙ sym (length-map harts (armed_now p.mem i));
+      few = subst (λ n. n ≤ MAX_HARTS) (sym (length-map harts (armed_now p.mem i))) sound.few;
       countable = sound.countable;
     }

@@ -12,17 +12,18 @@ use Rattle.tramp_spec.specs.Jumps.{jump_word}
 use Rattle.tramp_spec.specs.Marks.{own, tool}
 use Rattle.tramp_spec.specs.Statements.{body_of}
 use Rattle.machine.specs.Cores.{Core, Row, Status, Written, Live, Retired, In}
-use Rattle.machine.specs.Effects.{after, mini_unlinked}
-use Rattle.machine.specs.Events.{UnlinkMini, UnlinkPoint, Free, May, MayArm, HasMini, IsLinked, IsQuiet, before, target_at}
+use Rattle.machine.specs.Effects.{after, armed, mini_unlinked}
+use Rattle.machine.specs.Events.{UnlinkMini, UnlinkPoint, Free, Arm, May, MayArm, HasMini, IsLinked, IsQuiet, before, target_at}
 use Rattle.machine.specs.Places.{holds}
 use Rattle.machine.specs.FirstTurns.{turns}
 use Rattle.machine.specs.LoopCounted.{loop_core, linking}
 use Rattle.machine.specs.Readings.{readings}
 use Rattle.machine.specs.Replays.{replay, Legal, owns}
 use Rattle.machine.specs.States.{settling}
-use Rattle.machine.specs.ThreeCounters.{counter_on, mini_on, first, third, fourth, adding, arming, counted, at_second, passing_by, passed_by, gone_on, renewing, renewed, ended, MinisUnlinked, at_third, left, gone_out, PointUnlinked}
+use Rattle.machine.specs.ThreeCounters.{counter_on, mini_on, first, second, third, fourth, adding, arming, counted, at_second, passing_by, passed_by, gone_on, renewing, renewed, ended, MinisUnlinked, at_third, left, gone_out, PointUnlinked}
 use Rattle.std.proofs.lemmas.Bool.{true≢false}
 use Rattle.machine.proofs.LoopLinked.{linked, linking_legal}
+use Rattle.machine.proofs.Openings.{armed_cold}
 use Rattle.machine.proofs.Replaying.{replay-append, legal-append}
 use Rattle.machine.proofs.ThreeLinked.{Three, entering, left_code, three_left, three, three_code, row, base_row, rows_third, unarmed, at, added, adding_legal, bank_five, past_second, past_both, three_past_second, three_past_both, fourth_code, three_fourth, may_write, links_mini}
 use Rattle.machine.proofs.ThreeTurns.{hart, comes_to_third, comes_to_second, goes_on, leaving_second, goes_out, leaving_third, goes_round, three_rounds}
@@ -44,6 +45,10 @@ arms code rows x slot mini head f t o i s = record { quiet = quiet_at code rows 
     sites z (inl e) = subst (IsLinked (at code rows x)) (sym e) here
     sites z (inr h) = absurd h
 
+-- the counter's slot is 0
+arms_so : (code : Code) (rows : List Row) (x : Hart) (slot mini : ℕ) → after (at code rows x) (Arm (counter_on slot mini)) ≡ at code rows (record x { bank = slice_set x.bank slot 0 })
+arms_so code rows x slot mini = ap (at code rows) (armed_cold (at code rows x) (counter_on slot mini) x refl)
+
 -- with so many slots set to 0
 abbrev with_bank : List ℕ → Core
 with_bank bank = at three_code (rows_third Live) (record unarmed { bank = slice_set (slice_set (slice_set bank 2 0) 3 0) 4 0 })
@@ -57,7 +62,11 @@ unfolding rest
 bank_so = ap (λ n. replicate n 0) bank_five.1
 
 armed_so : replay arming (at three_code (rows_third Live) unarmed) ≡ with_bank (replicate bank_len 0)
-armed_so = refl
+armed_so =
+    let with_first = record unarmed { bank = slice_set unarmed.bank 2 0 } in
+    let with_second = record unarmed { bank = slice_set (slice_set unarmed.bank 2 0) 3 0 } in
+    ap (replay (Arm second ∷ Arm third ∷ [])) (arms_so three_code (rows_third Live) unarmed 2 0x11010)
+    ∙ (ap (replay (Arm third ∷ [])) (arms_so three_code (rows_third Live) with_first 3 0x11024) ∙ arms_so three_code (rows_third Live) with_second 4 0x11038)
 
 abbrev begun : Core
 begun = at three_code (rows_third Live) (hart rest 0x10000 0 0 false 0 0 0)
@@ -68,8 +77,8 @@ begins = refl
 
 arming_legal : Legal arming (at three_code (rows_third Live) unarmed)
 arming_legal =
-    let armed_first = record unarmed { bank = slice_set (replicate bank_len 0) 2 0 } in
-    let armed_second = record unarmed { bank = slice_set (slice_set (replicate bank_len 0) 2 0) 3 0 } in (
+    let armed_first = armed (at three_code (rows_third Live) unarmed) first unarmed in
+    let armed_second = armed (at three_code (rows_third Live) armed_first) second armed_first in (
       arms three_code (rows_third Live) unarmed 2 0x11010 0x0340006f 0xfe9ff06f 0xfddff06f refl (inr (inl refl)) three,
       (
         arms three_code (rows_third Live) armed_first 3 0x11024 0x0340006f 0xfe9ff06f 0xfddff06f refl (inr (inr (inl refl))) three,
@@ -155,7 +164,7 @@ renews x o =
 
 renewed_so : (x : Hart) → replay renewing (at past_both (rows_passed Retired Retired) x) ≡ at fourth_code (rows_freed Live) (record x { bank = slice_set x.bank 2 0 })
 unfolding body_of
-renewed_so x = refl
+renewed_so x = arms_so fourth_code (rows_freed Live) x 2 0x11010
 
 -- ---- the laws
 

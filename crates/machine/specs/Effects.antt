@@ -9,10 +9,11 @@ use Rattle.tramp_spec.specs.Jumps.{jump_word}
 use Rattle.tramp_spec.specs.Slots.{places_of, set_places}
 use Rattle.tramp_spec.specs.Harts.{Hart}
 use Rattle.tramp_spec.specs.declared.block.Block.{Block}
+use Rattle.frame_walk.specs.Openings.{opening}
+use Rattle.frame_walk.specs.Walks.{walk_now}
 use Rattle.machine.specs.Cores.{Status, Written, Live, Retired, Row, Core, is_current}
 use Rattle.machine.specs.Turns.{turn, ticks_next}
 use Rattle.machine.specs.Events.{Event, Turn, Write, LinkMini, UnlinkMini, LinkPoint, UnlinkPoint, Free, Arm, Sample, current_base, row_at, link_at, next_of, is_linked, before}
-use Rattle.machine.specs.Openings.{opening_now}
 
 -- ---- words and blocks
 
@@ -65,9 +66,9 @@ abbrev pub point_unlinked : Option ℕ → ℕ → Core → Core
 point_unlinked None p c = c
 point_unlinked (Some word) p c = record c { code = insert c.code p (own word); rows = map (with_status (retired_at p)) c.rows }
 
--- the slots of the instrument are set for a hart
+-- the slots of the instrument are set to its opening values for a hart
 abbrev pub armed : Core → Placed → Hart → Hart
-armed c i x = record x { bank = set_places (places_of i) (opening_now i.vars c.prog x) x.ticks x.bank }
+armed c i x = record x { bank = set_places (places_of i) (opening i.opens (walk_now c.prog x) i.vars) x.ticks x.bank }
 
 -- The machine behind an event.
 abbrev pub after : Core → Event → Core

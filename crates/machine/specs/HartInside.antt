@@ -16,7 +16,7 @@ three_image = record { segments = record { at = 0x10000; bytes = 0x13 ∷ 0x05 �
 
 -- the counter at the first word
 abbrev pub first_counter : Placed
-first_counter = record { vars = rounds.vars; slots = 2 ∷ []; sites = record { at = 0x10000; mini = 0x11014 } ∷ [] }
+first_counter = record { vars = rounds.vars; slots = 2 ∷ []; sites = record { at = 0x10000; mini = 0x11014 } ∷ []; opens = [] }
 
 abbrev pub first_linked : Core
 first_linked = replay first_linking (start_core three_image 1 1000)

@@ -50,12 +50,13 @@ CarriesSites c slots (s ∷ ss) (q ∷ qs) = (s.at ≡ q.at) × HasBody c s.at s
 CarriesSites c slots [] (q ∷ qs) = ⊥
 CarriesSites c slots (s ∷ ss) [] = ⊥
 
--- The instrument carries a plan: its variables, each on slots of its own, and the code of its sites.
+-- The instrument carries a plan: its variables, each on slots of its own, the code of its sites, and its Opens.
 pub record Carries (c : Core) (i : Placed) (plan : Plan) : Type 0 where
   pub vars : i.vars ≡ plan.vars
   pub many : length i.slots ≡ length i.vars
   pub places : ArePlaces (places_of i)
   pub sites : CarriesSites c i.slots i.sites plan.sites
+  pub opens : i.opens ≡ plan.opens
 
 -- ---- in force
 

@@ -1,7 +1,6 @@
 pub mod Cores
 pub mod Places
 pub mod Turns
-pub mod Openings
 pub mod Events
 pub mod Effects
 pub mod Replays

@@ -2,13 +2,16 @@
 use Rattle.std.specs.Prelude.{ℕ, ◌^◌, ◌<◌, ◌==◌, ◌&&◌, not, if◌then◌else◌, IsTrue, Bool, true, false, Option, Some, None, List, [], ◌∷◌}
 use Rattle.pn_types.specs.declared.placed.Placed.{Placed}
 use Rattle.pn_types.specs.declared.placed.PlacedSite.{PlacedSite}
+use Rattle.rv_word.specs.Memory.{Memory}
 use Rattle.rv_word.specs.Plain.{Words}
 use Rattle.tramp_spec.specs.Codes.{fetched_at, is_tool_word}
 use Rattle.tramp_spec.specs.Harts.{Hart}
-use Rattle.tramp_spec.specs.Slots.{initials, places_of, set_places}
+use Rattle.tramp_spec.specs.Slots.{places_of, set_places}
 use Rattle.tramp_spec.specs.declared.mark.Mark.{Mark}
 use Rattle.tramp_spec.specs.declared.mark.Mark.TheVariants.{Own, Enter, Tool, Leave}
 use Rattle.tramp_spec.specs.declared.mark.MarkedWord.{MarkedWord}
+use Rattle.frame_walk.specs.Openings.{opening}
+use Rattle.frame_walk.specs.Walks.{start_of, walk_from}
 use Rattle.code_store.specs.Owners.{Owners, owners_without}
 use Rattle.code_store.specs.Stores.{IsInToolText}
 use Rattle.machine.specs.Cores.{Row, Core, is_live}
@@ -57,6 +60,6 @@ is_site_linked c s = is_live_mini s.at (row_at c.rows s.mini) && enters (fetched
 
 -- ---- armed harts
 
--- the slots of an instrument are set for a hart, whatever the program's state is
-abbrev pub armed_now : Placed → Hart → Hart
-armed_now i x = record x { bank = set_places (places_of i) (initials i.vars) x.ticks x.bank }
+-- the slots of an instrument are set to its opening values for a hart, which walks its frames in this memory
+abbrev pub armed_now : Memory → Placed → Hart → Hart
+armed_now m i x = record x { bank = set_places (places_of i) (opening i.opens (walk_from m (start_of x.stop x.pc x.regs)) i.vars) x.ticks x.bank }

@@ -30,10 +30,10 @@ abbrev pub count_up : List Stmt
 count_up = record { conds = []; act = Up 0 } ∷ []
 
 abbrev pub rounds : Plan
-rounds = record { vars = record { name = codes "rounds"; timer = false; initially = 0 } ∷ []; sites = record { at = 0x10000; stmts = count_up } ∷ [] }
+rounds = record { vars = record { name = codes "rounds"; timer = false; initially = 0 } ∷ []; sites = record { at = 0x10000; stmts = count_up } ∷ []; opens = [] }
 
 abbrev pub counter : Placed
-counter = record { vars = rounds.vars; slots = 2 ∷ []; sites = record { at = 0x10000; mini = 0x11010 } ∷ [] }
+counter = record { vars = rounds.vars; slots = 2 ∷ []; sites = record { at = 0x10000; mini = 0x11010 } ∷ []; opens = [] }
 
 abbrev pub loop_base : Block
 loop_base = record { point = 0x10000; at = 0x11000; words = base_words 0x11000 0x11008 (own 0xff5fe06f ∷ []); base = true }

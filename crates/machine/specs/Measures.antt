@@ -8,7 +8,8 @@ use Rattle.rv_word.specs.Plain.{Words, PlainHart, Plain, plain}
 use Rattle.rv_word.specs.Registers.{arguments_of}
 use Rattle.rv_exec.specs.Run.{run_from}
 use Rattle.tramp_spec.specs.Values.{values_after}
-use Rattle.machine.specs.Openings.{opening}
+use Rattle.frame_walk.specs.Openings.{opening}
+use Rattle.frame_walk.specs.Walks.{walk}
 
 -- ---- values
 
@@ -42,9 +43,9 @@ abbrev pub level : Words → Plan → ℕ → List ℕ → Plain → Level → L
 level t plan h [] s v = v
 level t plan h (g ∷ turns) s v = level t plan h turns (plain t g s) (if g == h then passed_by (slice_get s.harts h) plan v else v)
 
--- before any position
+-- before any position: with the opening values of the variables
 abbrev pub opened : Plan → Plain → ℕ → Level
-opened plan s h = record { values = opening plan.vars s h; runs = 0 }
+opened plan s h = record { values = opening plan.opens (walk s h) plan.vars; runs = 0 }
 
 -- Hart h's level behind its positions from time a to time k.
 abbrev pub level_at : Words → Plan → ℕ → ℕ → ℕ → List ℕ → Plain → Level

@@ -19,7 +19,7 @@ use Rattle.machine.specs.States.{settling}
 
 -- one on a slot, whose mini block is at an address
 abbrev pub counter_on : ℕ → ℕ → Placed
-counter_on slot mini = record { vars = rounds.vars; slots = slot ∷ []; sites = record { at = 0x10000; mini = mini } ∷ [] }
+counter_on slot mini = record { vars = rounds.vars; slots = slot ∷ []; sites = record { at = 0x10000; mini = mini } ∷ []; opens = [] }
 
 abbrev pub mini_on : ℕ → ℕ → ℕ → Block
 mini_on slot mini next = record { point = 0x10000; at = mini; words = mini_words mini (body_of (slot ∷ []) count_up) next; base = false }

@@ -1,6 +1,9 @@
-ghost use Rattle.std.specs.Prelude.{◌≡◌, ◌<◌, ◌+◌, ◌^◌, true, None, Some, IfOk, length};
+ghost use Rattle.std.specs.Prelude.{◌≡◌, ◌<◌, ◌≤◌, ◌+◌, ◌^◌, true, None, Some, IfOk, length};
+ghost use Rattle.std.specs.List.{AllByRecursion};
 ghost use Rattle.tramp_spec.specs.Banks.{bank_len};
 ghost use Rattle.tramp_spec.specs.Codes.{is_tool_word};
+ghost use Rattle.frame_walk.specs.Rooms.{IsSmall};
+ghost use Rattle.frame_walk.specs.Walks.{start_of};
 ghost use Rattle.machine.specs.Cores.{first_hart};
 ghost use Rattle.machine.specs.Instruments.{reading};
 ghost use Rattle.machine.specs.Leaving.{is_out_now};
@@ -10,8 +13,10 @@ ghost use Rattle.machine.specs.Turns.{may_turn};
 
 use crate::slots::{read_first, set_variables};
 use code_store::Store;
+use frame_walk::{WalkStart, open_values};
 use pn_types::{BANK_LEN, NoMemory, Placed};
 use rv_exec::Regs;
+use rv_mem::Mem;
 use rv_word::{Cause, jump_target};
 use std::alloc::Global;
 use std::marker::Model;
@@ -135,11 +140,32 @@ impl HartState {
         home(store, self.pc, self.inside)
     }
 
-    /// Sets the slots of an instrument in the hart's bank.
-    pub fn arm(&mut self, instrument: &Placed)
-        ensures { self.new ≡ armed_now instrument.now self.old }
+    /// Where the hart's walk starts, unless it is stopped.
+    fn walk_start(&self) -> Option<WalkStart>
+        ensures { result ≡ start_of self.now.stop self.now.pc self.now.regs }
     {
-        set_variables(self.bank.as_mut_slice(), instrument, self.ticks);
+        if self.stop.is_some() {
+            return None;
+        }
+        Some(WalkStart {
+            pc: self.pc,
+            ra: self.regs.get(1),
+            fp: self.regs.get(8),
+        })
+    }
+
+    /// Sets the slots of an instrument in the hart's bank to its opening values. The hart walks its frames in this memory.
+    pub fn arm(&mut self, mem: &Mem, instrument: &Placed)
+        requires few { length instrument.now.vars ≤ 3 }
+        requires small { AllByRecursion IsSmall instrument.now.opens }
+        ensures { self.new ≡ armed_now mem.now instrument.now self.old }
+    {
+        let start = self.walk_start();
+        let vars = instrument.vars.as_slice();
+        let mut room = [0u64; 3];
+        let values = &mut room[..vars.len()];
+        open_values(mem, instrument.opens.as_slice(), start, vars, values);
+        set_variables(self.bank.as_mut_slice(), instrument, values, self.ticks);
     }
 
     /// The reading of an instrument.

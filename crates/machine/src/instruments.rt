@@ -1,6 +1,7 @@
-ghost use Rattle.std.specs.Prelude.{◌≡◌, ◌↔◌, if◌then◌else◌, false, map, IsTrue, length};
-ghost use Rattle.std.specs.List.{list_all};
+ghost use Rattle.std.specs.Prelude.{◌≡◌, ◌↔◌, ◌≤◌, if◌then◌else◌, false, map, IsTrue, length};
+ghost use Rattle.std.specs.List.{AllByRecursion, list_all};
 ghost use Rattle.tramp_spec.specs.Codes.{fetched_at};
+ghost use Rattle.frame_walk.specs.Rooms.{IsSmall};
 ghost use Rattle.machine.specs.Effects.{after};
 ghost use Rattle.machine.specs.Events.{Arm, IsQuiet, May, MayArm};
 ghost use Rattle.machine.specs.Instruments.{reading};
@@ -10,6 +11,7 @@ ghost use Rattle.machine.specs.States.{with_core};
 use crate::hart::HartState;
 use crate::machine::Machine;
 use pn_types::{Placed, PlacedSite, Seq};
+use rv_mem::Mem;
 use tramp_spec::Mark;
 
 /// The readings of an instrument, one for each hart by number.
@@ -18,12 +20,14 @@ pub struct Sample {
     pub readings: Seq<u64>,
 }
 
-/// Sets the slots of an instrument on each hart.
-fn arm_harts(harts: &mut [HartState], instrument: &Placed)
-    ensures { harts.new ≡ map (armed_now instrument.now) harts.old }
+/// Sets the slots of an instrument on each hart to its opening values.
+fn arm_harts(harts: &mut [HartState], mem: &Mem, instrument: &Placed)
+    requires few { length instrument.now.vars ≤ 3 }
+    requires small { AllByRecursion IsSmall instrument.now.opens }
+    ensures { harts.new ≡ map (armed_now mem.now instrument.now) harts.old }
 {
     for hart in harts.iter_mut() {
-        hart.arm(instrument);
+        hart.arm(mem, instrument);
     }
 }
 
@@ -38,16 +42,19 @@ fn read_harts(harts: &[HartState], instrument: &Placed, readings: &mut Seq<u64>)
 }
 
 impl Machine {
-    /// Arms an instrument: on each hart its variables get their initial values. It answers false exactly where a hart is inside a
-    /// trampoline or a site of the instrument isn't linked; then nothing changes. It takes no memory.
+    /// Arms an instrument: on each hart its variables get their opening values, which tell of the procedures that are open there. It
+    /// answers false exactly where a hart is inside a trampoline or a site of the instrument isn't linked; then nothing changes. It
+    /// takes no memory.
     pub fn arm(&mut self, instrument: &Placed) -> bool
+        requires few { length instrument.now.vars ≤ 3 }
+        requires small { AllByRecursion IsSmall instrument.now.opens }
         ensures may { IsTrue result ↔ May self.old.core (Arm instrument.now) }
         ensures state { self.new ≡ if result then with_core self.old (after self.old.core (Arm instrument.now)) else self.old }
     {
         if !self.may_arm(instrument) {
             return false;
         }
-        arm_harts(&mut self.harts, instrument);
+        arm_harts(&mut self.harts, &self.mem, instrument);
         true
     }
 

@@ -4,16 +4,18 @@ ghost use Rattle.std.specs.Prelude.{◌≡◌, ◌≤◌, ◌<◌, ◌/◌, ◌^
 ghost use Rattle.rv_word.specs.Exec.{prog_of};
 ghost use Rattle.tramp_spec.specs.Banks.{bank_at, bank_len, is_in_bank, set_bank};
 ghost use Rattle.code_store.specs.Operations.{bank_loaded, bank_stored};
-ghost use Rattle.tramp_spec.specs.declared.mark.Mark.TheVariants.{Own};
-ghost use Rattle.machine.specs.Stretches.{OwnRun};
 ghost use Rattle.machine.specs.Performing.{Performs, bench_from, stood_after};
 
-use crate::stretch::run_words;
-use code_store::{Operation, Slot, Store};
+use code_store::{Operation, Slot};
 use pn_types::HartNo;
-use rv_exec::{Output, Regs, Reservations};
+use rv_exec::{Caller, Output, Regs, Reservations};
 use rv_mem::Mem;
 use rv_word::Cause;
+
+/// A word by itself.
+struct Alone;
+
+impl Caller for Alone {}
 
 /// The number of the doubleword at an address, or a number that is too great where the address is no multiple of 8: it is turned
 /// by three bits, so one test finds both.
@@ -65,7 +67,7 @@ fn load(
     requires stop { stop.old ≡ None }
     ensures goes { result ≡ is_none stop.new }
     ensures loaded { bank_loaded rd at ticks pc.old (bench_from regs.old bank.now) ≡ stood_after stop.new pc.new (bench_from regs.new bank.now) }
-    ensures stays { result ≡ false → (regs.new ≡ regs.old) × (pc.new ≡ pc.old) }
+    ensures stays { result ≡ false → regs.new ≡ regs.old }
 {
     let place = doubleword_at(at);
     if place >= bank.len() as u64 {
@@ -85,7 +87,7 @@ fn store(value: u64, at: u64, pc: &mut u64, stop: &mut Option<Cause>, bank: &mut
     ensures goes { result ≡ is_none stop.new }
     ensures len { length bank.new ≡ length bank.old }
     ensures stored { (regs : List ℕ) → bank_stored value at pc.old (bench_from regs bank.old) ≡ stood_after stop.new pc.new (bench_from regs bank.new) }
-    ensures stays { result ≡ false → (bank.new ≡ bank.old) × (pc.new ≡ pc.old) }
+    ensures stays { result ≡ false → bank.new ≡ bank.old }
 {
     let place = doubleword_at(at);
     if place >= bank.len() as u64 {
@@ -97,15 +99,12 @@ fn store(value: u64, at: u64, pc: &mut u64, stop: &mut Option<Cause>, bank: &mut
     true
 }
 
-/// Performs a slot's word at pc, by a hart that isn't stopped; and, where it is the program's, the words of the program that follow
-/// in the text, at most `most` in all. It leaves the next pc, or the cause for which the hart stops, and answers how many words these
-/// were. A stop changes nothing else. It takes no memory.
+/// Performs a slot's word at pc, by a hart that isn't stopped. It leaves the next pc, or the cause for which the hart stops, and
+/// says whether the hart goes on. A stop changes nothing else. It takes no memory.
 #[inline(always)]
-#[tactic(auto, using(crate::proofs::Performed::run_fits, crate::proofs::Performed::compute_fits, crate::proofs::Performed::load_fits, crate::proofs::Performed::store_fits, crate::proofs::Performed::access_fits))]
+#[tactic(auto, using(crate::proofs::Performed::run_fits, crate::proofs::Performed::load_fits, crate::proofs::Performed::store_fits, crate::proofs::Performed::access_fits))]
 pub fn perform(
     slot: &Slot,
-    most: u32,
-    code: &Store,
     hart: HartNo,
     ticks: u64,
     pc: &mut u64,
@@ -115,39 +114,32 @@ pub fn perform(
     mem: &mut Mem,
     resv: &mut Reservations,
     out: &mut Output,
-) -> u32
+) -> bool
     requires hart { hart < length resv.old }
     requires bank { length bank.old ≡ bank_len }
     requires stop { stop.old ≡ None }
-    requires most { 1 ≤ most }
-    ensures bound { (1 ≤ result) × (result ≤ most) }
+    ensures goes { result ≡ is_none stop.new }
     ensures room { length bank.new ≡ length bank.old }
     ensures harts { length resv.new ≡ length resv.old }
-    ensures one { most ≡ 1 → Performs slot.now hart ticks pc.old regs.old bank.old (prog_of mem.old resv.old out.old) stop.new pc.new regs.new bank.new (prog_of mem.new resv.new out.new) }
-    ensures stands { most ≡ 1 → is_none stop.new ≡ false → pc.new ≡ pc.old }
-    ensures own { slot.now.mark ≡ Own → OwnRun code.now hart result slot.now pc.old regs.old bank.old (prog_of mem.old resv.old out.old) stop.new pc.new regs.new bank.new (prog_of mem.new resv.new out.new) }
+    ensures performed { Performs slot.now hart ticks pc.old regs.old bank.old (prog_of mem.old resv.old out.old) stop.new pc.new regs.new bank.new (prog_of mem.new resv.new out.new) }
 {
     match slot.operation() {
-        Operation::Run(flat) | Operation::Compute(flat) => {
-            run_words(flat, most, hart, pc, stop, regs, code, mem, resv, out)
-        }
+        Operation::Run(flat) => flat.run::<Alone>(hart, pc, stop, regs, mem, resv, out),
         Operation::LoadBank { rd, rs1, offset } => {
             let at = regs.get(*rs1).wrapping_add(*offset);
-            load(*rd, at, ticks, pc, stop, regs, bank);
-            1
+            load(*rd, at, ticks, pc, stop, regs, bank)
         }
         Operation::StoreBank { rs1, rs2, offset } => {
             let at = regs.get(*rs1).wrapping_add(*offset);
-            store(regs.get(*rs2), at, pc, stop, bank);
-            1
+            store(regs.get(*rs2), at, pc, stop, bank)
         }
         Operation::NoAccess { rs1, offset } => {
             *stop = Some(Cause::Access(regs.get(*rs1).wrapping_add(*offset)));
-            1
+            false
         }
         Operation::Stop(cause) => {
             *stop = Some(*cause);
-            1
+            false
         }
     }
 }

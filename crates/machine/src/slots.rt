@@ -1,7 +1,7 @@
 //! The slots of an instrument in a hart's bank.
 
-ghost use Rattle.std.specs.Prelude.{◌≡◌, ◌+◌, ◌<◌, ◌^◌, slice_index, slice_set};
-ghost use Rattle.tramp_spec.specs.Slots.{initials, places_of, read_place, reading_of, set_place, set_places};
+ghost use Rattle.std.specs.Prelude.{◌≡◌, ◌+◌, ◌<◌, ◌^◌, length, slice_index, slice_set};
+ghost use Rattle.tramp_spec.specs.Slots.{places_of, read_place, reading_of, set_place, set_places};
 
 use pn_types::{Placed, Var};
 
@@ -44,21 +44,15 @@ fn set_variable(bank: &mut [u64], timer: bool, slot: u64, value: u64, ticks: u64
     }
 }
 
-/// Sets the slots of all variables of an instrument to what they are initially.
-pub fn set_variables(bank: &mut [u64], instrument: &Placed, ticks: u64)
-    ensures { bank.new ≡ set_places (places_of instrument.now) (initials instrument.now.vars) ticks bank.old }
+/// Sets the slots of all variables of an instrument to these values.
+pub fn set_variables(bank: &mut [u64], instrument: &Placed, values: &[u64], ticks: u64)
+    requires { length values.now ≡ length instrument.now.vars }
+    ensures { bank.new ≡ set_places (places_of instrument.now) values.now ticks bank.old }
 {
     let slots = instrument.slots.as_slice();
     let vars = instrument.vars.as_slice();
     for i in 0..slots.len().min(vars.len()) {
-        let var = &vars[i];
-        set_variable(
-            bank,
-            var.timer,
-            slots[i] as u64,
-            var.initially as u64,
-            ticks,
-        );
+        set_variable(bank, vars[i].timer, slots[i] as u64, values[i], ticks);
     }
 }
 

@@ -1,22 +1,34 @@
 //! Words that a hart runs one after another.
 
-ghost use Rattle.std.specs.Prelude.{◌≡◌, ◌+◌, ◌-◌, ◌≤◌, ◌<◌, IfSome, None, length};
+ghost use Rattle.std.specs.Prelude.{◌≡◌, ◌≤◌, ◌<◌, ◌↔◌, IsTrue, None, Some, length};
 ghost use Rattle.rv_word.specs.Exec.{prog_of};
-ghost use Rattle.rv_word.specs.Words.{HasWord};
-ghost use Rattle.rv_exec.specs.Flat.{instr_of};
-ghost use Rattle.machine.specs.Stretches.{Runs};
+ghost use Rattle.rv_word.specs.declared.outcome.Cause.TheVariants.{Illegal};
+ghost use Rattle.machine.specs.Stretches.{AreRun};
 
-use code_store::Store;
+use code_store::{Store, flat_at};
 use pn_types::HartNo;
-use rv_exec::{Flat, Output, Regs, Reservations};
+use rv_exec::{Caller, Output, Regs, Reservations};
 use rv_mem::Mem;
 use rv_word::Cause;
 
-/// Runs an instruction at pc, and then the words of the program that follow, by a hart that isn't stopped: at most `most` in all,
-/// until one stops the hart or until the text has another word or none at the pc. It answers how many, and takes no memory.
+/// Words one after another.
+struct Stretch;
+
+impl Caller for Stretch {}
+
+/// Whether a hart stopped as illegal.
+#[inline(always)]
+fn is_illegal(stop: Option<Cause>) -> bool
+    ensures { IsTrue result ↔ (stop ≡ Some Illegal) }
+{
+    matches!(stop, Some(Cause::Illegal))
+}
+
+/// Runs words of the program from pc on, by a hart that is outside and isn't stopped: at most `most`, until one stops the hart, or
+/// until the text has no instruction of the program at the pc. It answers how many, and takes no memory. What the other words at the
+/// pc do is left to another: here they stop the hart as illegal, and that is taken back.
 #[inline(always)]
 pub fn run_words(
-    first: &Flat,
     most: u32,
     number: HartNo,
     pc: &mut u64,
@@ -27,29 +39,26 @@ pub fn run_words(
     resv: &mut Reservations,
     out: &mut Output,
 ) -> u32
-    requires word { IfSome (instr_of first.now) HasWord }
-    requires most { 1 ≤ most }
     requires hart { number < length resv.old }
     requires stop { stop.old ≡ None }
-    ensures ran { Runs store.now number (result - 1) (instr_of first.now) pc.old regs.old (prog_of mem.old resv.old out.old) (record { pc = pc.new; stop = stop.new; regs = regs.new; prog = prog_of mem.new resv.new out.new }) }
-    ensures bound { (1 ≤ result) × (result ≤ most) }
+    ensures ran { AreRun store.now number result (record { pc = pc.old; stop = None; regs = regs.old; prog = prog_of mem.old resv.old out.old }) (record { pc = pc.new; stop = stop.new; regs = regs.new; prog = prog_of mem.new resv.new out.new }) }
+    ensures bound { result ≤ most }
     ensures harts { length resv.new ≡ length resv.old }
 {
-    let mut flat = first;
-    let mut left = most;
-    loop {
+    let (text_at, flats) = store.flats();
+    for turns in 0..most {
         let at = *pc;
-        if !flat.run(number, pc, stop, regs, mem, resv, out) {
-            *pc = at;
-            return most - left + 1;
-        }
-        left -= 1;
-        if left == 0 {
-            return most;
-        }
-        let Some(next) = store.own(*pc) else {
-            return most - left;
+        let Some(flat) = flat_at(text_at, flats, at) else {
+            return turns;
         };
-        flat = next;
+        if !flat.run::<Stretch>(number, pc, stop, regs, mem, resv, out) {
+            *pc = at;
+            if is_illegal(*stop) {
+                *stop = None;
+                return turns;
+            }
+            return turns + 1;
+        }
     }
+    most
 }

@@ -1,18 +1,17 @@
 //! Turns of one hart.
 
-ghost use Rattle.std.specs.Prelude.{◌≡◌, ◌+◌, ◌<◌, ◌≤◌, ◌^◌, ◌&&◌, ◌||◌, ◌⊎◌, nat_lt, IsTrue, true, false, Some, None, is_none, length};
+ghost use Rattle.std.specs.Prelude.{◌≡◌, ◌+◌, ◌<◌, ◌≤◌, ◌^◌, ◌&&◌, ◌||◌, nat_lt, IsTrue, true, None, is_none, length};
 ghost use Rattle.rv_word.specs.Exec.{prog_of};
 ghost use Rattle.tramp_spec.specs.Banks.{bank_len};
 ghost use Rattle.tramp_spec.specs.Codes.{fetched_at, is_tool_word};
-ghost use Rattle.tramp_spec.specs.Marks.{is_own};
-ghost use Rattle.tramp_spec.specs.declared.mark.Mark.TheVariants.{Own};
+ghost use Rattle.tramp_spec.specs.Harts.{is_tick};
 ghost use Rattle.machine.specs.Alone.{ArePlaced, Leads, TakesAlone, alone_of, may_alone, turned_alone};
 ghost use Rattle.machine.specs.Performing.{solo_of};
-ghost use Rattle.machine.specs.Stretches.{OwnRun};
 
 use crate::hart::{HartState, home};
 use crate::performing::perform;
-use code_store::{Slot, Store};
+use crate::stretch::run_words;
+use code_store::Store;
 use pn_types::HartNo;
 use rv_exec::{Output, Regs, Reservations};
 use rv_mem::Mem;
@@ -34,30 +33,12 @@ impl Progress {
     {
         stop.is_none() && (self.inside || self.ticks < budget)
     }
-
-    /// How many turns, at most `most`, may be by a word and those behind it: more than one outside by words of the program.
-    #[inline(always)]
-    fn most_by(self, slot: &Slot, most: u32, budget: u64) -> u32
-        requires most { 1 ≤ most }
-        requires below { self.inside ≡ false → self.ticks < budget }
-        ensures bound { (1 ≤ result) × (result ≤ most) }
-        ensures one { (self.inside ≡ true) ⊎ (is_own slot.now.mark ≡ false) → result ≡ 1 }
-        ensures below { self.inside ≡ false → is_own slot.now.mark ≡ true → self.ticks + result ≤ budget }
-    {
-        if self.inside || !slot.is_tick() {
-            return 1;
-        }
-        (budget - self.ticks).min(most as u64) as u32
-    }
 }
 
-/// A turn of a hart that isn't stopped, by the word that it fetched; and, where that is the program's, the turns by the words of the
-/// program that follow in the text, at most `most` in all. It answers how many, and takes no memory.
+/// One turn of a hart that isn't stopped. It takes no memory.
 #[inline(always)]
-fn turn_by(
+fn take_turn(
     progress: &mut Progress,
-    slot: &Slot,
-    most: u32,
     stop: &mut Option<Cause>,
     regs: &mut Regs,
     bank: &mut Vec<u64>,
@@ -66,28 +47,28 @@ fn turn_by(
     mem: &mut Mem,
     resv: &mut Reservations,
     out: &mut Output,
-) -> u32
+)
     requires number { number < length resv.old }
     requires bank { length bank.old.items ≡ bank_len }
     requires running { stop.old ≡ None }
-    requires most { 1 ≤ most }
-    requires fetched { fetched_at store.now.program store.now.code progress.old.pc progress.old.inside ≡ Some slot.now }
     requires placed { progress.old.inside ≡ true → is_tool_word store.now.program progress.old.pc ≡ true }
-    requires countable { is_own slot.now.mark ≡ true → progress.old.ticks + most < 2 ^ 64 }
-    ensures bound { (1 ≤ result) × (result ≤ most) }
+    requires countable { is_tick (fetched_at store.now.program store.now.code progress.old.pc progress.old.inside) ≡ true → progress.old.ticks + 1 < 2 ^ 64 }
+    ensures turned { alone_of progress.new stop.new regs.new bank.new.items (prog_of mem.new resv.new out.new) ≡ turned_alone store.now number (alone_of progress.old stop.old regs.old bank.old.items (prog_of mem.old resv.old out.old)) }
     ensures room { length bank.new.items ≡ length bank.old.items }
     ensures harts { length resv.new ≡ length resv.old }
-    ensures one { most ≡ 1 → alone_of progress.new stop.new regs.new bank.new.items (prog_of mem.new resv.new out.new) ≡ turned_alone store.now number (alone_of progress.old stop.old regs.old bank.old.items (prog_of mem.old resv.old out.old)) }
-    ensures own { slot.now.mark ≡ Own → progress.old.inside ≡ false → OwnRun store.now number result slot.now progress.old.pc regs.old bank.old.items (prog_of mem.old resv.old out.old) stop.new progress.new.pc regs.new bank.new.items (prog_of mem.new resv.new out.new) }
-    ensures ticks { slot.now.mark ≡ Own → progress.old.inside ≡ false → (progress.new.ticks ≡ progress.old.ticks + result) × (progress.new.inside ≡ false) }
 {
     let at = progress.pc;
     let inside = progress.inside;
     let ticks = progress.ticks;
-    let turns = perform(
+    let Some(slot) = store.slot(at, inside) else {
+        progress.pc = home(store, at, inside);
+        progress.ticks = ticks + 1;
+        progress.inside = false;
+        *stop = Some(Cause::FetchOutside);
+        return;
+    };
+    let goes = perform(
         slot,
-        most,
-        store,
         number,
         ticks,
         &mut progress.pc,
@@ -98,19 +79,50 @@ fn turn_by(
         resv,
         out,
     );
-    if slot.is_tick() {
-        progress.ticks = ticks + turns as u64;
-    }
-    if stop.is_none() {
+    progress.ticks = ticks + slot.is_tick() as u64;
+    if goes {
         progress.inside = slot.inside_after(inside);
-    } else if inside {
-        progress.pc = home(store, at, true);
+    } else {
+        progress.pc = home(store, at, inside);
         progress.inside = false;
     }
+}
+
+/// Turns of a hart that can take one, by words of the program one after another: at most `most`, and none where the hart is inside or
+/// such a word isn't next. It answers how many, and takes no memory.
+#[inline(always)]
+fn take_words(
+    progress: &mut Progress,
+    stop: &mut Option<Cause>,
+    regs: &mut Regs,
+    bank: &Vec<u64>,
+    number: HartNo,
+    most: u32,
+    budget: u64,
+    store: &Store,
+    mem: &mut Mem,
+    resv: &mut Reservations,
+    out: &mut Output,
+) -> u32
+    requires number { number < length resv.old }
+    requires may { IsTrue (may_alone budget (alone_of progress.old stop.old regs.old bank.now.items (prog_of mem.old resv.old out.old))) }
+    ensures leads { Leads store.now budget number result (alone_of progress.old stop.old regs.old bank.now.items (prog_of mem.old resv.old out.old)) (alone_of progress.new stop.new regs.new bank.now.items (prog_of mem.new resv.new out.new)) }
+    ensures bound { result ≤ most }
+    ensures harts { length resv.new ≡ length resv.old }
+{
+    let _ = bank;
+    if progress.inside {
+        return 0;
+    }
+    let words = (budget - progress.ticks).min(most as u64) as u32;
+    let pc = &mut progress.pc;
+    let turns = run_words(words, number, pc, stop, regs, store, mem, resv, out);
+    progress.ticks += turns as u64;
     turns
 }
 
-/// A turn of a hart that can take one, or several by words of the program, at most `most`. It answers how many, and takes no memory.
+/// Turns of a hart that can take one: of words of the program one after another where such a word is next, at most `most`, and else
+/// one. It answers how many, and takes no memory.
 #[inline(always)]
 fn take_some(
     progress: &mut Progress,
@@ -135,17 +147,14 @@ fn take_some(
     ensures room { length bank.new.items ≡ length bank.old.items }
     ensures harts { length resv.new ≡ length resv.old }
 {
-    let Some(slot) = store.slot(progress.pc, progress.inside) else {
-        progress.pc = home(store, progress.pc, progress.inside);
-        progress.ticks += 1;
-        progress.inside = false;
-        *stop = Some(Cause::FetchOutside);
-        return 1;
-    };
-    let most = progress.most_by(slot, most, budget);
-    turn_by(
-        progress, slot, most, stop, regs, bank, number, store, mem, resv, out,
-    )
+    let words = take_words(
+        progress, stop, regs, bank, number, most, budget, store, mem, resv, out,
+    );
+    if words > 0 {
+        return words;
+    }
+    take_turn(progress, stop, regs, bank, number, store, mem, resv, out);
+    1
 }
 
 impl HartState {

@@ -1,11 +1,12 @@
 -- The statements of a plan of a checked configuration are short, and fit its variables.
-use Rattle.std.proofs.Common.{◌≡◌, ℕ, zero, suc, ◌+◌, ◌%◌, ◌^◌, ◌<◌, ◌≤◌, cond, Bool, true, false, Option, Some, None, List, [], ◌∷◌, ◌++◌, length, map, flat_map, get_or, slice_get, unwrap_or, refl, sym, ap, ◌∙◌, subst, arith}
+use Rattle.std.proofs.Common.{◌≡◌, ℕ, zero, suc, ◌+◌, ◌%◌, ◌^◌, ◌<◌, ◌≤◌, cond, nat_lt, Bool, true, false, Option, Some, None, List, [], ◌∷◌, ◌++◌, length, map, flat_map, get_or, slice_get, unwrap_or, refl, sym, ap, ◌∙◌, subst, arith}
 use Rattle.std.specs.List.{filter, AllByRecursion}
 use Rattle.std.specs.Option.{option_map}
 use Rattle.std.proofs.lemmas.List.{length-append, length-map, append_assoc}
 use Rattle.pn_types.specs.declared.code.Point.{Point}
 use Rattle.pn_types.specs.declared.code.Proc.{Proc}
 use Rattle.pn_types.specs.declared.focus.Focus.{Focus}
+use Rattle.pn_types.specs.declared.plan.Open.{Open}
 use Rattle.pn_types.specs.declared.plan.Site.{Site}
 use Rattle.pn_types.specs.declared.plan.Stmt.{Stmt}
 use Rattle.pn_types.specs.declared.plan.Var.{Var}
@@ -21,6 +22,7 @@ use Rattle.mdl_ast.specs.Small.{IsSmallRight}
 use Rattle.prim_code.specs.Fitting.{Names, IsLeftOf, IsActOf, IsCondOf, IsStmtOf}
 use Rattle.mdl_ast.specs.declared.block.Block.{Block}
 use Rattle.mdl_ast.specs.declared.block.EventKind.{EventKind}
+use Rattle.mdl_ast.specs.declared.block.EventKind.TheVariants.{Entry}
 use Rattle.mdl_ast.specs.declared.block.Insertion.{Insertion}
 use Rattle.mdl_ast.specs.declared.block.Set.{Set}
 use Rattle.mdl_ast.specs.declared.metric.Metric.{Metric}
@@ -32,7 +34,7 @@ use Rattle.mdl_plan.specs.Active.{Active}
 use Rattle.mdl_plan.specs.Choosing.{is_chosen, kinds_of}
 use Rattle.mdl_plan.specs.Fitting.{HasLowObjects}
 use Rattle.mdl_plan.specs.Pieces.{Piece, piece, pieces_of, replacement, counting, counters, base_blocks, counter_pieces, is_before, is_behind, in_order}
-use Rattle.mdl_plan.specs.Plans.{Scene, base_var, counter_var, vars_of, stmts_for, site_at, has_stmts, sites_of, terms_of, scene_of}
+use Rattle.mdl_plan.specs.Plans.{Scene, base_var, counter_var, vars_of, stmts_for, site_at, has_stmts, sites_of, open_if, open_at, opens_of, terms_of, scene_of}
 use Rattle.mdl_plan.specs.Statements.{Terms, guards, left_of, right_of, cond_of, act_of, stmt_of, stmts_of}
 use Rattle.mdl_plan.proofs.Costs.{short_stmt}
 use Rattle.mdl_plan.proofs.Limits.{few_counting}
@@ -185,7 +187,7 @@ module _ (vars : List Var) (t : Terms) (P : Stmt → Type 0) (one : (timer : Boo
       (all_filter PieceFits is_before (counted ++ base) (all_append PieceFits counted base h g))
       (all_filter PieceFits is_behind (base ++ counted) (all_append PieceFits base counted g h))
 
--- ---- sites
+-- ---- sites and what is open
 
 module _ (P : Stmt → Type 0) (s : Scene) (h : AllByRecursion (λ p. AllByRecursion P (stmts_of s.terms p)) s.pieces) where
   abbrev SiteFits : Site → Type 0
@@ -205,6 +207,27 @@ module _ (P : Stmt → Type 0) (s : Scene) (h : AllByRecursion (λ p. AllByRecur
   sites_fit : (points : List Point) → AllByRecursion SiteFits (sites_of s points)
   sites_fit points = all_filter SiteFits has_stmts (map (site_at s) points) (all_mapped (site_at s) (λ p. Unit {0}) SiteFits (λ p u. at_fits p) points (all_any (λ p. Unit {0}) (λ p. tt) points))
 
+  abbrev OpenFits : Open → Type 0
+  OpenFits o = AllByRecursion P o.stmts
+
+  if_fits : (stmts : List Stmt) (o : Option Proc) → AllByRecursion P stmts → AllByRecursion OpenFits (open_if stmts o)
+  if_fits stmts None fit = tt
+  if_fits stmts (Some p) fit = go (nat_lt 0 (length stmts))
+    where
+      go : (b : Bool) → AllByRecursion OpenFits (cond b (record { start = p.start; len = p.len; stmts = stmts } ∷ []) [])
+      go true = (fit, tt)
+      go false = tt
+
+  open_fits : (p : Point) → AllByRecursion OpenFits (open_at s p)
+  open_fits p = go p.entry
+    where
+      go : (b : Bool) → AllByRecursion OpenFits (cond b (open_if (stmts_for s p.proc_no (slice_get s.procs p.proc_no) Entry) (slice_get s.procs p.proc_no)) [])
+      go true = if_fits (stmts_for s p.proc_no (slice_get s.procs p.proc_no) Entry) (slice_get s.procs p.proc_no) (for_fits p.proc_no (slice_get s.procs p.proc_no) Entry)
+      go false = tt
+
+  opens_fit : (points : List Point) → AllByRecursion OpenFits (opens_of s points)
+  opens_fit points = all_flat (open_at s) (λ p. Unit {0}) OpenFits (λ p u. open_fits p) points (all_any (λ p. Unit {0}) (λ p. tt) points)
+
 -- ---- the plan
 
 few_guards : (v : ℕ) (cs : List Constraint) → length (guards v cs) ≡ length cs
@@ -221,21 +244,33 @@ abbrev AllStmts : (Stmt → Type 0) → List Site → Type 0
 AllStmts P sites = AllByRecursion (λ site. AllByRecursion P site.stmts) sites
 
 module _ (t : Resources) (f : Focus) (procs : List Proc) (points : List Point) (m : Metric) (a : Active) (suits : ActiveSuits m a) (own : IsSoundMetric m) where
-  scene_fits : (P : Stmt → Type 0) → ((timer : Bool) (p : Piece) (s : Statement) → Names (vars_of m a) timer p.variable → Fits timer s → P (stmt_of (terms_of (part t f) a) p s))
-      → AllStmts P (sites_of (scene_of (part t f) procs m a) points)
+  abbrev scene : Scene
+  scene = scene_of (part t f) procs m a
+
+  abbrev HoldsOfEach : (Stmt → Type 0) → Type 0
+  HoldsOfEach P = (timer : Bool) (p : Piece) (s : Statement) → Names (vars_of m a) timer p.variable → Fits timer s → P (stmt_of (terms_of (part t f) a) p s)
+
+  scene_fits : (P : Stmt → Type 0) → HoldsOfEach P → AllByRecursion (λ p. AllByRecursion P (stmts_of scene.terms p)) scene.pieces
   scene_fits P one =
       let vars = vars_of m a in
       let terms = terms_of (part t f) a in
       let counts = all_append (λ c. OfEach (Fits false) c.blocks) (counting a.code) (counting a.object) (counting_fits m a.code suits.code) (counting_fits m a.object suits.object) in
-      let fitting = order_fits vars terms P one (counter_pieces 1 (counters a)) (pieces_of 0 (base_blocks m (replacement a)))
+      order_fits vars terms P one (counter_pieces 1 (counters a)) (pieces_of 0 (base_blocks m (replacement a)))
       (counters_fit vars terms P one (base_var m a ∷ []) 1 (counters a) refl refl counts)
-      (pieces_fit vars terms P one m.timer 0 (base_blocks m (replacement a)) refl (base_fits m a suits own)) in
-      sites_fit P (scene_of (part t f) procs m a) fitting points
+      (pieces_fit vars terms P one m.timer 0 (base_blocks m (replacement a)) refl (base_fits m a suits own))
 
-  pub scene_few : AllStmts (λ s. length s.conds ≤ 18) (sites_of (scene_of (part t f) procs m a) points)
-  scene_few = scene_fits (λ s. length s.conds ≤ 18) (λ timer p s names h. few_conds (terms_of (part t f) a) (few_terms (part t f) a) timer p s h)
+  pub scene_few : AllStmts (λ s. length s.conds ≤ 18) (sites_of scene points)
+  scene_few =
+      sites_fit (λ s. length s.conds ≤ 18) scene
+      (scene_fits (λ s. length s.conds ≤ 18) (λ timer p s names h. few_conds (terms_of (part t f) a) (few_terms (part t f) a) timer p s h)) points
 
-  pub scene_stmts : HasLowObjects t → AllStmts (IsStmtOf (vars_of m a)) (sites_of (scene_of (part t f) procs m a) points)
-  scene_stmts low =
+  fitting : HasLowObjects t → AllByRecursion (λ p. AllByRecursion (IsStmtOf (vars_of m a)) (stmts_of scene.terms p)) scene.pieces
+  fitting low =
       scene_fits (IsStmtOf (vars_of m a))
       (stmt_fits (terms_of (part t f) a) (few_terms (part t f) a) (vars_of m a) (guards_fit (vars_of m a) (base_var m a ∷ []) 1 (counters a) refl refl) (low_value (address_of t.objects f.object) (low_address t.objects f.object low)))
+
+  pub scene_stmts : HasLowObjects t → AllStmts (IsStmtOf (vars_of m a)) (sites_of scene points)
+  scene_stmts low = sites_fit (IsStmtOf (vars_of m a)) scene (fitting low) points
+
+  pub scene_opens : HasLowObjects t → AllByRecursion (λ o. AllByRecursion (IsStmtOf (vars_of m a)) o.stmts) (opens_of scene points)
+  scene_opens low = opens_fit (IsStmtOf (vars_of m a)) scene (fitting low) points

@@ -6,10 +6,12 @@ mod SparseLists
 mod PieceNumbers
 mod Selected
 mod SiteList
+mod OpenList
 mod Numbered
 mod PointStmts
 mod Outcomes
 mod PointPlaces
+mod FewOpens
 pub mod Limits
 mod GatheredPoints
 mod ChosenPlaces
@@ -18,3 +20,4 @@ pub mod Costs
 pub mod Suiting
 pub mod FittingStmts
 pub mod Measurable
+pub mod Starting

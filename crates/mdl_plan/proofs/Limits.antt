@@ -9,6 +9,7 @@ use Rattle.std.proofs.lemmas.List.Kept.{AllPairs-from_increasing}
 use Rattle.pn_types.specs.declared.code.Point.{Point}
 use Rattle.pn_types.specs.declared.code.Proc.{Proc}
 use Rattle.pn_types.specs.declared.focus.Focus.{Focus}
+use Rattle.pn_types.specs.declared.plan.Open.{Open}
 use Rattle.pn_types.specs.declared.plan.Plan.{Plan}
 use Rattle.pn_types.specs.declared.plan.Site.{Site}
 use Rattle.pn_types.specs.declared.plan.Var.{Var}
@@ -18,9 +19,10 @@ use Rattle.resource_tree.specs.Resources.{Resources}
 use Rattle.resource_tree.specs.Foci.{part}
 use Rattle.mdl_plan.specs.Active.{Active}
 use Rattle.mdl_plan.specs.Pieces.{counters, counting}
-use Rattle.mdl_plan.specs.Plans.{Answers, IsLimited, IsPlanOver, IsSiteOf, Scene, has_stmts, is_crowded, or_crowded, plan_with, plan_at, site_at, sites_of, scene_of, stmts_at, counter_var, vars_of}
+use Rattle.mdl_plan.specs.Plans.{Answers, IsLimited, IsPlanOver, IsSiteOf, Scene, has_stmts, is_crowded, opens_of, or_crowded, plan_with, plan_at, site_at, sites_of, scene_of, stmts_at, counter_var, vars_of}
 use Rattle.mdl_plan.specs.declared.fault.PlanFault.{PlanFault}
 use Rattle.mdl_plan.specs.declared.fault.PlanFault.TheVariants.{TooManySites}
+use Rattle.mdl_plan.proofs.FewOpens.{few_opens}
 
 few_stmts : (site : Site) → is_crowded site ≡ false → length site.stmts ≤ 32
 few_stmts site e = omega (arith, ltb-false 32 (length site.stmts) e)
@@ -34,27 +36,27 @@ none_crowded (site ∷ sites) e k d h = go (is_crowded site) refl (none_crowded 
     go false f rest g zero d h = few_stmts site f
     go false f rest g (suc k) d h = rest g k d (omega arith)
 
-pub plan_is : (vars : List Var) (sites : List Site) (plan : Plan) → plan_with vars sites ≡ Ok plan → record { vars = vars; sites = sites } ≡ plan
-plan_is vars sites plan e = go (ltb 4096 (length sites)) (find is_crowded sites) e
+pub plan_is : (vars : List Var) (sites : List Site) (opens : List Open) (plan : Plan) → plan_with vars sites opens ≡ Ok plan → record { vars = vars; sites = sites; opens = opens } ≡ plan
+plan_is vars sites opens plan e = go (ltb 4096 (length sites)) (find is_crowded sites) e
   where
     same : {a b : Plan} → (let r : Result Plan PlanFault = Ok a in r) ≡ Ok b → a ≡ b
     same f = cc
 
-    go : (b : Bool) (o : Option Site) → cond b (Err (TooManySites (length sites))) (or_crowded vars sites o) ≡ Ok plan → record { vars = vars; sites = sites } ≡ plan
+    go : (b : Bool) (o : Option Site) → cond b (Err (TooManySites (length sites))) (or_crowded vars sites opens o) ≡ Ok plan → record { vars = vars; sites = sites; opens = opens } ≡ plan
     go true o h = absurd cc
     go false (Some site) h = absurd cc
     go false None h = same h
 
-plan_limits : (vars : List Var) (sites : List Site) (plan : Plan) → plan_with vars sites ≡ Ok plan → IsLimited plan
-plan_limits vars sites plan e = go (ltb 4096 (length sites)) refl (find is_crowded sites) refl e
+plan_limits : (vars : List Var) (sites : List Site) (opens : List Open) (plan : Plan) → (find is_crowded sites ≡ None → All (λ o. length o.stmts ≤ 32) opens) → plan_with vars sites opens ≡ Ok plan → IsLimited plan
+plan_limits vars sites opens plan few e = go (ltb 4096 (length sites)) refl (find is_crowded sites) refl e
   where
     same : {a b : Plan} → (let r : Result Plan PlanFault = Ok a in r) ≡ Ok b → a ≡ b
     same f = cc
 
-    go : (b : Bool) → ltb 4096 (length sites) ≡ b → (o : Option Site) → find is_crowded sites ≡ o → cond b (Err (TooManySites (length sites))) (or_crowded vars sites o) ≡ Ok plan → IsLimited plan
+    go : (b : Bool) → ltb 4096 (length sites) ≡ b → (o : Option Site) → find is_crowded sites ≡ o → cond b (Err (TooManySites (length sites))) (or_crowded vars sites opens o) ≡ Ok plan → IsLimited plan
     go true f o g h = absurd cc
     go false f (Some site) g h = absurd cc
-    go false f None g h = subst IsLimited (same h) (record { sites = omega (arith, ltb-false 4096 (length sites) f); stmts = none_crowded sites g })
+    go false f None g h = subst IsLimited (same h) (record { sites = omega (arith, ltb-false 4096 (length sites) f); stmts = none_crowded sites g; opens = few g })
 
 -- ---- the sites
 
@@ -124,12 +126,13 @@ few_vars m a =
     let mapped = length-map (counters a) counter_var in
     omega (arith, few_counting a.code, few_counting a.object, both, mapped)
 
-over : (points : List Point) (s : Scene) (m : Metric) (a : Active) (plan : Plan) → plan_with (vars_of m a) (sites_of s points) ≡ Ok plan → IsPlanOver points plan
+over : (points : List Point) (s : Scene) (m : Metric) (a : Active) (plan : Plan) → plan_with (vars_of m a) (sites_of s points) (opens_of s points) ≡ Ok plan → IsPlanOver points plan
 over points s m a plan e =
-    let limited = plan_limits (vars_of m a) (sites_of s points) plan e in
-    subst (IsPlanOver points) (plan_is (vars_of m a) (sites_of s points) plan e) (record {
+    let is = plan_is (vars_of m a) (sites_of s points) (opens_of s points) plan e in
+    let limited = plan_limits (vars_of m a) (sites_of s points) (opens_of s points) plan (few_opens s points) e in
+    subst (IsPlanOver points) is (record {
       vars = (omega arith, few_vars m a);
-      limited = subst IsLimited (sym (plan_is (vars_of m a) (sites_of s points) plan e)) limited;
+      limited = subst IsLimited (sym is) limited;
       sites = sites_of_points s points;
       ascend = λ rise. to_increasing (map (λ x. x.at) (sites_of s points)) (ascending_sites s points (ascend_from (map (λ p. p.at) points) rise));
     })

@@ -18,10 +18,10 @@ use Rattle.resource_tree.specs.Foci.{part}
 use Rattle.resource_tree.specs.Resources.{Resources}
 use Rattle.mdl_plan.specs.Active.{Active, active_of}
 use Rattle.mdl_plan.specs.Fitting.{HasFewConds, HasLowObjects, most_words}
-use Rattle.mdl_plan.specs.Plans.{Answers, IsPlanOver, vars_of, sites_of, scene_of, plan_at}
+use Rattle.mdl_plan.specs.Plans.{Answers, IsPlanOver, Scene, vars_of, opens_of, sites_of, scene_of, plan_at}
 use Rattle.mdl_plan.specs.declared.fault.PlanFault.{PlanFault}
 use Rattle.mdl_plan.proofs.Costs.{of_plan}
-use Rattle.mdl_plan.proofs.FittingStmts.{scene_few, scene_stmts}
+use Rattle.mdl_plan.proofs.FittingStmts.{scene_few, scene_opens, scene_stmts}
 use Rattle.mdl_plan.proofs.Limits.{Ascend, ascend_from, plan_is}
 use Rattle.mdl_plan.proofs.Suiting.{ActiveSuits, active_suits}
 
@@ -53,9 +53,15 @@ is_checked ms cs f i m a metrics constraints taken lt is active = record {
 }
 
 module _ (t : Resources) (f : Focus) (procs : List Proc) (points : List Point) (m : Metric) (a : Active) (c : IsChecked m a) where
+  abbrev scene : Scene
+  scene = scene_of (part t f) procs m a
+
+  abbrev is : (plan : Plan) → Answers (Ok plan) (plan_at t f procs points m (Ok a)) → record { vars = vars_of m a; sites = sites_of scene points; opens = opens_of scene points } ≡ plan
+  is plan e = plan_is (vars_of m a) (sites_of scene points) (opens_of scene points) plan e
+
   pub answer_few : (r : Result Plan PlanFault) → Answers r (plan_at t f procs points m (Ok a)) → IfOk r HasFewConds
   answer_few (Err fault) e = tt
-  answer_few (Ok plan) e = subst HasFewConds (plan_is (vars_of m a) (sites_of (scene_of (part t f) procs m a) points) plan e) (scene_few t f procs points m a c.suits c.own)
+  answer_few (Ok plan) e = subst HasFewConds (is plan e) (scene_few t f procs points m a c.suits c.own)
 
   pub answer_cost : (r : Result Plan PlanFault) → Answers r (plan_at t f procs points m (Ok a)) → IfOk r (IsPlanOver points) → IfOk r (λ plan. predicted plan ≤ most_words)
   answer_cost (Err fault) e over = tt
@@ -68,7 +74,7 @@ module _ (t : Resources) (f : Focus) (procs : List Proc) (points : List Point) (
     narrow = narrow;
     apart = apart plan.sites (ascend_from (map (λ x. x.at) plan.sites) (over.ascend rise));
     few = recursion_from_All (λ s. length s.stmts ≤ 32) plan.sites over.limited.stmts;
-    fitting =
-        subst (λ (p : Plan). AllByRecursion (λ s. AreStmtsOf p.vars s.stmts) p.sites) (plan_is (vars_of m a) (sites_of (scene_of (part t f) procs m a) points) plan e)
-        (scene_stmts t f procs points m a c.suits c.own low);
+    fitting = subst (λ (p : Plan). AllByRecursion (λ s. AreStmtsOf p.vars s.stmts) p.sites) (is plan e) (scene_stmts t f procs points m a c.suits c.own low);
+    opens_few = recursion_from_All (λ o. length o.stmts ≤ 32) plan.opens over.limited.opens;
+    opens_fitting = subst (λ (p : Plan). AllByRecursion (λ o. AreStmtsOf p.vars o.stmts) p.opens) (is plan e) (scene_opens t f procs points m a c.suits c.own low);
   }

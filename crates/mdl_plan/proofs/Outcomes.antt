@@ -5,19 +5,21 @@ use Rattle.std.specs.Option.{option_map}
 use Rattle.std.proofs.lemmas.Bool.{lt-ltb, ltb-true, false_from_ne_true}
 use Rattle.std.proofs.lemmas.List.{length-map}
 use Rattle.pn_types.specs.declared.code.Point.{Point}
+use Rattle.pn_types.specs.declared.plan.Open.{Open}
 use Rattle.pn_types.specs.declared.plan.Plan.{Plan}
 use Rattle.pn_types.specs.declared.plan.Site.{Site}
 use Rattle.pn_types.specs.declared.plan.Var.{Var}
 use Rattle.mdl_plan.specs.Busy.{busy}
 use Rattle.mdl_plan.specs.Selecting.{scope}
 use Rattle.mdl_plan.specs.Pieces.{Piece}
-use Rattle.mdl_plan.specs.Plans.{Answers, Scene, is_crowded, or_crowded, plan_with, sites_of}
+use Rattle.mdl_plan.specs.Plans.{Answers, Scene, is_crowded, or_crowded, plan_with, opens_of, sites_of}
 use Rattle.mdl_plan.specs.Statements.{Terms}
-use Rattle.mdl_plan.specs.Tables.{IsTable, Refuses, has_numbers, site_with, sites_with}
+use Rattle.mdl_plan.specs.Tables.{IsTable, Refuses, has_numbers, opens_with, site_with, sites_with}
 use Rattle.mdl_plan.specs.declared.fault.PlanFault.{PlanFault}
 use Rattle.mdl_plan.specs.declared.fault.PlanFault.TheVariants.{NoMemory, NoConstraint, TooManySites, TooManyStmts}
 use Rattle.mdl_plan.specs.declared.table.Table.{Table}
-use Rattle.mdl_plan.proofs.PointStmts.{sites_are}
+use Rattle.mdl_plan.proofs.OpenList.{opens_reached}
+use Rattle.mdl_plan.proofs.PointStmts.{opens_are, sites_are}
 
 -- the sites of a scene, where the points at which a piece is chosen are reached
 pub scene_sites : (s : Scene) (terms : Terms) (pieces : List Piece) (t : Table) (reached points : List Point)
@@ -32,38 +34,48 @@ scene_sites s terms pieces t reached points all e h f =
 pub many_sites : (terms : Terms) (pieces : List Piece) (t : Table) (points : List Point) → length (sites_with terms pieces t points) ≡ length (filter (has_numbers t) points)
 many_sites terms pieces t points = length-map (filter (has_numbers t) points) (site_with terms pieces t)
 
+-- what is open in a scene, where the same points are reached
+pub scene_opens : (s : Scene) (terms : Terms) (pieces : List Piece) (t : Table) (reached points : List Point)
+    → filter (has_numbers t) reached ≡ filter (has_numbers t) points → pieces ≡ busy s.pieces → IsTable (scope s.selected s.procs) pieces t → terms ≡ s.terms
+    → opens_with terms pieces t s.procs reached ≡ opens_of s points
+scene_opens s terms pieces t reached points all e h f =
+    opens_reached terms pieces t s.procs reached points all
+    ∙ ap (λ (x : Terms). opens_with x pieces t s.procs points) f
+    ∙ ap (λ (ps : List Piece). opens_with s.terms ps t s.procs points) e
+    ∙ opens_are s t (subst (λ (ps : List Piece). IsTable (scope s.selected s.procs) ps t) e h) points
+
 -- there are too many
-pub too_many : (vars : List Var) (sites due : List Site) (n : ℕ) → sites ≡ due → length sites ≡ n → 4096 < n → plan_with vars due ≡ Err (TooManySites n)
-too_many vars sites due n same len many =
+pub too_many : (vars : List Var) (sites due : List Site) (opens : List Open) (n : ℕ) → sites ≡ due → length sites ≡ n → 4096 < n → plan_with vars due opens ≡ Err (TooManySites n)
+too_many vars sites due opens n same len many =
     let k : length due ≡ n = ap length (sym same) ∙ len in
-    ap (λ (b : Bool). cond b (Err (TooManySites (length due))) (or_crowded vars due (find is_crowded due))) (lt-ltb 4096 (length due) (omega (arith, k)))
+    ap (λ (b : Bool). cond b (Err (TooManySites (length due))) (or_crowded vars due opens (find is_crowded due))) (lt-ltb 4096 (length due) (omega (arith, k)))
     ∙ ap (λ (m : ℕ). let r : Result Plan PlanFault = Err (TooManySites m) in r) k
 
 -- there are few enough
-few_enough : (vars : List Var) (due : List Site) → length due ≤ 4096 → plan_with vars due ≡ or_crowded vars due (find is_crowded due)
-few_enough vars due few =
-    ap (λ (b : Bool). cond b (Err (TooManySites (length due))) (or_crowded vars due (find is_crowded due)))
+few_enough : (vars : List Var) (due : List Site) (opens : List Open) → length due ≤ 4096 → plan_with vars due opens ≡ or_crowded vars due opens (find is_crowded due)
+few_enough vars due opens few =
+    ap (λ (b : Bool). cond b (Err (TooManySites (length due))) (or_crowded vars due opens (find is_crowded due)))
     (false_from_ne_true (ltb 4096 (length due)) (λ (h : ltb 4096 (length due) ≡ true). omega (arith, ltb-true 4096 (length due) h)))
 
 -- the sites were refused
-pub refused : (vars : List Var) (sites due : List Site) (n : ℕ) (fault : PlanFault) (r : Result Plan PlanFault) → r ≡ Err fault
-    → sites ≡ due → length sites ≡ n → n ≤ 4096 → Refuses fault sites → Answers r (plan_with vars due)
-refused vars sites due n fault r e same len few h =
-    subst (λ (x : Result Plan PlanFault). Answers x (plan_with vars due)) (sym e) (by fault (subst (Refuses fault) same h))
+pub refused : (vars : List Var) (sites due : List Site) (opens : List Open) (n : ℕ) (fault : PlanFault) (r : Result Plan PlanFault) → r ≡ Err fault
+    → sites ≡ due → length sites ≡ n → n ≤ 4096 → Refuses fault sites → Answers r (plan_with vars due opens)
+refused vars sites due opens n fault r e same len few h =
+    subst (λ (x : Result Plan PlanFault). Answers x (plan_with vars due opens)) (sym e) (by fault (subst (Refuses fault) same h))
   where
-    crowded : (at : ℕ) (o : Option Site) → option_map (λ s. s.at) o ≡ Some at → or_crowded vars due o ≡ Err (TooManyStmts at)
+    crowded : (at : ℕ) (o : Option Site) → option_map (λ s. s.at) o ≡ Some at → or_crowded vars due opens o ≡ Err (TooManyStmts at)
     crowded at None g = cc
     crowded at (Some s) g = let k : s.at ≡ at = cc in ap (λ (m : ℕ). let r : Result Plan PlanFault = Err (TooManyStmts m) in r) k
 
-    by : (f : PlanFault) → Refuses f due → Answers (Err f) (plan_with vars due)
+    by : (f : PlanFault) → Refuses f due → Answers (Err f) (plan_with vars due opens)
     by NoMemory g = tt
     by (NoConstraint axis) g = absurd g
     by (TooManySites m) g = absurd g
-    by (TooManyStmts at) g = few_enough vars due (let k : length due ≡ n = ap length (sym same) ∙ len in omega (arith, k)) ∙ crowded at (find is_crowded due) g
+    by (TooManyStmts at) g = few_enough vars due opens (let k : length due ≡ n = ap length (sym same) ∙ len in omega (arith, k)) ∙ crowded at (find is_crowded due) g
 
 -- the sites are the plan's
-pub done : (vars : List Var) (sites due : List Site) (n : ℕ) → sites ≡ due → length sites ≡ n → n ≤ 4096 → find is_crowded sites ≡ None
-    → plan_with vars due ≡ Ok (record { vars = vars; sites = due })
-done vars sites due n same len few none =
-    few_enough vars due (let k : length due ≡ n = ap length (sym same) ∙ len in omega (arith, k))
-    ∙ ap (or_crowded vars due) (ap (find is_crowded) (sym same) ∙ none)
+pub done : (vars : List Var) (sites due : List Site) (opens : List Open) (n : ℕ) → sites ≡ due → length sites ≡ n → n ≤ 4096 → find is_crowded sites ≡ None
+    → plan_with vars due opens ≡ Ok (record { vars = vars; sites = due; opens = opens })
+done vars sites due opens n same len few none =
+    few_enough vars due opens (let k : length due ≡ n = ap length (sym same) ∙ len in omega (arith, k))
+    ∙ ap (or_crowded vars due opens) (ap (find is_crowded) (sym same) ∙ none)

@@ -5,17 +5,19 @@ use Rattle.std.proofs.lemmas.List.{append-nil, get_or_past}
 use Rattle.std.proofs.lemmas.List.Concat.{flat_map-append}
 use Rattle.pn_types.specs.declared.code.Point.{Point}
 use Rattle.pn_types.specs.declared.code.Proc.{Proc}
+use Rattle.pn_types.specs.declared.plan.Open.{Open}
 use Rattle.pn_types.specs.declared.plan.Stmt.{Stmt}
 use Rattle.mdl_ast.specs.declared.block.EventKind.{EventKind}
 use Rattle.mdl_ast.specs.declared.block.EventKind.TheVariants.{Entry, After, Return, Call}
 use Rattle.mdl_plan.specs.Busy.{busy}
 use Rattle.mdl_plan.specs.Choosing.{is_chosen, kind_if}
 use Rattle.mdl_plan.specs.Numbers.{AreNumbers, stmts_of_number}
-use Rattle.mdl_plan.specs.Plans.{Scene, has_stmts, site_at, sites_of, stmts_at, stmts_for}
+use Rattle.mdl_plan.specs.Plans.{Scene, has_stmts, open_at, open_if, opens_of, site_at, sites_of, stmts_at, stmts_for}
 use Rattle.mdl_plan.specs.Selecting.{scope}
-use Rattle.mdl_plan.specs.Tables.{IsTable, has_numbers, is_some_number, numbers_at, numbers_if, site_with, sites_with}
+use Rattle.mdl_plan.specs.Tables.{IsTable, has_numbers, is_some_number, numbers_at, numbers_if, open_with, opens_with, site_with, sites_with}
 use Rattle.mdl_plan.specs.declared.table.Table.{Table}
 use Rattle.mdl_plan.proofs.Numbered.{numbered, idle, some_both, counted}
+use Rattle.mdl_plan.proofs.OpenList.{no_stmts}
 
 -- the statements of a piece by its number, and those for a kind of points
 abbrev by_number : Scene → ℕ → List Stmt
@@ -132,3 +134,21 @@ selected {X = X} {Y = Y} f k test has same each (x ∷ xs) =
 pub sites_are : (s : Scene) (t : Table) → IsTable (scope s.selected s.procs) (busy s.pieces) t → (points : List Point)
     → sites_with s.terms (busy s.pieces) t points ≡ sites_of s points
 sites_are s t h points = selected (site_at s) (site_with s.terms (busy s.pieces) t) has_stmts (has_numbers t) (same_test s t h) (same_site s t h) points
+
+-- ---- what is open
+
+module _ (s : Scene) (t : Table) (h : IsTable (scope s.selected s.procs) (busy s.pieces) t) where
+  same_open : (p : Point) → open_with s.terms (busy s.pieces) t s.procs p ≡ open_at s p
+  same_open p = by p.entry
+    where
+      by : (b : Bool) → open_if (flat_map (by_number s) (numbers_if b t.entry p.proc_no)) (slice_get s.procs p.proc_no)
+          ≡ cond b (open_if (stmts_for s p.proc_no (slice_get s.procs p.proc_no) Entry) (slice_get s.procs p.proc_no)) []
+      by true = ap (λ (l : List Stmt). open_if l (slice_get s.procs p.proc_no)) (of_kind s Entry t.entry p.proc_no h.entry (slice_get s.procs p.proc_no) refl)
+      by false = no_stmts (slice_get s.procs p.proc_no)
+
+  -- what is open by a table is so by the plan
+  pub opens_are : (points : List Point) → opens_with s.terms (busy s.pieces) t s.procs points ≡ opens_of s points
+  opens_are [] = refl
+  opens_are (p ∷ points) =
+      ap (λ (l : List Open). l ++ opens_with s.terms (busy s.pieces) t s.procs points) (same_open p)
+      ∙ ap (λ (l : List Open). open_at s p ++ l) (opens_are points)

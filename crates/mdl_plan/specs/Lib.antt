@@ -3,6 +3,7 @@ pub mod Pieces
 pub mod Statements
 pub mod Choosing
 pub mod Plans
+pub mod Starts
 pub mod Fitting
 pub mod Busy
 pub mod Selecting

@@ -5,11 +5,13 @@ use Rattle.std.specs.List.Sorted.{IsStrictlyIncreasing}
 use Rattle.pn_types.specs.declared.code.Point.{Point}
 use Rattle.pn_types.specs.declared.code.Proc.{Proc}
 use Rattle.pn_types.specs.declared.focus.Focus.{Focus}
+use Rattle.pn_types.specs.declared.plan.Open.{Open}
 use Rattle.pn_types.specs.declared.plan.Plan.{Plan}
 use Rattle.pn_types.specs.declared.plan.Site.{Site}
 use Rattle.pn_types.specs.declared.plan.Stmt.{Stmt}
 use Rattle.pn_types.specs.declared.plan.Var.{Var}
 use Rattle.mdl_ast.specs.declared.block.EventKind.{EventKind}
+use Rattle.mdl_ast.specs.declared.block.EventKind.TheVariants.{Entry}
 use Rattle.mdl_ast.specs.declared.metric.Metric.{Metric}
 use Rattle.mdl_ast.specs.declared.metric.Constraint.{Constraint}
 use Rattle.resource_tree.specs.Resources.{Resources}
@@ -65,6 +67,21 @@ has_stmts site = nat_lt 0 (length site.stmts)
 abbrev pub sites_of : Scene → List Point → List Site
 sites_of s points = filter has_stmts (map (site_at s) points)
 
+-- ---- what is open
+
+-- the range of a procedure with its entry statements, where it has some
+abbrev pub open_if : List Stmt → Option Proc → List Open
+open_if stmts None = []
+open_if stmts (Some p) = if nat_lt 0 (length stmts) then record { start = p.start; len = p.len; stmts = stmts } ∷ [] else []
+
+-- the procedure of a point that is its entry
+abbrev pub open_at : Scene → Point → List Open
+open_at s p = if p.entry then open_if (stmts_for s p.proc_no (slice_get s.procs p.proc_no) Entry) (slice_get s.procs p.proc_no) else []
+
+-- the procedures at whose entries at least one entry statement stands
+abbrev pub opens_of : Scene → List Point → List Open
+opens_of s points = flat_map (open_at s) points
+
 -- ---- the plan
 
 abbrev pub most_sites : ℕ
@@ -77,14 +94,14 @@ abbrev pub is_crowded : Site → Bool
 is_crowded site = nat_lt most_stmts (length site.stmts)
 
 -- the sites, unless one of them has too many statements
-abbrev pub or_crowded : List Var → List Site → Option Site → Result Plan PlanFault
-or_crowded vars sites None = Ok (record { vars = vars; sites = sites })
-or_crowded vars sites (Some site) = Err (TooManyStmts site.at)
+abbrev pub or_crowded : List Var → List Site → List Open → Option Site → Result Plan PlanFault
+or_crowded vars sites opens None = Ok (record { vars = vars; sites = sites; opens = opens })
+or_crowded vars sites opens (Some site) = Err (TooManyStmts site.at)
 
-abbrev pub plan_with : List Var → List Site → Result Plan PlanFault
-plan_with vars sites =
+abbrev pub plan_with : List Var → List Site → List Open → Result Plan PlanFault
+plan_with vars sites opens =
     if nat_lt most_sites (length sites) then Err (TooManySites (length sites))
-    else or_crowded vars sites (find is_crowded sites)
+    else or_crowded vars sites opens (find is_crowded sites)
 
 -- what a metric's statements have in common where the focus selects this
 abbrev pub terms_of : Selection → Active → Terms
@@ -95,7 +112,8 @@ scene_of s procs m a = record { selected = s.procs; procs = procs; pieces = piec
 
 abbrev pub plan_at : Resources → Focus → List Proc → List Point → Metric → Result Active PlanFault → Result Plan PlanFault
 plan_at t f procs points m (Err e) = Err e
-plan_at t f procs points m (Ok a) = plan_with (vars_of m a) (sites_of (scene_of (part t f) procs m a) points)
+plan_at t f procs points m (Ok a) =
+    plan_with (vars_of m a) (sites_of (scene_of (part t f) procs m a) points) (opens_of (scene_of (part t f) procs m a) points)
 
 -- The plan of a metric at a focus, or why there is none.
 abbrev pub plan_of : List Constraint → Metric → Focus → Resources → List Proc → List Point → Result Plan PlanFault
@@ -109,10 +127,11 @@ Answers (Err (NoConstraint axis)) due = due ≡ Err (NoConstraint axis)
 Answers (Err (TooManySites n)) due = due ≡ Err (TooManySites n)
 Answers (Err (TooManyStmts at)) due = due ≡ Err (TooManyStmts at)
 
--- at most so many sites, each with at most so many statements
+-- at most so many sites, each with at most so many statements, and each procedure with at most as many
 pub record IsLimited (plan : Plan) : Type 0 where
   pub sites : length plan.sites ≤ most_sites
   pub stmts : All (λ site. length site.stmts ≤ most_stmts) plan.sites
+  pub opens : All (λ o. length o.stmts ≤ most_stmts) plan.opens
 
 -- a site has statements, and its address is that of one of the points
 pub record IsSiteOf (points : List Point) (site : Site) : Type 0 where

@@ -1,9 +1,11 @@
 -- For proofs alone: the pieces that are chosen at points.
-use Rattle.std.specs.Prelude.{ℕ, ◌≡◌, ◌<◌, ◌==◌, ◌||◌, nat_lt, true, Some, Bool, if◌then◌else◌, List, [], ◌++◌, length, slice_index_or, map, flat_map}
+use Rattle.std.specs.Prelude.{ℕ, ◌≡◌, ◌<◌, ◌==◌, ◌||◌, nat_lt, true, Some, Bool, if◌then◌else◌, List, [], ◌++◌, length, slice_get, slice_index_or, map, flat_map}
 use Rattle.std.specs.List.{filter, find, list_any}
 use Rattle.std.specs.List.Sorted.{IsStrictlyIncreasing}
 use Rattle.std.specs.Option.{option_map}
 use Rattle.pn_types.specs.declared.code.Point.{Point}
+use Rattle.pn_types.specs.declared.code.Proc.{Proc}
+use Rattle.pn_types.specs.declared.plan.Open.{Open}
 use Rattle.pn_types.specs.declared.plan.Site.{Site}
 use Rattle.pn_types.specs.declared.plan.Stmt.{Stmt}
 use Rattle.mdl_ast.specs.declared.block.EventKind.TheVariants.{Entry, After, Return, Call}
@@ -12,7 +14,7 @@ use Rattle.mdl_plan.specs.Selecting.{Scope}
 use Rattle.mdl_plan.specs.Numbers.{AreNumbers, stmts_of_number}
 use Rattle.mdl_plan.specs.Pieces.{Piece}
 use Rattle.mdl_plan.specs.Statements.{Terms}
-use Rattle.mdl_plan.specs.Plans.{is_crowded}
+use Rattle.mdl_plan.specs.Plans.{is_crowded, open_if}
 use Rattle.mdl_plan.specs.declared.fault.PlanFault.{PlanFault}
 use Rattle.mdl_plan.specs.declared.fault.PlanFault.TheVariants.{NoMemory, NoConstraint, TooManySites, TooManyStmts}
 use Rattle.mdl_plan.specs.declared.planner.Planner.{Planner}
@@ -66,6 +68,13 @@ site_with terms pieces t p = record { at = p.at; stmts = flat_map (stmts_of_numb
 abbrev pub sites_with : Terms → List Piece → Table → List Point → List Site
 sites_with terms pieces t points = map (site_with terms pieces t) (filter (has_numbers t) points)
 
+-- the procedure of a point with the statements of its entry pieces
+abbrev pub open_with : Terms → List Piece → Table → List Proc → Point → List Open
+open_with terms pieces t procs p = open_if (flat_map (stmts_of_number terms pieces) (numbers_if p.entry t.entry p.proc_no)) (slice_get procs p.proc_no)
+
+abbrev pub opens_with : Terms → List Piece → Table → List Proc → List Point → List Open
+opens_with terms pieces t procs points = flat_map (open_with terms pieces t procs) points
+
 -- why these sites are none of a plan, unless memory is wanting
 abbrev pub Refuses : PlanFault → List Site → Type 0
 Refuses NoMemory sites = Unit {0}
@@ -73,9 +82,12 @@ Refuses (NoConstraint axis) sites = ⊥
 Refuses (TooManySites n) sites = ⊥
 Refuses (TooManyStmts at) sites = option_map (λ site. site.at) (find is_crowded sites) ≡ Some at
 
--- what a planner adds for piece number i, and its sites
+-- what a planner adds for piece number i, its sites, and what is open
 abbrev pub stmts_in : Planner → ℕ → List Stmt
 stmts_in p i = stmts_of_number p.terms p.pieces.items i
 
 abbrev pub sites_in : Planner → List Point → List Site
 sites_in p points = sites_with p.terms p.pieces.items p.table points
+
+abbrev pub opens_in : Planner → List Proc → List Point → List Open
+opens_in p procs points = opens_with p.terms p.pieces.items p.table procs points

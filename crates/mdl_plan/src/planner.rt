@@ -1,14 +1,14 @@
-//! The sites of a plan.
+//! The sites of a plan, and the procedures at whose entries statements stand.
 
-ghost use Rattle.std.specs.Prelude.{◌≡◌, ◌≤◌, ◌<◌, ◌^◌, ◌++◌, ◌∷◌, [], IfOk, IfErr, OnOk, None, length, map, flat_map};
+ghost use Rattle.std.specs.Prelude.{◌≡◌, ◌≤◌, ◌<◌, ◌^◌, ◌++◌, ◌∷◌, [], IfOk, IfErr, OnOk, None, length, map, flat_map, slice_get};
 ghost use Rattle.std.specs.List.{filter, find};
 ghost use Rattle.resource_tree.specs.Foci.{part};
 ghost use Rattle.mdl_plan.specs.Busy.{busy};
 ghost use Rattle.mdl_plan.specs.Selecting.{scope, AreNames};
 ghost use Rattle.mdl_plan.specs.Indexes.{AreByProcedure};
 ghost use Rattle.mdl_plan.specs.Pieces as spec;
-ghost use Rattle.mdl_plan.specs.Plans.{is_crowded, terms_of};
-ghost use Rattle.mdl_plan.specs.Tables.{has_numbers, numbers_at, sites_in, stmts_in, IsOver, IsTable, Refuses};
+ghost use Rattle.mdl_plan.specs.Plans.{is_crowded, open_if, terms_of};
+ghost use Rattle.mdl_plan.specs.Tables.{has_numbers, numbers_at, open_with, opens_in, sites_in, stmts_in, IsOver, IsTable, Refuses};
 
 use crate::active::Active;
 use crate::fault::PlanFault;
@@ -18,7 +18,7 @@ use crate::scope::Scope;
 use crate::statements::Terms;
 use crate::table::{Table, numbers_if};
 use mdl_ast::{Constraint, Metric};
-use pn_types::{Focus, NoMemory, Point, Proc, Seq, Site, Stmt};
+use pn_types::{Focus, NoMemory, Open, Point, Proc, Seq, Site, Stmt};
 use resource_tree::Tree;
 use std::alloc::Global;
 
@@ -43,6 +43,36 @@ fn add(sites: &mut Vec<Site>, at: u64, stmts: Vec<Stmt>) -> Result<(), NoMemory>
         stmts: Seq::from_vec(stmts),
     })?;
     Ok(())
+}
+
+/// Adds the range of a procedure with its entry statements.
+fn add_range(opens: &mut Vec<Open>, range: &Proc, stmts: Vec<Stmt>) -> Result<(), NoMemory>
+    ensures { OnOk result (opens.new.items ≡ opens.old.items ++ record { start = range.now.start; len = range.now.len; stmts = stmts.items } ∷ []) }
+{
+    opens.push(Open {
+        start: range.start,
+        len: range.len,
+        stmts: Seq::from_vec(stmts),
+    })?;
+    Ok(())
+}
+
+/// Adds the range of a procedure with its entry statements, if there are any.
+fn add_busy(
+    opens: &mut Vec<Open>,
+    procs: &[Proc],
+    proc_no: u32,
+    stmts: Vec<Stmt>,
+) -> Result<(), NoMemory>
+    ensures { OnOk result (opens.new.items ≡ opens.old.items ++ open_if stmts.items (slice_get procs.now proc_no)) }
+{
+    if stmts.is_empty() {
+        return Ok(());
+    }
+    match procs.get(proc_no as usize) {
+        None => Ok(()),
+        Some(range) => add_range(opens, range, stmts),
+    }
 }
 
 impl<'a> Planner<'a> {
@@ -176,5 +206,37 @@ impl<'a> Planner<'a> {
             self.add_site(alloc, &mut sites, point)?;
         }
         Ok(sites)
+    }
+
+    /// Adds the procedure of a point, if the point is its entry and an entry statement stands there.
+    fn add_open(
+        &self,
+        alloc: Global,
+        opens: &mut Vec<Open>,
+        procs: &[Proc],
+        point: &Point,
+    ) -> Result<(), NoMemory>
+        ensures { OnOk result (opens.new.items ≡ opens.old.items ++ open_with self.now.terms self.now.pieces.items self.now.table procs.now point.now) }
+    {
+        let numbers = numbers_if(point.entry, &self.table.entry, point.proc_no);
+        let mut stmts = Vec::new(alloc);
+        self.add_pieces(alloc, &mut stmts, numbers)?;
+        add_busy(opens, procs, point.proc_no, stmts)
+    }
+
+    /// The procedures of the points at whose entries entry statements stand.
+    pub(crate) fn opens(
+        &self,
+        alloc: Global,
+        procs: &[Proc],
+        points: &[&Point],
+    ) -> Result<Vec<Open>, NoMemory>
+        ensures { IfOk result (λ opens. opens.items ≡ opens_in self.now procs.now (map (λ p. p.now) points.now)) }
+    {
+        let mut opens = Vec::new(alloc);
+        for point in points {
+            self.add_open(alloc, &mut opens, procs, point)?;
+        }
+        Ok(opens)
     }
 }

@@ -50,10 +50,12 @@ fn planned(
         return Err(PlanFault::TooManySites(sites));
     }
     let sites = planner.sites(alloc, &reached)?;
+    let opens = planner.opens(alloc, procs, &reached)?;
     let vars = vars(alloc, metric, active, &counters)?;
     Ok(Plan {
         vars: Seq::from_vec(vars),
         sites: Seq::from_vec(sites),
+        opens: Seq::from_vec(opens),
     })
 }
 
@@ -68,11 +70,15 @@ fn planned(
 /// The statements of a point stand kind by kind: entry, after, return, call. Of one kind those that are prepended come
 /// first, the counters' and then the base's, and then those that are appended, the base's and then the counters'.
 ///
+/// For each procedure at whose entry at least one entry statement stands, the plan has its range and these statements, by
+/// address: they tell a warm start what an open procedure has counted and started.
+///
 /// - `NoConstraint`: the metric has no constraint for a hierarchy below whose root the focus is; the code's goes first.
 /// - `TooManySites`: more than 4,096 points have statements.
 /// - `TooManyStmts`: a point has more than 32.
 ///
-/// A plan has one to three variables, and at most 4,096 sites at addresses of the points, each with 1 to 32 statements.
+/// A plan has one to three variables, and at most 4,096 sites at addresses of the points, each with 1 to 32 statements. A
+/// procedure that is told has as many.
 /// Where what was checked was parsed or shipped, a statement has at most 18 conditions, so that the plan's mini blocks have
 /// at most 13,373,440 words together. Where besides the tree's objects lie below 2^31, as those of every image do, and the
 /// points ascend, the tool's code measures the plan: the conditions are on counters of the plan and on the arguments 0 to

@@ -91,6 +91,7 @@ fn plan(alloc: Global) -> Result<Plan, NoMemory> {
     Ok(Plan {
         vars: Seq::from_vec(vec![in alloc; timer, counter]?),
         sites: Seq::from_vec(vec![in alloc; entry, ret]?),
+        opens: Seq::from_vec(Vec::new(alloc)),
     })
 }
 

@@ -21,8 +21,6 @@ use Rattle.pn_types.specs.declared.code.Proc.{Proc}
 use Rattle.pn_types.specs.declared.image.Image.{Image}
 use Rattle.pn_types.specs.declared.plan.Plan.{Plan}
 use Rattle.pn_types.specs.declared.settings.Settings.{Settings}
-use Rattle.pn_types.specs.declared.settings.Start.{Start}
-use Rattle.pn_types.specs.declared.settings.Start.TheVariants.{Cold, Warm}
 use Rattle.pn_types.specs.declared.code.Point.{Point}
 use Rattle.quanta_log.specs.Meaning.{meaning_of}
 use Rattle.quanta_log.specs.declared.quantum.Quantum.{Quantum}
@@ -33,7 +31,7 @@ use Rattle.refusals.specs.declared.configuration.ConfKind.TheVariants.{TooLong a
 use Rattle.refusals.specs.declared.log.LogCause.TheVariants.{TooLong as TooLongLog}
 use Rattle.refusals.specs.declared.program.ProgramFault.TheVariants.{TooLong}
 use Rattle.refusals.specs.declared.fault.Fault.{Fault}
-use Rattle.refusals.specs.declared.fault.Fault.TheVariants.{Usage, BadProgram, BadConf, BadLog, NotYet}
+use Rattle.refusals.specs.declared.fault.Fault.TheVariants.{Usage, BadProgram, BadConf, BadLog}
 use Rattle.resource_tree.specs.Foci.{OneSelection, canonical}
 use Rattle.resource_tree.specs.Resources.{Resources}
 use Rattle.session_spec.specs.Inputs.{Inputs as SessionInputs}
@@ -47,7 +45,7 @@ use Rattle.paradyn_top.specs.Found.{resources_of, IsCheck, IsFound}
 use Rattle.paradyn_top.specs.Given.{inputs_with}
 use Rattle.paradyn_top.specs.Inputs.{image_of, file_of, MeansConf, IsProgramContent, IsProgram, IsElfFile, IsConfContent, IsConfiguration, AreInputs}
 use Rattle.paradyn_top.specs.Logs.{or_bad_log, IsLog, IsLogContent, MeansLog}
-use Rattle.paradyn_top.specs.Replays.{replayed, IsReplay, IsReplayDue, IsReplayFrom, IsReplayWith}
+use Rattle.paradyn_top.specs.Replays.{replayed, IsReplay, IsReplayDue, IsReplayOf, IsReplayWith}
 use Rattle.paradyn_top.specs.Runs.{texts_of_run, IsPrepared, IsOpened, IsRunWith, IsRunDue, IsLiveWith, IsLiveDue, IsStressWith, IsStressDue, stress_settings, stress_sight, summary_of}
 use Rattle.paradyn_top.specs.Plans.{metric_named, or_unknown, or_bad_focus, IsSelected, IsPlanned, IsPlanAt, IsPlan}
 use Rattle.paradyn_top.specs.Serving.{AreAlike, AreOne}
@@ -196,9 +194,8 @@ module _ (laws : Laws) where
   replay_once : (log : Log) (image : Image) (i : SessionInputs) → IsOne (IsReplayWith log image i)
   replay_once log image i = equal_once (replayed (bad_pick i) (misfit_of i log.quanta) log image i)
 
-  replay_from_once : (start : Start) (log : Log) (i : Inputs) → IsOne (IsReplayFrom start log i)
-  replay_from_once Warm log i = equal_once (Err NotYet)
-  replay_from_once Cold log i =
+  replay_of_once : (log : Log) (i : Inputs) → IsOne (IsReplayOf log i)
+  replay_of_once log i =
       one_then (IsFound i.image log.settings.harts i.conf) (IsReplay log i.image) (found_once i.image log.settings.harts i.conf)
       (λ found. replay_once log i.image (inputs_with i.image found log.settings))
 
@@ -240,8 +237,8 @@ module _ (laws : Laws) where
 
     replay_due_once : (r : ReplayRequest) → IsOne (IsReplayDue r sees)
     replay_due_once r =
-        one_then (AreInputs sees r.program r.conf) (λ i. Then (IsLog sees r.log) (λ log. IsReplayFrom log.settings.start log i)) (inputs_once sees once r.program r.conf)
-        (λ i. one_then (IsLog sees r.log) (λ log. IsReplayFrom log.settings.start log i) (log_once r.log) (λ log. replay_from_once log.settings.start log i))
+        one_then (AreInputs sees r.program r.conf) (λ i. Then (IsLog sees r.log) (λ log. IsReplayOf log i)) (inputs_once sees once r.program r.conf)
+        (λ i. one_then (IsLog sees r.log) (λ log. IsReplayOf log i) (log_once r.log) (λ log. replay_of_once log i))
 
     due_for_once : (asked : Option Request) → AskNotLive asked → IsOne (IsDueFor asked sees)
     due_for_once None other = equal_once (Err Usage)

@@ -18,8 +18,6 @@ use Rattle.pn_types.specs.declared.focus.Focus.{Focus}
 use Rattle.pn_types.specs.declared.image.Image.{Image}
 use Rattle.pn_types.specs.declared.plan.Plan.{Plan}
 use Rattle.pn_types.specs.declared.settings.Settings.{Settings}
-use Rattle.pn_types.specs.declared.settings.Start.{Start}
-use Rattle.pn_types.specs.declared.settings.Start.TheVariants.{Cold, Warm}
 use Rattle.quanta_log.specs.Meaning.{meaning_of as log_of}
 use Rattle.quanta_log.specs.declared.fault.LogFault.{LogFault}
 use Rattle.quanta_log.specs.declared.fault.LogFault.TheVariants as log_fault
@@ -29,7 +27,7 @@ use Rattle.refusals.specs.Kinds.{fault_at}
 use Rattle.refusals.specs.Refusals.{Then}
 use Rattle.refusals.specs.declared.configuration.ConfKind.TheVariants.{TooLong as TooLongConf}
 use Rattle.refusals.specs.declared.fault.Fault.{Fault}
-use Rattle.refusals.specs.declared.fault.Fault.TheVariants.{Usage, FileFault, BadProgram, BadConf, BadPick, BadLog, NotYet}
+use Rattle.refusals.specs.declared.fault.Fault.TheVariants.{Usage, FileFault, BadProgram, BadConf, BadPick, BadLog}
 use Rattle.refusals.specs.declared.log.LogCause.TheVariants.{TooLong as TooLongLog}
 use Rattle.refusals.specs.declared.program.ProgramFault.TheVariants.{TooLong}
 use Rattle.resource_tree.specs.Foci.{canonical}
@@ -50,7 +48,7 @@ use Rattle.paradyn_top.specs.Runs.{texts_of_run, IsPrepared, IsOpened, IsRunWith
 use Rattle.paradyn_top.specs.Found.{resources_of, IsCheck, IsFound}
 use Rattle.paradyn_top.specs.Inputs.{begins_elf, or_bad_elf, or_bad_text, image_of, file_of, MeansConf, IsProgramContent, IsProgram, IsElfFile, IsConfContent, IsConfiguration, AreInputs}
 use Rattle.paradyn_top.specs.Logs.{or_bad_log, IsLog, IsLogContent, MeansLog}
-use Rattle.paradyn_top.specs.Replays.{replayed, IsReplay, IsReplayDue, IsReplayFrom, IsReplayWith}
+use Rattle.paradyn_top.specs.Replays.{replayed, IsReplay, IsReplayDue, IsReplayOf, IsReplayWith}
 use Rattle.paradyn_top.specs.Plans.{metric_named, or_unknown, or_bad_focus, IsSelected, IsPlanned, IsPlanAt, IsPlan}
 use Rattle.paradyn_top.specs.Sights.{Sight, seen, limited, IsContent}
 use Rattle.paradyn_top.specs.declared.configuration.TheConstants.{CONFIGURATION_LIMIT}
@@ -69,7 +67,6 @@ NotFile (BadProgram fault) = ⊤
 NotFile (BadConf fault) = ⊤
 NotFile (BadPick metric focus why) = ⊤
 NotFile (BadLog place why) = ⊤
-NotFile NotYet = ⊤
 
 abbrev Spares : {A : Type 0} → Result A Fault → Type 0
 Spares (Ok a) = ⊤
@@ -178,9 +175,6 @@ module _ (name : List ℕ) (P : Type 0) (sees : Sight) (at_file : (other : List 
   abbrev due_texts : Fault → Result Texts Fault
   due_texts fault = Err fault
 
-  not_yet : due_texts (FileFault name) ≡ due_texts NotYet → P
-  not_yet e = absurd (cc)
-
   no_usage : due_texts (FileFault name) ≡ due_texts Usage → P
   no_usage e = absurd (cc)
 
@@ -213,17 +207,16 @@ module _ (name : List ℕ) (P : Type 0) (sees : Sight) (at_file : (other : List 
       of_either P (IsLogContent sees other) MeansLog (FileFault name) (at_content name P sees at_file LOG_LIMIT (BadLog LOG_LIMIT TooLongLog) other tt)
       (λ bytes e. absurd (spared (or_bad_log bytes (log_of bytes)) name (log_spared bytes (log_of bytes)) e))
 
-  at_replay_from : (start : Start) (log : Log) (i : Inputs) → IsReplayFrom start log i (Err (FileFault name)) → P
-  at_replay_from Warm log i = not_yet name P sees at_file
-  at_replay_from Cold log i =
+  at_replay_from : (log : Log) (i : Inputs) → IsReplayOf log i (Err (FileFault name)) → P
+  at_replay_from log i =
       of_either P (IsFound i.image log.settings.harts i.conf) (IsReplay log i.image) (FileFault name)
       (λ wrong. absurd (check_spared (resources_of i.image log.settings.harts i.conf) i.conf name wrong))
       (λ found e. absurd (replay_spared log i.image (inputs_with i.image found log.settings) name e))
 
   at_replay : (r : ReplayRequest) → IsReplayDue r sees (Err (FileFault name)) → P
   at_replay r =
-      of_either P (AreInputs sees r.program r.conf) (λ i. Then (IsLog sees r.log) (λ log. IsReplayFrom log.settings.start log i)) (FileFault name) (at_inputs name P sees at_file r.program r.conf)
-      (λ i. of_either P (IsLog sees r.log) (λ log. IsReplayFrom log.settings.start log i) (FileFault name) (at_log r.log) (λ log. at_replay_from log.settings.start log i))
+      of_either P (AreInputs sees r.program r.conf) (λ i. Then (IsLog sees r.log) (λ log. IsReplayOf log i)) (FileFault name) (at_inputs name P sees at_file r.program r.conf)
+      (λ i. of_either P (IsLog sees r.log) (λ log. IsReplayOf log i) (FileFault name) (at_log r.log) (λ log. at_replay_from log i))
 
   at_request : (asked : Option Request) → IsDueFor asked sees (Err (FileFault name)) → P
   at_request None = no_usage name P sees at_file

@@ -3,13 +3,10 @@ use Rattle.std.specs.Prelude.{◌≡◌, ℕ, List, Option, None, Some, Ok, Err,
 use Rattle.code_points.specs.Procedures.{skipped_of}
 use Rattle.command_words.specs.Requests.{ReplayRequest}
 use Rattle.pn_types.specs.declared.image.Image.{Image}
-use Rattle.pn_types.specs.declared.settings.Start.{Start}
-use Rattle.pn_types.specs.declared.settings.Start.TheVariants.{Cold, Warm}
 use Rattle.quanta_log.specs.Spelling.{spelled}
 use Rattle.quanta_log.specs.declared.version.Version.TheVariants.{Two}
 use Rattle.refusals.specs.Refusals.{Step, Then}
 use Rattle.refusals.specs.declared.fault.Fault.{Fault}
-use Rattle.refusals.specs.declared.fault.Fault.TheVariants.{NotYet}
 use Rattle.session_spec.specs.Inputs.{Inputs}
 use Rattle.session_spec.specs.Opening.{bad_pick}
 use Rattle.session_spec.specs.declared.data.RefusedWish.{RefusedWish}
@@ -40,14 +37,13 @@ IsReplayWith log image i texts = texts ≡ replayed (bad_pick i) (misfit_of i lo
 abbrev pub IsReplay : Log → Image → Found → Step Texts
 IsReplay log image found = IsReplayWith log image (inputs_with image found log.settings)
 
--- a log of a warm start isn't supported yet
-abbrev pub IsReplayFrom : Start → Log → Read → Step Texts
-IsReplayFrom Warm log i texts = texts ≡ Err NotYet
-IsReplayFrom Cold log i texts = Then (IsFound i.image log.settings.harts i.conf) (IsReplay log i.image) texts
+-- a run along a log's quanta of a program and a configuration
+abbrev pub IsReplayOf : Log → Read → Step Texts
+IsReplayOf log i = Then (IsFound i.image log.settings.harts i.conf) (IsReplay log i.image)
 
--- The program and the configuration are read, and then the log, whose settings are the run's.
+-- The program and the configuration are read, and then the log, whose settings, the start among them, are the run's.
 abbrev pub IsReplayDue : ReplayRequest → Sight → Step Texts
-IsReplayDue r sees = Then (AreInputs sees r.program r.conf) (λ i. Then (IsLog sees r.log) (λ log. IsReplayFrom log.settings.start log i))
+IsReplayDue r sees = Then (AreInputs sees r.program r.conf) (λ i. Then (IsLog sees r.log) (λ log. IsReplayOf log i))
 
 -- the log of a name, as it is written now
 abbrev pub IsRelogDue : List ℕ → Sight → Step Texts

@@ -5,7 +5,7 @@ use Rattle.code_points.specs.Procedures.{skipped_of}
 use Rattle.command_words.specs.Requests.{RunRequest, LiveRequest, StressRequest}
 use Rattle.live_run.specs.ByWorkers.{IsShared}
 use Rattle.pn_types.specs.declared.settings.Settings.{Settings}
-use Rattle.pn_types.specs.declared.settings.Start.TheVariants.{Cold}
+use Rattle.pn_types.specs.declared.settings.Start.TheVariants.{Warm}
 use Rattle.quanta_log.specs.declared.quantum.Quantum.{Quantum}
 use Rattle.refusals.specs.Refusals.{Step, Then}
 use Rattle.session.specs.Parts.{parts_of}
@@ -59,7 +59,7 @@ IsLiveDue r sees = Then (IsPrepared r.program r.conf r.settings sees) (IsLiveWit
 
 -- two harts, and else what is set where no option says otherwise
 abbrev pub stress_settings : Settings
-stress_settings = record { harts = 2; budget = 1000000; bins = 64; width = 1000; start = Cold; instruments = 64 }
+stress_settings = record { harts = 2; budget = 1000000; bins = 64; width = 1000; start = Warm; instruments = 64 }
 
 -- its two files, which are made
 abbrev pub stress_sight : StressRequest → Sight

@@ -6,7 +6,7 @@ ghost use Rattle.code_points.specs.Procedures.{AreModulesGood};
 ghost use Rattle.command_words.specs.Asked.{asked_replay};
 ghost use Rattle.mdl_ast.specs.Small.{HasSmall};
 ghost use Rattle.paradyn_top.specs.Given.{CanRun, IsUnscratched};
-ghost use Rattle.paradyn_top.specs.Replays.{IsRelogDue, IsReplay, IsReplayDue, IsReplayFrom, IsReplayWith};
+ghost use Rattle.paradyn_top.specs.Replays.{IsRelogDue, IsReplay, IsReplayDue, IsReplayOf, IsReplayWith};
 ghost use Rattle.paradyn_top.specs.Sights.{seen, Looks};
 ghost use Rattle.pn_types.specs.Images.{IsImage};
 ghost use Rattle.quanta_log.specs.Spelling.{CanSpell};
@@ -23,7 +23,7 @@ use crate::texts::Texts;
 use code_points::procedures;
 use command_words::ReplayRequest;
 use outside::Files;
-use pn_types::{Image, Start};
+use pn_types::Image;
 use quanta_log::write;
 use refusals::{Fault, Refusal};
 use std::alloc::Global;
@@ -54,20 +54,6 @@ fn replay_found(alloc: Global, log: &Log, image: Image, found: Found) -> Result<
     replay_inputs(alloc, log, inputs)
 }
 
-/// What is due of a program and a configuration along the quanta of a log of a cold start.
-fn replay_cold(alloc: Global, log: &Log, inputs: Inputs) -> Result<Texts, Refusal>
-    requires spelled { CanSpell version.Two log.now.settings log.now.quanta }
-    requires image { IsImage inputs.image }
-    requires unscratched { IsUnscratched inputs.image }
-    requires modules { AreModulesGood inputs.image }
-    requires few { length inputs.conf.items ≤ 1048576 }
-    requires small { AllByRecursion HasSmall inputs.conf.items }
-    ensures { Comes result (IsReplayFrom Start.Cold log.now inputs) }
-{
-    let found = find(alloc, &inputs.image, log.settings.harts, &inputs.conf)?;
-    replay_found(alloc, log, inputs.image, found)
-}
-
 /// What is due of a program and a configuration along a log's quanta.
 fn replay_log(alloc: Global, log: &Log, inputs: Inputs) -> Result<Texts, Refusal>
     requires spelled { CanSpell version.Two log.now.settings log.now.quanta }
@@ -76,12 +62,10 @@ fn replay_log(alloc: Global, log: &Log, inputs: Inputs) -> Result<Texts, Refusal
     requires modules { AreModulesGood inputs.image }
     requires few { length inputs.conf.items ≤ 1048576 }
     requires small { AllByRecursion HasSmall inputs.conf.items }
-    ensures { Comes result (IsReplayFrom log.now.settings.start log.now inputs) }
+    ensures { Comes result (IsReplayOf log.now inputs) }
 {
-    match log.settings.start {
-        Start::Cold => replay_cold(alloc, log, inputs),
-        Start::Warm => Err(Refusal::Fault(Fault::NotYet)),
-    }
+    let found = find(alloc, &inputs.image, log.settings.harts, &inputs.conf)?;
+    replay_found(alloc, log, inputs.image, found)
 }
 
 /// What is due for `replay`.

@@ -33,7 +33,7 @@ fn settings() -> Settings
         budget: 1_000_000,
         bins: 64,
         width: 1_000,
-        start: Start::Cold,
+        start: Start::Warm,
         instruments: 64,
     }
 }

@@ -112,7 +112,6 @@ pub fn serve<F: Files, K: Sink, L: Sink>(
 /// - 7: a sink failed; each sink has a prefix of what was due, and the log came first.
 /// - 8: memory was wanting; both sinks are as before.
 /// - 9: the log is faulty, or its quanta aren't those of a whole run, and the output gained the line of that fault.
-/// - 10: the log is of a warm start, which isn't supported yet, and the output gained the line of that fault.
 pub fn paradyn<R: Threads + Wait + Sync, F: Files, K: Sink, L: Sink, G: Gate + Sync>(
     rt: &R,
     alloc: Global,

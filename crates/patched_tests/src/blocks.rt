@@ -54,5 +54,6 @@ pub fn counter(alloc: Global, slot: u32, mini: u64) -> Result<Placed, NoMemory>
         vars: Seq::from_vec(vars),
         slots: Seq::from_vec(vec![in alloc; slot]?),
         sites: Seq::from_vec(vec![in alloc; PlacedSite { at: POINT, mini }]?),
+        opens: Seq::from_vec(Vec::new(alloc)),
     })
 }

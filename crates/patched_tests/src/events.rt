@@ -1,6 +1,8 @@
 //! Several events of a machine together.
 
-ghost use Rattle.std.specs.Prelude.{◌≡◌, ◌-◌, ◌<◌};
+ghost use Rattle.std.specs.Prelude.{◌≡◌, ◌-◌, ◌<◌, ◌≤◌, length};
+ghost use Rattle.std.specs.List.{AllByRecursion};
+ghost use Rattle.frame_walk.specs.Rooms.{IsSmall};
 ghost use Rattle.machine.specs.Effects.{after};
 ghost use Rattle.machine.specs.Events.{Arm, May};
 ghost use Rattle.machine.specs.FirstTurns.{turns};
@@ -36,7 +38,9 @@ pub fn add_mini(machine: &mut Machine, mini: &Block)
 
 /// Arms a counter that may be armed.
 pub fn arm(machine: &mut Machine, counter: &Placed)
-    requires { May machine.old.core (Arm counter.now) }
+    requires may { May machine.old.core (Arm counter.now) }
+    requires few { length counter.now.vars ≤ 3 }
+    requires small { AllByRecursion IsSmall counter.now.opens }
     ensures { machine.new ≡ with_core machine.old (after machine.old.core (Arm counter.now)) }
 {
     let _armed = machine.arm(counter);

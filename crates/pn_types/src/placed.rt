@@ -1,4 +1,4 @@
-use crate::plan::Var;
+use crate::plan::{Open, Var};
 use crate::seq::Seq;
 
 /// Where an instrument acts.
@@ -19,4 +19,6 @@ pub struct Placed {
     pub slots: Seq<u32>,
     /// The sites, by address.
     pub sites: Seq<PlacedSite>,
+    /// The procedures at whose entries statements stand, by address.
+    pub opens: Seq<Open>,
 }

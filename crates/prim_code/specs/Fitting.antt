@@ -43,10 +43,12 @@ pub record IsStmtOf (vars : List Var) (s : Stmt) : Type 0 where
 abbrev pub AreStmtsOf : List Var → List Stmt → Type 0
 AreStmtsOf vars stmts = AllByRecursion (IsStmtOf vars) stmts
 
--- What a plan is within, so that its code measures it: values of 32 bits to begin with, and sites of different addresses, with at
--- most 32 statements each, which fit the variables.
+-- What a plan is within, so that its code measures it: values of 32 bits to begin with, sites of different addresses, with at most
+-- 32 statements each, which fit the variables, and Opens with such statements.
 pub record IsMeasurable (plan : Plan) : Type 0 where
   pub narrow : AllByRecursion (λ v. v.initially < 2 ^ 32) plan.vars
   pub apart : IsDistinct (λ a b. a.at == b.at) plan.sites
   pub few : AllByRecursion (λ s. length s.stmts ≤ 32) plan.sites
   pub fitting : AllByRecursion (λ s. AreStmtsOf plan.vars s.stmts) plan.sites
+  pub opens_few : AllByRecursion (λ o. length o.stmts ≤ 32) plan.opens
+  pub opens_fitting : AllByRecursion (λ o. AreStmtsOf plan.vars o.stmts) plan.opens

@@ -21,8 +21,6 @@ pub enum Fault {
     BadPick(Text, Text, PickCause),
     /// The log is faulty at this place, in bytes from its front.
     BadLog(u64, LogCause),
-    /// A part of the input isn't supported yet.
-    NotYet,
 }
 
 impl Fault {
@@ -37,7 +35,6 @@ impl Fault {
             Fault::BadConf(_) => 5,
             Fault::BadPick(_, _, _) => 6,
             Fault::BadLog(_, _) => 9,
-            Fault::NotYet => 10,
         }
     }
 }

@@ -85,7 +85,6 @@ pub fn faults_text(alloc: Global, fault: &Fault) -> Result<Vec<u8>, NoMemory>
         Fault::BadConf(fault) => Ok(bad_configuration(alloc, *fault)?),
         Fault::BadPick(metric, focus, cause) => Ok(bad_pick(alloc, metric, focus, *cause)?),
         Fault::BadLog(place, cause) => Ok(faulty_log(alloc, *place, *cause)?),
-        Fault::NotYet => Ok(b"paradyn: not yet\n".to_vec(alloc)?),
     }
 }
 

@@ -6,6 +6,7 @@ use crate::flat::{Flat, flattened};
 use crate::output::Output;
 use crate::regs::Regs;
 use crate::reservations::Reservations;
+use crate::running::Caller;
 use pn_types::HartNo;
 use rv_mem::Mem;
 use rv_word::{Cause, decode};
@@ -31,6 +32,8 @@ impl Model for Decoded {
 
     ghost invariant = { λ d. (instr_of d.flat ≡ decode_of d.word) × IfSome (instr_of d.flat) HasWord };
 }
+
+impl Caller for Decoded {}
 
 impl Decoded {
     /// The word, decoded.
@@ -68,6 +71,7 @@ impl Decoded {
         ensures goes { result ≡ is_none stop.new }
         ensures state { Gives (exec_of self.now pc.old hart regs.old (prog_of mem.old resv.old out.old)) regs.old (prog_of mem.old resv.old out.old) (next_after stop.new pc.new) regs.new (prog_of mem.new resv.new out.new) }
     {
-        self.flat.run(hart, pc, stop, regs, mem, resv, out)
+        self.flat
+            .run::<Decoded>(hart, pc, stop, regs, mem, resv, out)
     }
 }

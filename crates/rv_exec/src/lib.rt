@@ -20,3 +20,4 @@ pub use flat::{Flat, flattened};
 pub use output::Output;
 pub use regs::Regs;
 pub use reservations::Reservations;
+pub use running::Caller;

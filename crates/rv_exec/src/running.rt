@@ -22,12 +22,16 @@ use pn_types::HartNo;
 use rv_mem::Mem;
 use rv_word::{BranchOp, Cause, ImmOp, LoadOp, RegOp, RegOp32, ShiftOp, StoreOp};
 
+/// Who runs instructions. Each caller has a copy of [`Flat::run`] of its own, so that the compiler can put it into the caller's loop,
+/// as it does with what is called from one place alone.
+pub trait Caller {}
+
 impl Flat {
     /// Executes the instruction at pc, by a hart that isn't stopped. It leaves the next pc, or the cause for which the hart
     /// stops, and says whether the hart goes on. A stop changes nothing else. It takes no memory.
     #[inline(always)]
     #[tactic(auto, unfolding(rv_word::specs::Exec::action, rv_word::specs::Exec::perform))]
-    pub fn run(
+    pub fn run<C: Caller>(
         &self,
         hart: HartNo,
         pc: &mut u64,

@@ -4,6 +4,7 @@ pub mod Considered
 pub mod Simulated
 pub mod Looks
 pub mod Waiting
+pub mod Raised
 pub mod Takings
 pub mod Counting
 pub mod Contending

@@ -1,17 +1,22 @@
 -- What is known of a plan that the planner answers.
-use Rattle.std.proofs.Common.{◌≡◌, ℕ, zero, suc, ◌<◌, ◌≤◌, ◌^◌, List, [], ◌∷◌, Option, Some, None, Ok, Err, refl, ap, arith, length}
-use Rattle.std.specs.Prelude.{IfOk, Result, slice_get}
+use Rattle.std.proofs.Common.{◌≡◌, ℕ, zero, suc, ◌<◌, ◌≤◌, ◌^◌, List, [], ◌∷◌, Option, Some, None, Err, refl, ap, arith, length}
+use Rattle.std.specs.Prelude.{Result, slice_get}
 use Rattle.std.proofs.lemmas.Option.{slice_get_past}
 use Rattle.pn_types.specs.declared.focus.Focus.{Focus}
 use Rattle.pn_types.specs.declared.plan.Plan.{Plan}
 use Rattle.pn_types.specs.declared.plan.Site.{Site}
+use Rattle.pn_types.specs.declared.settings.Start.{Start}
+use Rattle.pn_types.specs.declared.settings.Start.TheVariants.{Cold, Warm}
 use Rattle.prim_code.specs.Counts.{predicted}
 use Rattle.prim_code.specs.Fitting.{AreStmtsOf, IsMeasurable}
 use Rattle.mdl_ast.specs.declared.metric.Metric.{Metric}
 use Rattle.mdl_plan.specs.Fitting.{most_words}
 use Rattle.mdl_plan.specs.Plans.{Answers, IsPlanOver, IsSiteOf, plan_of}
+use Rattle.mdl_plan.specs.Starts.{started, started_if}
 use Rattle.mdl_plan.specs.declared.fault.PlanFault.{PlanFault}
 use Rattle.mdl_plan.specs.declared.fault.PlanFault.TheVariants.{TooManySites}
+use Rattle.mdl_plan.proofs.Starting.{started_answers, started_measurable, started_over}
+use Rattle.instrument.proofs.Armable.{armable_plan}
 use Rattle.session_spec.specs.Inputs.{Inputs, plan_by, planned}
 use Rattle.session_spec.specs.Reads.{ArePlansGood}
 use Rattle.session_spec.proofs.Firsts.{plan_first}
@@ -20,7 +25,7 @@ use Rattle.session_spec.proofs.Lists.{all_of}
 use Rattle.session.specs.Candidates.{IsShort}
 use Rattle.session.specs.Given.{AreGiven, AreNarrow}
 
-pub short_plan : (i : Inputs) (plan : Plan) → AreGiven i → IsPlanOver i.points plan → predicted plan ≤ most_words → IsMeasurable plan → IsShort i plan
+short_plan : (i : Inputs) (plan : Plan) → AreGiven i → IsPlanOver i.points plan → predicted plan ≤ most_words → IsMeasurable plan → IsShort i plan
 short_plan i plan g over cost m =
     let few = few_slots plan.vars in
     let some = over.vars.0 in
@@ -33,7 +38,12 @@ short_plan i plan g over cost m =
       };
       words = omega arith;
       slots = omega arith;
+      armable = armable_plan plan m over.vars.1;
     }
+
+pub short_started : (i : Inputs) (start : Start) (plan : Plan) → AreGiven i → IsPlanOver i.points plan → predicted plan ≤ most_words → IsMeasurable plan → IsShort i (started start plan)
+short_started i Warm plan g over cost m = short_plan i plan g over cost m
+short_started i Cold plan g over cost m = short_plan i (started Cold plan) g (started_over Cold i.points plan over) cost (started_measurable Cold plan m)
 
 there : (ms : List Metric) (n : ℕ) → n < length ms → (m : Metric) × (slice_get ms n ≡ Some m)
 there [] n l = absurd (omega arith)
@@ -45,19 +55,15 @@ pub none_planned : (i : Inputs) (metric : ℕ) (focus : Focus) → length i.chec
 unfolding planned
 none_planned i metric focus l = ap (λ o. plan_by o i focus) (slice_get_past i.checked.metrics metric l)
 
--- the plan that is due
+-- the plan that is due: it starts as the settings say
 pub answers_planned : (i : Inputs) (metric : ℕ) (focus : Focus) (r : Result Plan PlanFault) → metric < length i.checked.metrics
-    → ((m : Metric) → slice_get i.checked.metrics metric ≡ Some m → Answers r (plan_of i.checked.constraints m focus i.tree i.procs i.points)) → Answers r (planned i metric focus)
+    → ((m : Metric) → slice_get i.checked.metrics metric ≡ Some m → Answers r (plan_of i.checked.constraints m focus i.tree i.procs i.points)) → Answers (started_if i.settings.start r) (planned i metric focus)
 unfolding planned
 answers_planned i metric focus r l f = by (slice_get i.checked.metrics metric) (there i.checked.metrics metric l) f
   where
-    by : (o : Option Metric) → (m : Metric) × (o ≡ Some m) → ((m : Metric) → o ≡ Some m → Answers r (plan_of i.checked.constraints m focus i.tree i.procs i.points)) → Answers r (plan_by o i focus)
+    by : (o : Option Metric) → (m : Metric) × (o ≡ Some m) → ((m : Metric) → o ≡ Some m → Answers r (plan_of i.checked.constraints m focus i.tree i.procs i.points)) → Answers (started_if i.settings.start r) (plan_by o i focus)
     by None k f = absurd (let no = k.1 in cc)
-    by (Some m) k f = f m refl
-
-pub short_if : (i : Inputs) (r : Result Plan PlanFault) → AreGiven i → IfOk r (IsPlanOver i.points) → IfOk r (λ plan. predicted plan ≤ most_words) → IfOk r IsMeasurable → IfOk r (IsShort i)
-short_if i (Ok plan) g over cost m = short_plan i plan g over cost m
-short_if i (Err fault) g over cost m = tt
+    by (Some m) k f = started_answers i.settings.start r (plan_of i.checked.constraints m focus i.tree i.procs i.points) (f m refl)
 
 -- ---- all plans
 

@@ -7,15 +7,17 @@ use Rattle.pn_types.specs.declared.plan.Plan.{Plan}
 use Rattle.prim_code.specs.Counts.{predicted}
 use Rattle.mdl_plan.specs.declared.fault.PlanFault.{PlanFault}
 use Rattle.instrument.specs.Admission.{slot_count}
+use Rattle.instrument.specs.Armable.{IsArmable}
 use Rattle.session_spec.specs.Inputs.{Inputs, cause_of_plan, planned}
 use Rattle.session_spec.specs.Searches.{bar_of_plan}
 use Rattle.session_spec.specs.Ties.{IsGood}
 
--- a plan that can be measured, and is short
+-- a plan that can be measured, is short, and can be armed
 pub record IsShort (i : Inputs) (plan : Plan) : Type 0 where
   pub good : IsGood i plan
   pub words : predicted plan < 2 ^ 32
   pub slots : slot_count plan.vars < 2 ^ 32
+  pub armable : IsArmable plan.vars plan.opens
 
 -- the plan of a metric at a focus, or why there is none, by its cause in each case
 abbrev pub IsPlanned : {C : Type 0} → (PlanFault → Option C) → Inputs → ℕ → Focus → Result Plan C → Type 0

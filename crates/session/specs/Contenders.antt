@@ -1,5 +1,6 @@
 -- For proofs alone: what is known of nodes that wait before they are taken.
 use Rattle.std.specs.Prelude.{◌≡◌, ℕ, ◌+◌, ◌<◌, ◌≤◌, ◌^◌, if◌then◌else◌, Option, Some, None, List, [], ◌∷◌, ◌++◌, IfOk, is_some, map, nat_lt, slice_get, take}
+use Rattle.std.specs.List.{AllByRecursion}
 use Rattle.pn_types.specs.declared.focus.Focus.{Focus}
 use Rattle.pn_types.specs.declared.plan.Plan.{Plan}
 use Rattle.prim_code.specs.Counts.{predicted}
@@ -78,6 +79,14 @@ abbrev pub force_in : Placements → List Kit → ℕ
 force_in p [] = 0
 force_in p (k ∷ ks) = (if is_gone (state_of p k.shown.instrument.n) then 0 else k.cost) + force_in p ks
 
+-- what an instrument of this cost adds to them
+abbrev pub counted_at : Placements → ℕ → ℕ → ℕ
+counted_at p n words = if is_gone (state_of p n) then 0 else words
+
+-- no pair has a number above this one
+abbrev pub AreUpTo : ℕ → List Kit → Type 0
+AreUpTo last kits = AllByRecursion (λ (k : Kit). k.shown.instrument.n ≤ last) kits
+
 -- ---- what comes of a node that is taken
 
 -- the focus of a node that waits
@@ -94,11 +103,23 @@ kept_as n metric focus came.Waits m k = k
 kept_as n metric focus (came.Barred cause) m k = record k { search = with_state n (Barred cause) k.search }
 kept_as n metric focus (came.Tested number) m k = record k { machine = m; search = with_state n Active k.search; shown = k.shown ++ newly_tested n metric focus number ∷ [] }
 
--- nothing but what tests a node changes the instruments
+-- the instruments of numbers below this one are as they were
+abbrev pub AreAsBefore : ℕ → Placements → Placements → Type 0
+AreAsBefore n old new = (m : ℕ) → m < n → state_of new m ≡ state_of old m
+
+-- the pair of this number and cost stands behind the others
+pub record IsTestedBy (words : ℕ) (before : Placements) (old : List Kit) (after : Placements) (new : List Kit) (number : InstrumentNo) : Type 0 where
+  pub kit : Kit
+  pub is : new ≡ old ++ kit ∷ []
+  pub numbered : kit.shown.instrument ≡ number
+  pub cost : kit.cost ≡ words
+  pub stay : AreAsBefore number.n before after
+
+-- nothing but what tests a node changes the instruments, and that none of a lower number
 abbrev pub StaysUntested : Taken → Instrumented → Instrumented → Type 0
 StaysUntested came.Waits old new = new ≡ old
 StaysUntested (came.Barred cause) old new = new ≡ old
-StaysUntested (came.Tested number) old new = Unit {0}
+StaysUntested (came.Tested number) old new = AreAsBefore number.n old.placer new.placer
 
 abbrev pub test_kit : Inputs → ℕ → ℕ → Focus → ℕ → InstrumentNo → Histogram → Kit
 test_kit i n metric focus words number hist = record {

@@ -8,11 +8,11 @@ ghost use Rattle.session.specs.Candidates.{IsAnswer, IsNodeAnswer, IsShort, answ
 ghost use Rattle.session.specs.Given.{AreGiven};
 
 use crate::inputs::Inputs;
-use mdl_plan::{PlanFault, plan};
+use mdl_plan::{PlanFault, plan, start_plan};
 use pn_types::{BarCause, Focus, NoMemory, PickCause, Plan, Seq};
 use std::alloc::Global;
 
-/// The plan of a metric at a focus, or why there is none.
+/// The plan of a metric at a focus, started as the settings say, or why there is none.
 fn planned(alloc: Global, inputs: &Inputs, metric: u32, focus: &Focus) -> Result<Plan, PlanFault>
     requires { AreGiven inputs.now }
     ensures answer { Answers result (planned inputs.now metric focus.now) }
@@ -21,7 +21,7 @@ fn planned(alloc: Global, inputs: &Inputs, metric: u32, focus: &Focus) -> Result
     if metric as usize >= inputs.checked.metrics.as_slice().len() {
         return Err(PlanFault::TooManySites(0));
     }
-    plan(
+    let whole = plan(
         alloc,
         &inputs.checked,
         metric,
@@ -30,7 +30,8 @@ fn planned(alloc: Global, inputs: &Inputs, metric: u32, focus: &Focus) -> Result
         inputs.procs.as_slice(),
         inputs.points.as_slice(),
         &inputs.index,
-    )
+    )?;
+    Ok(start_plan(alloc, whole, inputs.settings.start))
 }
 
 /// The plan of a metric at a focus, or why a wish for it is refused.
@@ -91,6 +92,7 @@ pub(crate) fn split<C>(alloc: Global, answer: Result<Plan, C>) -> (Plan, Option<
             let nothing = Plan {
                 vars: Seq::from_vec(Vec::new(alloc)),
                 sites: Seq::from_vec(Vec::new(alloc)),
+                opens: Seq::from_vec(Vec::new(alloc)),
             };
             (nothing, Some(cause))
         }

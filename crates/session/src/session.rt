@@ -188,6 +188,7 @@ impl Session {
     /// # Errors
     ///
     /// `NoMemory` where memory is wanting. Then nothing has changed.
+    #[inline(always)]
     pub fn quantum(
         &mut self,
         worker: u32,

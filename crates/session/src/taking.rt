@@ -1,17 +1,18 @@
 //! Nodes of the search are taken, one after another.
 
-ghost use Rattle.std.specs.Prelude.{◌≡◌, ◌+◌, ◌<◌, ◌≤◌, ◌⊎◌, ◌^◌, ◌++◌, ◌∷◌, List, [], IfErr, IfOk, IsFalse, Some, length, map, slice_get};
+ghost use Rattle.std.specs.Prelude.{◌≡◌, ◌+◌, ◌<◌, ◌≤◌, ◌⊎◌, ◌^◌, ◌++◌, ◌∷◌, List, [], IfErr, IfNone, IfOk, IfSome, Some, length, map, slice_get};
 ghost use Rattle.std.specs.List.{AllByRecursion};
 ghost use Rattle.rv_mem.specs.Start.{program_of};
 ghost use Rattle.mdl_check.specs.declared.checked.CheckedWish.{CheckedWish};
 ghost use Rattle.machine.specs.Cores.{In};
+ghost use Rattle.prim_code.specs.Counts.{predicted};
 ghost use Rattle.instrument.specs.Needs.{need_of, without};
 ghost use Rattle.w3_search.specs.declared.node.NodeState.{NodeState};
 ghost use Rattle.w3_search.specs.Steps.{with_state};
 ghost use Rattle.session_kits.specs.declared.kit.Kit.{Kit};
 ghost use Rattle.session_spec.specs.Tests.{in_force, with_node, with_nodes};
 ghost use Rattle.session.specs.Candidates.{answer_of};
-ghost use Rattle.session.specs.Contenders.{AreContenders, HasCost, IsContender, force_in, nodes_in, test_kit, waiting_focus};
+ghost use Rattle.session.specs.Contenders.{AreContenders, AreUpTo, HasCost, IsContender, IsTestedBy, counted_at, force_in, nodes_in, test_kit, waiting_focus};
 ghost use Rattle.session.specs.Tables.{AreReady, IsMore, IsNew, IsStill, kept_of};
 
 use crate::contender::Contender;
@@ -70,11 +71,48 @@ impl Desk {
     {
         let mut force = 0;
         for kit in &self.kits {
-            if !matches!(self.machine.state(kit.shown.instrument), State::Gone) {
-                force += kit.cost;
-            }
+            force += self.counted(kit.shown.instrument, kit.cost);
         }
         force
+    }
+
+    /// The highest number of a pair, and 0 where there is none.
+    fn last_number(&self) -> u64
+        ensures { AreUpTo result self.now.kits }
+    {
+        let mut last = 0;
+        for kit in &self.kits {
+            if last < kit.shown.instrument.n {
+                last = kit.shown.instrument.n;
+            }
+        }
+        last
+    }
+
+    /// What an instrument of this cost adds to the costs in force.
+    fn counted(&self, number: InstrumentNo, words: u64) -> u64
+        ensures { result ≡ counted_at self.now.machine.state.placer number.n words }
+    {
+        if matches!(self.machine.state(number), State::Gone) {
+            return 0;
+        }
+        words
+    }
+
+    /// The costs in force behind a node that the instrument of this number tests from now on. They were these before, where no pair
+    /// had a number above the last.
+    fn raised(&self, force: u64, last: u64, number: InstrumentNo, words: u64) -> u64
+        requires few { length self.now.kits < 2 ^ 31 }
+        requires low { AllByRecursion (λ k. k.cost < 2 ^ 32) self.now.kits }
+        requires next { last < number.n → force_in self.now.machine.state.placer self.now.kits ≡ force + counted_at self.now.machine.state.placer number.n words }
+        ensures force { result ≡ force_in self.now.machine.state.placer self.now.kits }
+        ensures bound { result < 2 ^ 63 }
+    {
+        // In a session that is so of number 0 alone.
+        if number.n <= last {
+            return self.in_force();
+        }
+        force + self.counted(number, words)
     }
 
     /// The focus of a node, if it waits.
@@ -89,7 +127,7 @@ impl Desk {
     }
 
     /// Takes a node, for which there is room, where the costs in force are these. It has a plan, which is ready, unless it can't be
-    /// tested. It answers whether it is tested now.
+    /// tested. It answers the instrument that tests it now, if one does.
     fn take_node(
         &mut self,
         alloc: Global,
@@ -97,7 +135,7 @@ impl Desk {
         plan: &Plan,
         contender: Contender,
         force: u64,
-    ) -> bool
+    ) -> Option<InstrumentNo>
         requires room { 0 < self.old.room }
         requires program { self.old.machine.state.core.program ≡ program_of inputs.now.image }
         requires contender { IsContender inputs.now self.old.search.nodes contender.node plan.now contender }
@@ -110,13 +148,14 @@ impl Desk {
         ensures same { self.new ≡ record self.old { machine = self.new.machine; kits = self.new.kits; search = self.new.search; room = self.new.room } }
         ensures core { self.new.machine.state.core ≡ self.old.machine.state.core }
         ensures search { (self.new.search ≡ self.old.search) ⊎ ((state : NodeState) × (self.new.search ≡ with_state contender.node state self.old.search)) }
-        ensures still { IsFalse result → (self.new.kits ≡ self.old.kits) × (self.new.machine.state ≡ self.old.machine.state) }
+        ensures still { IfNone result ((self.new.kits ≡ self.old.kits) × (self.new.machine.state ≡ self.old.machine.state)) }
+        ensures tested { IfSome result (IsTestedBy (predicted plan.now) self.old.machine.state.placer self.old.kits self.new.machine.state.placer self.new.kits) }
         ensures ok { IfOk (answer_of contender.refusal plan.now) (λ plan. (self.new.machine.ready ≡ self.old.machine.ready) ⊎ (self.new.machine.ready ≡ without (need_of plan) self.old.machine.ready)) }
         ensures err { IfErr (answer_of contender.refusal plan.now) (λ cause. self.new.machine.ready ≡ self.old.machine.ready) }
     {
         self.room -= 1;
         let Some(focus) = self.waiting(contender.node) else {
-            return false;
+            return None;
         };
         let limit = u64::from(inputs.search_decl().cost);
         match take(
@@ -127,10 +166,10 @@ impl Desk {
             limit,
             force,
         ) {
-            Taken::Waits => false,
+            Taken::Waits => None,
             Taken::Barred(cause) => {
                 self.search.barred(contender.node, cause);
-                false
+                None
             }
             Taken::Tested(number) => {
                 self.search.admitted(contender.node);
@@ -144,7 +183,7 @@ impl Desk {
                     contender.hist,
                 );
                 put_kit(&mut self.kits, kit);
-                true
+                Some(number)
             }
         }
     }
@@ -171,6 +210,7 @@ impl Desk {
     {
         let mut contenders = contenders;
         let mut force = self.in_force();
+        let mut last = self.last_number();
         for plan in plans {
             if self.machine.is_full() {
                 return;
@@ -178,8 +218,9 @@ impl Desk {
             let Some(contender) = contenders.pop_front() else {
                 return;
             };
-            if self.take_node(alloc, inputs, plan, contender, force) {
-                force = self.in_force();
+            if let Some(number) = self.take_node(alloc, inputs, plan, contender, force) {
+                force = self.raised(force, last, number, predicted(plan));
+                last = last.max(number.n);
             }
         }
     }

@@ -9,12 +9,15 @@ use Rattle.pn_types.specs.declared.focus.Axis.TheVariants.{Code, SyncObject}
 use Rattle.pn_types.specs.declared.focus.Focus.{Focus}
 use Rattle.pn_types.specs.declared.plan.Plan.{Plan}
 use Rattle.pn_types.specs.declared.plan.Var.{Var}
+use Rattle.pn_types.specs.declared.settings.Start.{Start}
+use Rattle.pn_types.specs.declared.settings.Start.TheVariants.{Cold, Warm}
 use Rattle.mdl_ast.specs.declared.metric.Constraint.{Constraint}
 use Rattle.mdl_ast.specs.declared.metric.Metric.{Metric}
 use Rattle.mdl_check.specs.Sound.{first_named}
 use Rattle.mdl_plan.specs.Active.{Active, active_of, both, constraint_for, in_hierarchy, is_below, wanted}
 use Rattle.mdl_plan.specs.Pieces.{base_initially, counters, counting, replacement, replacing}
-use Rattle.mdl_plan.specs.Plans.{at_first, counter_var, scene_of, sites_of, vars_of}
+use Rattle.mdl_plan.specs.Plans.{at_first, counter_var, opens_of, scene_of, sites_of, vars_of}
+use Rattle.mdl_plan.specs.Starts.{started}
 use Rattle.mdl_plan.specs.declared.fault.PlanFault.{PlanFault}
 use Rattle.mdl_plan.proofs.Limits.{plan_is}
 use Rattle.resource_tree.specs.Foci.{part}
@@ -117,11 +120,17 @@ module _ (N : ℕ → Type 0) where
   metric_at (x ∷ ms) zero m k e = let same : x ≡ m = cc in subst (λ (y : Metric). N (at_first y.initially)) same k.0
   metric_at (x ∷ ms) (suc n) m k e = metric_at ms n m k.1 e
 
+  started_first : (start : Start) (plan : Plan) → AllByRecursion (λ v. N v.initially) plan.vars → AllByRecursion (λ v. N v.initially) (started start plan).vars
+  started_first Cold plan k = k
+  started_first Warm plan k = k
+
   -- It holds of the first value of each variable of a plan.
   pub plan_first : (i : Inputs) → AllByRecursion (λ m. N (at_first m.initially)) i.checked.metrics → AllByRecursion Holds i.checked.constraints
       → (metric : ℕ) (focus : Focus) (plan : Plan) → planned i metric focus ≡ Ok plan → AllByRecursion (λ v. N v.initially) plan.vars
   plan_first i metrics constraints metric focus plan e =
       let f = plan_from i metric focus plan e in
-      subst (λ (p : Plan). AllByRecursion (λ v. N v.initially) p.vars)
-      (plan_is (vars_of f.m f.a) (sites_of (scene_of (part i.tree focus) i.procs f.m f.a) i.points) plan f.is)
-      (vars_first f.m f.a (metric_at i.checked.metrics metric f.m metrics f.there) (are_active i.checked.constraints f.m focus f.a constraints f.active))
+      let scene = scene_of (part i.tree focus) i.procs f.m f.a in
+      let whole = subst (λ (p : Plan). AllByRecursion (λ v. N v.initially) p.vars)
+      (plan_is (vars_of f.m f.a) (sites_of scene i.points) (opens_of scene i.points) f.whole f.is)
+      (vars_first f.m f.a (metric_at i.checked.metrics metric f.m metrics f.there) (are_active i.checked.constraints f.m focus f.a constraints f.active)) in
+      subst (λ (p : Plan). AllByRecursion (λ v. N v.initially) p.vars) f.starts (started_first i.settings.start f.whole whole)

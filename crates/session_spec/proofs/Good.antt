@@ -9,6 +9,8 @@ use Rattle.pn_types.specs.declared.focus.Focus.{Focus}
 use Rattle.pn_types.specs.declared.plan.Plan.{Plan}
 use Rattle.pn_types.specs.declared.plan.Site.{Site}
 use Rattle.pn_types.specs.declared.plan.Var.{Var}
+use Rattle.pn_types.specs.declared.settings.Start.{Start}
+use Rattle.pn_types.specs.declared.settings.Start.TheVariants.{Cold, Warm}
 use Rattle.rv_mem.specs.Start.{program_of}
 use Rattle.rv_word.specs.Plain.{program_word}
 use Rattle.prim_code.specs.Counts.{predicted}
@@ -17,11 +19,13 @@ use Rattle.mdl_ast.specs.declared.metric.Metric.{Metric}
 use Rattle.mdl_check.specs.Sound.{IsSound}
 use Rattle.mdl_plan.specs.Active.{Active, active_of}
 use Rattle.mdl_plan.specs.Fitting.{HasLowObjects, most_words}
-use Rattle.mdl_plan.specs.Plans.{IsPlanOver, IsSiteOf, plan_at, scene_of, sites_of, vars_of}
+use Rattle.mdl_plan.specs.Plans.{IsPlanOver, IsSiteOf, opens_of, plan_at, scene_of, sites_of, vars_of}
+use Rattle.mdl_plan.specs.Starts.{started, started_if}
 use Rattle.mdl_plan.specs.declared.fault.PlanFault.{PlanFault}
 use Rattle.mdl_plan.proofs.FittingStmts.{scene_stmts}
 use Rattle.mdl_plan.proofs.Limits.{answer_over, plan_is}
 use Rattle.mdl_plan.proofs.Measurable.{IsChecked, answer_cost, answer_measurable, is_checked}
+use Rattle.mdl_plan.proofs.Starting.{started_measurable}
 use Rattle.resource_tree.specs.Foci.{part}
 use Rattle.machine.specs.Cores.{In}
 use Rattle.machine.proofs.Inside.{any_true}
@@ -60,22 +64,29 @@ site_word i words s k =
 
 -- ---- where a plan comes from
 
--- from a metric, and constraints that its focus makes active
+-- from a metric, and constraints that its focus makes active, started as the settings say
 pub record IsFrom (i : Inputs) (metric : ℕ) (focus : Focus) (plan : Plan) : Type 0 where
   pub m : Metric
   pub a : Active
+  pub whole : Plan
   pub there : slice_get i.checked.metrics metric ≡ Some m
   pub active : active_of i.checked.constraints m focus ≡ Ok a
-  pub is : plan_at i.tree focus i.procs i.points m (Ok a) ≡ Ok plan
+  pub is : plan_at i.tree focus i.procs i.points m (Ok a) ≡ Ok whole
+  pub starts : started i.settings.start whole ≡ plan
 
 pub plan_from : (i : Inputs) (metric : ℕ) (focus : Focus) (plan : Plan) → planned i metric focus ≡ Ok plan → IsFrom i metric focus plan
 unfolding planned
 plan_from i metric focus plan e = by (slice_get i.checked.metrics metric) refl e
   where
+    starts : (m : Metric) (a : Active) → slice_get i.checked.metrics metric ≡ Some m → active_of i.checked.constraints m focus ≡ Ok a
+        → (r : Result Plan PlanFault) → plan_at i.tree focus i.procs i.points m (Ok a) ≡ r → started_if i.settings.start r ≡ Ok plan → IsFrom i metric focus plan
+    starts m a g h (Err fault) w k = absurd cc
+    starts m a g h (Ok whole) w k = record { m = m; a = a; whole = whole; there = g; active = h; is = w; starts = cc }
+
     active : (m : Metric) → slice_get i.checked.metrics metric ≡ Some m → (r : Result Active PlanFault) → active_of i.checked.constraints m focus ≡ r
-        → plan_at i.tree focus i.procs i.points m r ≡ Ok plan → IsFrom i metric focus plan
+        → started_if i.settings.start (plan_at i.tree focus i.procs i.points m r) ≡ Ok plan → IsFrom i metric focus plan
     active m g (Err fault) h k = absurd cc
-    active m g (Ok a) h k = record { m = m; a = a; there = g; active = h; is = k }
+    active m g (Ok a) h k = starts m a g h (plan_at i.tree focus i.procs i.points m (Ok a)) refl k
 
     by : (o : Option Metric) → slice_get i.checked.metrics metric ≡ o → plan_by o i focus ≡ Ok plan → IsFrom i metric focus plan
     by None g k = absurd cc
@@ -97,28 +108,44 @@ pub record IsSoundPlan (i : Inputs) (plan : Plan) : Type 0 where
   pub words : predicted plan < 2 ^ 32
   pub slots : slot_count plan.vars < 2 ^ 32
 
+-- and so is what starts cold
+started_sound : (i : Inputs) (start : Start) (plan : Plan) → IsSoundPlan i plan → IsSoundPlan i (started start plan)
+started_sound i Warm plan k = k
+started_sound i Cold plan k = record {
+  for = record { sites = (k.for).sites; stmts = (k.for).stmts };
+  vars = k.vars;
+  measurable = λ narrow. started_measurable Cold plan (k.measurable narrow);
+  words = k.words;
+  slots = k.slots;
+}
+
 module _ (i : Inputs) (sound : IsSound i.checked) (low : HasLowObjects i.tree) (rise : IsStrictlyIncreasing (map (λ p. p.at) i.points)) (inside : AreWords i) where
-  pub plans_sound : (metric : ℕ) (focus : Focus) (plan : Plan) → planned i metric focus ≡ Ok plan → IsSoundPlan i plan
-  plans_sound metric focus plan e =
-      let f = plan_from i metric focus plan e in
+  whole_sound : (metric : ℕ) (focus : Focus) (plan : Plan) → (f : IsFrom i metric focus plan) → IsSoundPlan i f.whole
+  whole_sound metric focus plan f =
       let m = f.m in
       let a = f.a in
+      let whole = f.whole in
       let at = listed i.checked.metrics metric m f.there in
       let c : IsChecked m a = is_checked i.checked.metrics i.checked.constraints focus metric m a sound.metrics sound.constraints sound.replacements at.0 at.1 (sym f.active) in
-      let over : IsPlanOver i.points plan = answer_over i.tree focus i.procs i.points m a (Ok plan) f.is in
-      let words : predicted plan ≤ most_words = answer_cost i.tree focus i.procs i.points m a c (Ok plan) f.is over in
-      let same = plan_is (vars_of m a) (sites_of (scene_of (part i.tree focus) i.procs m a) i.points) plan f.is in
+      let over : IsPlanOver i.points whole = answer_over i.tree focus i.procs i.points m a (Ok whole) f.is in
+      let words : predicted whole ≤ most_words = answer_cost i.tree focus i.procs i.points m a c (Ok whole) f.is over in
+      let scene = scene_of (part i.tree focus) i.procs m a in
+      let same = plan_is (vars_of m a) (sites_of scene i.points) (opens_of scene i.points) whole f.is in
       let stmts = subst (λ (p : Plan). AllByRecursion (λ s. AreStmtsOf p.vars s.stmts) p.sites) same (scene_stmts i.tree focus i.procs i.points m a c.suits c.own low) in
-      let few = few_slots plan.vars in
+      let few = few_slots whole.vars in
       let some = over.vars.0 in
       let most = over.vars.1 in
       record {
         for = record {
-          sites = λ s h. site_word i inside s (all_of (IsSiteOf i.points) plan.sites s over.sites h);
-          stmts = λ s h. all_of (λ (z : Site). AreStmtsOf plan.vars z.stmts) plan.sites s stmts h;
+          sites = λ s h. site_word i inside s (all_of (IsSiteOf i.points) whole.sites s over.sites h);
+          stmts = λ s h. all_of (λ (z : Site). AreStmtsOf whole.vars z.stmts) whole.sites s stmts h;
         };
         vars = omega arith;
-        measurable = answer_measurable i.tree focus i.procs i.points m a c (Ok plan) f.is over low rise;
+        measurable = answer_measurable i.tree focus i.procs i.points m a c (Ok whole) f.is over low rise;
         words = omega arith;
         slots = omega arith;
       }
+
+  pub plans_sound : (metric : ℕ) (focus : Focus) (plan : Plan) → planned i metric focus ≡ Ok plan → IsSoundPlan i plan
+  plans_sound metric focus plan e =
+      let f = plan_from i metric focus plan e in subst (IsSoundPlan i) f.starts (started_sound i i.settings.start f.whole (whole_sound metric focus plan f))

@@ -12,6 +12,7 @@ use Rattle.mdl_ast.specs.declared.metric.Metric.{Metric}
 use Rattle.mdl_check.specs.declared.checked.Checked.{Checked}
 use Rattle.mdl_check.specs.declared.checked.CheckedWish.{CheckedWish}
 use Rattle.mdl_plan.specs.Plans.{plan_of}
+use Rattle.mdl_plan.specs.Starts.{started_if}
 use Rattle.mdl_plan.specs.declared.fault.PlanFault.{PlanFault}
 use Rattle.mdl_plan.specs.declared.fault.PlanFault.TheVariants.{NoMemory, NoConstraint, TooManySites, TooManyStmts}
 use Rattle.instrument.specs.declared.number.Refused.{Refused}
@@ -37,9 +38,9 @@ harts_of i focus = (part i.tree focus).harts
 -- no metric is wished by a number that none has
 abbrev pub plan_by : Option Metric → Inputs → Focus → Result Plan PlanFault
 plan_by None i focus = Err (TooManySites 0)
-plan_by (Some m) i focus = plan_of i.checked.constraints m focus i.tree i.procs i.points
+plan_by (Some m) i focus = started_if i.settings.start (plan_of i.checked.constraints m focus i.tree i.procs i.points)
 
--- The plan of a metric at a focus, or why there is none.
+-- The plan of a metric at a focus, or why there is none. Cold it is without what is open.
 unfoldable pub planned : Inputs → ℕ → Focus → Result Plan PlanFault
 planned i metric focus = plan_by (slice_get i.checked.metrics metric) i focus
 

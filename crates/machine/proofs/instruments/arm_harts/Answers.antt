@@ -7,7 +7,7 @@ use Rattle.machine.proofs.instruments.arm_harts.Goals as goal
 
 pub loop-hart-preserved : goal.loop-hart-preserved
 loop-hart-preserved c =
-    let f = armed_now c.args.instrument.now in
+    let f = armed_now c.args.mem.now c.args.instrument.now in
     let i = c.loop-hart.hart-index in
     let xs = c.loop-hart.harts in
     let z = c.arm.new.self in

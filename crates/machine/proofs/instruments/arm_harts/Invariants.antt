@@ -7,6 +7,6 @@ use Rattle.machine.proofs.instruments.arm_harts.Given as goal
 abbrev pub invariant-loop-hart : goal.invariant-loop-hart
 invariant-loop-hart l = record {
   len : length l.harts ≡ length l.fn.harts;
-  done : take l.hart-index l.harts ≡ map (armed_now l.fn.instrument) (take l.hart-index l.fn.harts);
+  done : take l.hart-index l.harts ≡ map (armed_now l.fn.mem l.fn.instrument) (take l.hart-index l.fn.harts);
   left : drop l.hart-index l.harts ≡ drop l.hart-index l.fn.harts;
 }

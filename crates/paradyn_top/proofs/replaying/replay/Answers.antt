@@ -6,7 +6,7 @@ use Rattle.refusals.specs.declared.fault.Fault.{Fault}
 use Rattle.paradyn_top.proofs.SightSteps.{inputs_again, log_from, refuses_as, seen_from}
 use Rattle.paradyn_top.specs.Inputs.{AreInputs}
 use Rattle.paradyn_top.specs.Logs.{IsLog}
-use Rattle.paradyn_top.specs.Replays.{IsReplayFrom}
+use Rattle.paradyn_top.specs.Replays.{IsReplayOf}
 use Rattle.paradyn_top.specs.Sights.{Sight, seen}
 use Rattle.paradyn_top.specs.declared.inputs.Inputs.{Inputs}
 use Rattle.paradyn_top.specs.declared.logs.Log.{Log}
@@ -15,7 +15,7 @@ use Rattle.paradyn_top.proofs.replaying.replay.Goals as goal
 
 -- what is due of a log
 abbrev ended : Inputs → Log → Step Texts
-ended i log = IsReplayFrom log.settings.start log i
+ended i log = IsReplayOf log i
 
 pub returns-in_err-log-clause-due : goal.returns-in_err-log-clause-due
 returns-in_err-log-clause-due g c =

@@ -3,8 +3,8 @@ use Rattle.machine.specs.Replays.{replay}
 use Rattle.patched_tests.proofs.Linked.{arm_legal, armed_so, arms}
 use Rattle.patched_tests.proofs.machines.counted_loop.Goals as goal
 
-pub arm-requires : goal.arm-requires
-arm-requires c =
+pub arm-requires-clause-may : goal.arm-requires-clause-may
+arm-requires-clause-may c =
     arm_legal c.in_ok-first.first counter c.in_ok-machine.machine (replay linking (loop_core c.args.budget)) 3 c.in_ok-first.ensures c.in_ok-machine.ensures (arms c.args.budget)
 
 pub returns : goal.returns

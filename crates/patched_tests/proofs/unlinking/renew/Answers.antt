@@ -42,8 +42,8 @@ add_mini-requires-clause-room c =
     let room = ap (λ (k : Machine). k.room) m in
     omega arith
 
-pub arm-requires : goal.arm-requires
-arm-requires c =
+pub arm-requires-clause-may : goal.arm-requires-clause-may
+arm-requires-clause-may c =
     let m = tried c.args.machine.now c.free-held.new.self c.settle-settled.new.self c.free-freed.new.self c.free-held.result c.free-freed.result c.requires.machine c.free-held.ensures.may c.free-held.ensures.state c.settle-settled.ensures.settled c.free-freed.ensures.may c.free-freed.ensures.state in
     let n = added_so c.args.mini.now (mini_on 2 0x11010 0x11038) c.free-freed.new.self c.add_mini.new.machine freed 1 c.requires.mini m c.add_mini.ensures in
     arm_legal c.args.counter.now fourth c.add_mini.new.machine (replay (adding_of (mini_on 2 0x11010 0x11038)) freed) 0 c.requires.counter n minis_unlinked.renews.1.1.1.0

@@ -15,6 +15,7 @@ invariant_of-self c =
     let i = c.self.invariant in
     record {
       slots = i.slots;
+      does = i.does;
       behind = i.behind;
       room = i.room;
       used = length-set s.uses.items c.args.place c.freed.result ∙ i.used;

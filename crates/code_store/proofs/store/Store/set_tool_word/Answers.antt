@@ -15,6 +15,7 @@ invariant_of-self c =
     let i = c.self.invariant in
     record {
       slots = i.slots;
+      does = i.does;
       behind = i.behind;
       room = ap (λ n. 4 * n) (length-set s.tool.slots.items c.args.place c.new.result) ∙ i.room;
       used = length-set s.uses.items c.args.place c.written.result ∙ i.used ∙ sym (length-set s.tool.slots.items c.args.place c.new.result);

@@ -5,6 +5,7 @@ use Rattle.tramp_spec.specs.declared.mark.MarkedWord.{MarkedWord}
 use Rattle.tramp_spec.specs.Marks.{own, tool}
 use Rattle.code_store.specs.declared.word_use.WordUse.{WordUse}
 use Rattle.code_store.specs.declared.word_use.WordUse.TheVariants.{Unwritten}
+use Rattle.code_store.specs.Operations.{AreFlatsOf}
 use Rattle.code_store.specs.Views.{AreBlank, code_of, owners_of}
 use Rattle.code_store.proofs.Beginnings.{words_end, blank-first, code-first, owners-first, stored_first}
 use Rattle.code_store.proofs.Maps.{same_stored}
@@ -44,6 +45,7 @@ invariant_of-result c =
     let uses = ap length c.in_ok-uses.ensures ∙ length-replicate {A = WordUse} c.args.room Unwritten in
     record {
       slots = ap length c.in_ok-own_slots.ensures ∙ length-map c.deref-2.result.now own ∙ ap length c.deref-2.ensures.value;
+      does = subst (λ (ws : List MarkedWord). AreFlatsOf ws c.in_ok-flats.flats.items) c.deref-3.ensures.value c.in_ok-flats.ensures;
       behind = behind;
       room = ap (λ n. 4 * n) blank ∙ c.requires.room;
       used = uses ∙ sym blank;

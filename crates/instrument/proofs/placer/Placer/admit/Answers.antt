@@ -5,6 +5,7 @@ use Rattle.std.specs.List.{flat_map}
 use Rattle.machine.specs.Cores.{In}
 use Rattle.tramp_spec.specs.Slots.{places_of}
 use Rattle.instrument.specs.Admission.{slot_count, slots_from}
+use Rattle.instrument.specs.Armable.{IsArmable}
 use Rattle.instrument.specs.Books.{Book}
 use Rattle.instrument.specs.Fits.{slots_for}
 use Rattle.instrument.specs.Freed.{AreHere}
@@ -23,6 +24,9 @@ use Rattle.instrument.proofs.placer.Placer.admit.Goals as goal
 
 pub add-requires-clause-row : goal.add-requires-clause-row
 add-requires-clause-row c = subst IsRow (sym c.in_ok-instrument.ensures.instrument) (row_from c.in-Some.first c.args.plan.now.vars)
+
+pub add-requires-clause-armable : goal.add-requires-clause-armable
+add-requires-clause-armable c = subst (λ (i : Instrument). IsArmable i.placed.vars i.placed.opens) (sym c.in_ok-instrument.ensures.instrument) c.requires.armable
 
 pub add-requires-clause-number : goal.add-requires-clause-number
 add-requires-clause-number c =

@@ -1,5 +1,6 @@
 use Rattle.std.proofs.Common.{◌∙◌, ◌∷◌, [], ◌++◌, ◌≡◌, List, ap, sym, subst, arith, Some}
 use Rattle.std.proofs.lemmas.Grind.{common_steps}
+use Rattle.instrument.specs.Armable.{AreArmable}
 use Rattle.instrument.specs.Listed.{AreInOrder, AreNumberedBelow}
 use Rattle.instrument.specs.Rosters.{RosterData}
 use Rattle.instrument.specs.Admission.{slot_count}
@@ -7,6 +8,7 @@ use Rattle.instrument.specs.Spaces.{AreSlotsOf, slots_of}
 use Rattle.instrument.specs.declared.instrument.Instrument.{Instrument}
 use Rattle.instrument.specs.declared.roster.Roster.TheInside.{Inside}
 use Rattle.instrument.proofs.Added.{found_in, slots_added, none_added}
+use Rattle.instrument.proofs.Armable.{armable_added}
 use Rattle.instrument.proofs.Listed.{order_added}
 use Rattle.instrument.proofs.roster.Roster.add.Goals as goal
 use Rattle.instrument.proofs.roster.Roster.add.Goals.{then-count-gt0, else-count-gt0}
@@ -17,6 +19,7 @@ invariant_of-self c =
     let count = c.slot_count-count.ensures ∙ ap slot_count c.as_slice.ensures in
     let above = subst (λ (r : RosterData). AreNumberedBelow c.args.instrument.no r.instruments) (sym c.self.view_is) c.requires.number in
     let order = order_added c.self.inside.instruments.items c.args.instrument c.self.invariant.order above in
+    let armable = armable_added c.self.inside.instruments.items c.args.instrument c.self.invariant.armable c.requires.armable in
     record {
       slots = elim c.if-count-gt0.branch [
         | then-count-gt0 w ↦
@@ -34,6 +37,10 @@ invariant_of-self c =
       order = elim c.if-count-gt0.branch [
         | then-count-gt0 w ↦ subst AreInOrder (sym (c.push_reserved.ensures.items ∙ ap (λ (r : Inside). r.instruments.items ++ c.args.instrument ∷ []) w.self-inside-is)) order
         | else-count-gt0 w ↦ subst AreInOrder (sym (c.push_reserved.ensures.items ∙ ap (λ (r : Inside). r.instruments.items ++ c.args.instrument ∷ []) w.self-inside-is)) order
+      ];
+      armable = elim c.if-count-gt0.branch [
+        | then-count-gt0 w ↦ subst AreArmable (sym (c.push_reserved.ensures.items ∙ ap (λ (r : Inside). r.instruments.items ++ c.args.instrument ∷ []) w.self-inside-is)) armable
+        | else-count-gt0 w ↦ subst AreArmable (sym (c.push_reserved.ensures.items ∙ ap (λ (r : Inside). r.instruments.items ++ c.args.instrument ∷ []) w.self-inside-is)) armable
       ];
       memory = elim c.if-count-gt0.branch [
         | then-count-gt0 w ↦ grind (arith, common_steps)

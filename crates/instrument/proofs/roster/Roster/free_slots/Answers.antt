@@ -31,6 +31,7 @@ invariant_of-self-2 c = record {
   slots = subst (λ (z : Rooms). AreSlotsOf z c.self.inside.instruments.items) (sym (c.give.ensures ∙ ap (λ (z : Rooms). after_give z c.in_ok-slot.slot c.args.count) c.in_ok-slot.ensures.taken))
       (found_given c.self.inside.slots c.self.inside.instruments.items c.in_ok-slot.slot c.args.count c.self.invariant.slots (grind (arith, common_steps, c.if-count-eq0.false)) c.in_ok-slot.ensures.lowest c.in_ok-slot.ensures.inside);
   order = c.self.invariant.order;
+  armable = c.self.invariant.armable;
   memory = c.self.invariant.memory;
 }
 

@@ -1,9 +1,11 @@
 use Rattle.std.proofs.Common.{◌∙◌, ◌<◌, ◌+◌, ◌++◌, List, ap, arith, drop, filter, length, subst, sym, take}
 use Rattle.tool_space.specs.Rooms.{Rooms}
 use Rattle.instrument.specs.Freed.{is_kept}
+use Rattle.instrument.specs.Armable.{AreArmable}
 use Rattle.instrument.specs.Listed.{AreInOrder}
 use Rattle.instrument.specs.Spaces.{AreSlotsOf}
 use Rattle.instrument.specs.declared.instrument.Instrument.{Instrument}
+use Rattle.instrument.proofs.Armable.{armable_filter}
 use Rattle.instrument.proofs.Holdings.{parted}
 use Rattle.instrument.proofs.Listed.{order_filter}
 use Rattle.instrument.proofs.Slotted.{may_go, slots_out}
@@ -37,5 +39,6 @@ invariant_of-self c =
     record {
       slots = subst (λ (is : List Instrument). AreSlotsOf c.give_slots.new.slots is) (sym e.by_index.2) given;
       order = subst AreInOrder (sym (e.by_index.2 ∙ left)) (order_filter (is_kept c.args.number.n) items k.order);
+      armable = subst AreArmable (sym (e.by_index.2 ∙ left)) (armable_filter (is_kept c.args.number.n) items k.armable);
       memory = omega (arith, k.memory, e.len, e.capacity);
     }

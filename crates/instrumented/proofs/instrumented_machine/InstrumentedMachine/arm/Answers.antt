@@ -22,7 +22,7 @@ returns-then-not-arm-clause-linked c =
     let placing = subst (λ (d : InstrumentedData). state_of d.state.placer n ≡ Placing) (sym c.self.view_is) c.requires.placing in
     let quiet = subst (λ (d : InstrumentedData). IsQuiet d.state.core) (sym c.self.view_is) c.requires.quiet in
     let a = placing_at (s.placer).placements n placing in
-    let same = placed_is _ a.instrument c.placed.result.now a.is c.placed.ensures in
+    let same = placed_is _ a.instrument c.placed.result.now a.is c.placed.ensures.placed in
     let may = subst (λ x. IsTrue c.arm.result ↔ MayArm (s.machine).core x) (sym same) c.arm.ensures.may in
     sym c.if-not-arm.true ∙ (arms_linked (both s.machine s.placer) c.self.invariant.reached n a c.arm.result quiet may ∙ ap (λ (d : InstrumentedData). is_linked d.state n) c.self.view_is)
 
@@ -32,7 +32,7 @@ armed-requires-clause-placed c i e =
     let n = c.args.number.n in
     let placing = subst (λ (d : InstrumentedData). state_of d.state.placer n ≡ Placing) (sym c.self.view_is) c.requires.placing in
     let a = placing_at (s.placer).placements n placing in
-    let same = placed_is _ a.instrument c.placed.result.now a.is c.placed.ensures in
+    let same = placed_is _ a.instrument c.placed.result.now a.is c.placed.ensures.placed in
     let may = subst (MayArm (s.machine).core) (sym same) (c.arm.ensures.may.0 c.if-not-arm.false) in
     let one : a.instrument ≡ i = (let z = sym a.is ∙ e in cc) in
     subst (IsPlaced (s.placer).placements) one (is_placed (both s.machine s.placer) c.self.invariant.reached n a may)
@@ -43,7 +43,7 @@ invariant_of-self-2 c =
     let n = c.args.number.n in
     let placing = subst (λ (d : InstrumentedData). state_of d.state.placer n ≡ Placing) (sym c.self.view_is) c.requires.placing in
     let a = placing_at (s.placer).placements n placing in
-    let same = placed_is _ a.instrument c.placed.result.now a.is c.placed.ensures in
+    let same = placed_is _ a.instrument c.placed.result.now a.is c.placed.ensures.placed in
     let may = subst (MayArm (s.machine).core) (sym same) (c.arm.ensures.may.0 c.if-not-arm.false) in
     let is = c.arm.ensures.state ∙ (ap (λ b. cond b (with_core s.machine (after (s.machine).core (events.Arm c.placed.result.now))) s.machine) c.if-not-arm.false ∙ ap (λ x. with_core s.machine (after (s.machine).core (events.Arm x))) (sym same)) in
     (armed_kept s.machine c.arm.new.self s.placer c.armed.new.self n a c.self.invariant may is c.armed.ensures.placements c.armed.ensures.ready).sound
@@ -55,7 +55,7 @@ returns-clause-linked c =
     let placing = subst (λ (d : InstrumentedData). state_of d.state.placer n ≡ Placing) (sym c.self.view_is) c.requires.placing in
     let quiet = subst (λ (d : InstrumentedData). IsQuiet d.state.core) (sym c.self.view_is) c.requires.quiet in
     let a = placing_at (s.placer).placements n placing in
-    let same = placed_is _ a.instrument c.placed.result.now a.is c.placed.ensures in
+    let same = placed_is _ a.instrument c.placed.result.now a.is c.placed.ensures.placed in
     let may = subst (λ x. IsTrue c.arm.result ↔ MayArm (s.machine).core x) (sym same) c.arm.ensures.may in
     sym c.if-not-arm.false ∙ (arms_linked (both s.machine s.placer) c.self.invariant.reached n a c.arm.result quiet may ∙ ap (λ (d : InstrumentedData). is_linked d.state n) c.self.view_is)
 
@@ -65,7 +65,7 @@ returns-clause-state c =
     let n = c.args.number.n in
     let placing = subst (λ (d : InstrumentedData). state_of d.state.placer n ≡ Placing) (sym c.self.view_is) c.requires.placing in
     let a = placing_at (s.placer).placements n placing in
-    let same = placed_is _ a.instrument c.placed.result.now a.is c.placed.ensures in
+    let same = placed_is _ a.instrument c.placed.result.now a.is c.placed.ensures.placed in
     let may = subst (MayArm (s.machine).core) (sym same) (c.arm.ensures.may.0 c.if-not-arm.false) in
     let is = c.arm.ensures.state ∙ (ap (λ b. cond b (with_core s.machine (after (s.machine).core (events.Arm c.placed.result.now))) s.machine) c.if-not-arm.false ∙ ap (λ x. with_core s.machine (after (s.machine).core (events.Arm x))) (sym same)) in
     let kept = armed_kept s.machine c.arm.new.self s.placer c.armed.new.self n a c.self.invariant may is c.armed.ensures.placements c.armed.ensures.ready in

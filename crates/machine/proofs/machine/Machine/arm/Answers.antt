@@ -16,6 +16,6 @@ invariant_of-self c =
     let i = c.args.instrument.now in
     let vec = s.harts in
     let may : MayArm _ i = subst (λ (m : Machine). MayArm m.core i) (sym c.self.view_is) (c.may_arm.ensures.0 c.if-not-may_arm.false) in
-    let new : c.arm_harts.new.harts ≡ map (armed_now i) vec.items = c.arm_harts.ensures ∙ ap (map (armed_now i)) c.deref_mut.ensures.value in
-    let len : length c.arm_harts.new.harts ≡ vec.len = ap length new ∙ (length-map vec.items (armed_now i) ∙ sym vec.ok.0) in
+    let new : c.arm_harts.new.harts ≡ map (armed_now s.mem i) vec.items = c.arm_harts.ensures ∙ ap (map (armed_now s.mem i)) c.deref_mut.ensures.value in
+    let len : length c.arm_harts.new.harts ≡ vec.len = ap length new ∙ (length-map vec.items (armed_now s.mem i) ∙ sym vec.ok.0) in
     subst (λ harts. IsSound harts p s.store s.blocks.rows s.budget) (sym (with_items_is vec c.arm_harts.new.harts len ∙ new)) (armed_sound vec.items p s.store s.blocks.rows s.budget i c.self.invariant may)

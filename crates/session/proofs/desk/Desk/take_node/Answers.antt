@@ -1,6 +1,7 @@
 use Rattle.std.proofs.Common.{◌≡◌, ℕ, List, [], ◌∷◌, ◌++◌, None, sym, ap, ap₂, ◌∙◌, inr}
 use Rattle.std.specs.Prelude.{map, slice_get}
 use Rattle.std.proofs.lemmas.List.{map-append}
+use Rattle.instrument.specs.Placements.{state_of}
 use Rattle.instrumented.specs.Instrumented.{Instrumented}
 use Rattle.w3_search.specs.declared.node.NodeState.TheVariants.{Active, Barred}
 use Rattle.w3_search.specs.Steps.{SearchData, with_state}
@@ -85,3 +86,12 @@ returns-in-Tested-clause-kits c =
           (c.test_kit-kit.ensures ∙ ap (λ (words : ℕ). test_kit i n c.args.contender.metric focus words c.in-Tested.number c.args.contender.hist) c.predicted.ensures),
       c.put_kit.ensures.items ∙ ap (λ (x : Table). x.kits ++ c.test_kit-kit.result ∷ []) c.self.view_is,
     )
+
+pub returns-in-Tested-clause-tested : goal.returns-in-Tested-clause-tested
+returns-in-Tested-clause-tested c = record {
+  kit = c.test_kit-kit.result;
+  is = c.put_kit.ensures.items ∙ ap (λ (x : Table). x.kits ++ c.test_kit-kit.result ∷ []) c.self.view_is;
+  numbered = ap (λ (x : Kit). x.shown.instrument) c.test_kit-kit.ensures;
+  cost = ap (λ (x : Kit). x.cost) c.test_kit-kit.ensures ∙ c.predicted.ensures;
+  stay = λ m low. c.in-Tested.ensures.still m low ∙ ap (λ (x : Table). state_of x.machine.state.placer m) c.self.view_is;
+}

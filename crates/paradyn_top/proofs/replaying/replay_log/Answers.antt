@@ -1,7 +1,7 @@
 use Rattle.refusals.proofs.Steps.{comes_then, handed_on}
 use Rattle.paradyn_top.specs.Found.{IsFound}
 use Rattle.paradyn_top.specs.Replays.{IsReplay}
-use Rattle.paradyn_top.proofs.replaying.replay_cold.Goals as goal
+use Rattle.paradyn_top.proofs.replaying.replay_log.Goals as goal
 
 pub returns-in_err-found : goal.returns-in_err-found
 returns-in_err-found c =

@@ -1,0 +1,32 @@
+-- A plan that starts cold is within what it was within.
+use Rattle.std.proofs.Common.{Result, Ok, Err, List, ap, arith}
+use Rattle.pn_types.specs.declared.code.Point.{Point}
+use Rattle.pn_types.specs.declared.plan.Plan.{Plan}
+use Rattle.pn_types.specs.declared.settings.Start.{Start}
+use Rattle.pn_types.specs.declared.settings.Start.TheVariants.{Cold, Warm}
+use Rattle.prim_code.specs.Fitting.{IsMeasurable}
+use Rattle.mdl_plan.specs.Plans.{Answers, IsPlanOver}
+use Rattle.mdl_plan.specs.Starts.{started, started_if}
+use Rattle.mdl_plan.specs.declared.fault.PlanFault.{PlanFault}
+use Rattle.mdl_plan.specs.declared.fault.PlanFault.TheVariants.{NoMemory, NoConstraint, TooManySites, TooManyStmts}
+
+pub started_measurable : (start : Start) (plan : Plan) → IsMeasurable plan → IsMeasurable (started start plan)
+started_measurable Warm plan h = h
+started_measurable Cold plan h = record { narrow = h.narrow; apart = h.apart; few = h.few; fitting = h.fitting; opens_few = tt; opens_fitting = tt }
+
+pub started_over : (start : Start) (points : List Point) (plan : Plan) → IsPlanOver points plan → IsPlanOver points (started start plan)
+started_over Warm points plan h = h
+started_over Cold points plan h = record {
+  vars = h.vars;
+  limited = record { sites = h.limited.sites; stmts = h.limited.stmts; opens = λ k d few. absurd (omega arith) };
+  sites = h.sites;
+  ascend = h.ascend;
+}
+
+-- what is answered starts as what is due does
+pub started_answers : (start : Start) (r due : Result Plan PlanFault) → Answers r due → Answers (started_if start r) (started_if start due)
+started_answers start (Ok plan) due e = ap (started_if start) e
+started_answers start (Err NoMemory) due e = tt
+started_answers start (Err (NoConstraint axis)) due e = ap (started_if start) e
+started_answers start (Err (TooManySites n)) due e = ap (started_if start) e
+started_answers start (Err (TooManyStmts at)) due e = ap (started_if start) e
