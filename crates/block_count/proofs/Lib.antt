@@ -1,0 +1,16 @@
+pub mod Agreeing
+pub mod Taken
+pub mod ReadyHarts
+pub mod Quanta
+pub mod Bodies
+pub mod Placed
+pub mod Legal
+pub mod Going
+pub mod Chains
+pub mod Courses
+pub mod Ended
+pub mod Answered
+pub mod Measured
+pub mod Slots
+pub mod Forces
+pub mod Sampled

@@ -1,0 +1,10 @@
+use Rattle.std.proofs.Common.{◌≡◌, ◌++◌, drop, length}
+use Rattle.block_count.specs.Readings.{counts_read}
+use Rattle.block_count.proofs.reading.counts.Given as goal
+
+-- the counts so far, and those of the rest
+abbrev pub invariant-loop-spot : goal.invariant-loop-spot
+invariant-loop-spot l = record {
+  places : length l.sample.readings ≡ length l.machine.core.harts;
+  all : l.counts.items ++ counts_read l.machine.core (drop l.spot-index l.spots) ≡ counts_read l.machine.core l.spots;
+}

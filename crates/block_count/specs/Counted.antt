@@ -1,0 +1,70 @@
+-- What is answered of the blocks of a program: how its own run, which the definitions run on the unpatched machine, passes them.
+use Rattle.std.specs.Prelude.{◌≡◌, ℕ, ◌<◌, ◌≤◌, ◌%◌, ◌^◌, ◌==◌, Bool, true, false, Option, Some, None, List, length, map}
+use Rattle.std.specs.List.{count_by}
+use Rattle.std.specs.Option.{option_map}
+use Rattle.pn_types.specs.declared.code.Proc.{Proc}
+use Rattle.pn_types.specs.declared.image.Image.{Image}
+use Rattle.pn_types.specs.declared.stop.StopText.{StopText}
+use Rattle.pn_types.specs.declared.stop.StopText.TheVariants as ended
+use Rattle.rv_word.specs.declared.outcome.Cause.{Cause}
+use Rattle.rv_word.specs.declared.outcome.Cause.TheVariants as cause
+use Rattle.rv_word.specs.Plain.{PlainHart, may_go}
+use Rattle.rv_exec.specs.Run.{Position, run, trace, IsLegal}
+use Rattle.machine.specs.Cores.{start_core}
+use Rattle.machine.specs.Replays.{Legal, owns, replay}
+use Rattle.machine.specs.Same.{SameProgram}
+use Rattle.block_count.specs.Spots.{spots_of, counters_of}
+use Rattle.block_count.specs.Course.{Pace, block_events}
+use Rattle.block_count.specs.declared.counts.Counts.{Counts}
+use Rattle.block_count.specs.declared.counts.CountFault.{CountFault}
+use Rattle.block_count.specs.declared.counts.CountFault.TheVariants as fault
+use Rattle.block_count.specs.declared.counts.HartStop.{HartStop}
+use Rattle.block_count.specs.declared.spot.Spot.{Spot}
+
+-- ---- harts
+
+-- how a hart ended: it stopped; or it could still go on, and the run was cut; or its ticks reached the budget
+abbrev pub ended_by : Option Cause → Bool → StopText
+ended_by None true = ended.Cut
+ended_by None false = ended.Budget
+ended_by (Some (cause.Exit status)) going = ended.Exit status
+ended_by (Some cause.Illegal) going = ended.Illegal
+ended_by (Some cause.Break) going = ended.Break
+ended_by (Some cause.Misaligned) going = ended.Misaligned
+ended_by (Some (cause.Access at)) going = ended.Access at
+ended_by (Some (cause.TextAccess at)) going = ended.TextAccess at
+ended_by (Some cause.FetchOutside) going = ended.FetchOutside
+
+abbrev pub stop_of : ℕ → PlainHart → HartStop
+stop_of budget x = record { stop = ended_by x.stop (may_go (Some x) budget); pc = x.pc }
+
+-- ---- counts
+
+-- how many of these positions are at an address
+abbrev pub positions_at : ℕ → List Position → ℕ
+positions_at a trace = count_by (λ q. q.pc == a) trace
+
+-- that of a block that has a counter
+abbrev pub passes_of : List Position → Spot → Option ℕ
+passes_of trace s = option_map (λ _. positions_at s.head.at trace % 2 ^ 64) s.counter
+
+-- ---- the answer
+
+-- There are as many counters as slots at most. The events can happen when they come. Their ticks are a run of the unpatched program, which is what the patched machine is behind
+-- them. The ticks and stops are those of this run, and a block's count is the number of its positions at the block's head, modulo
+-- 2^64. A block whose first word can't be moved has none.
+pub record IsCounted (image : Image) (procs : List Proc) (budget : ℕ) (p : Pace) (r : Counts) : Type 0 where
+  pub few : length (counters_of image procs) ≤ 4094
+  pub legal : Legal (block_events image procs budget p) (start_core image p.harts budget)
+  pub turns : List ℕ
+  pub owned : turns ≡ owns (block_events image procs budget p) (start_core image p.harts budget)
+  pub could : IsLegal image p.harts budget turns
+  pub same : SameProgram (replay (block_events image procs budget p) (start_core image p.harts budget)) (run image p.harts turns)
+  pub ticks : r.ticks ≡ map (λ x. x.ticks) (run image p.harts turns).harts
+  pub stops : r.stops ≡ map (stop_of budget) (run image p.harts turns).harts
+  pub counts : r.counts ≡ map (passes_of (trace image p.harts turns)) (spots_of image procs)
+
+-- More blocks have counters than there are slots: there are so many.
+abbrev pub IsFault : Image → List Proc → CountFault → Type 0
+IsFault image procs fault.NoMemory = Unit {0}
+IsFault image procs (fault.TooManyBlocks n) = (length (counters_of image procs) ≡ n) × (4094 < n)

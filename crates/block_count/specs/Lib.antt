@@ -1,0 +1,7 @@
+pub mod Heads
+pub mod Counters
+pub mod Spots
+pub mod Course
+pub mod Counted
+pub mod Marked
+pub mod Readings

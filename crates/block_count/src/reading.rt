@@ -1,0 +1,127 @@
+//! What is read off a machine that has settled.
+
+ghost use Rattle.std.specs.Prelude.{◌≡◌, ◌+◌, ◌<◌, ◌≤◌, ◌%◌, ◌^◌, length, map, nat_lt, sum, slice_get, Some, IfOk, OnOk};
+ghost use Rattle.machine.specs.Events.{IsQuiet};
+ghost use Rattle.block_count.specs.Counted.{ended_by};
+ghost use Rattle.block_count.specs.Readings.{counter_read, counts_read, stop_seen, stops_seen, ticks_seen};
+
+use crate::counter::Counter;
+use crate::counts::HartStop;
+use crate::spot::Spot;
+use machine::{Machine, Sample};
+use pn_types::{HartNo, MAX_HARTS, NoMemory, Seq, StopText};
+use rv_word::Cause;
+use std::alloc::Global;
+
+/// How many words each hart executed.
+pub fn ticks(alloc: Global, machine: &Machine, harts: u32) -> Result<Vec<u64>, NoMemory>
+    requires harts { harts ≡ length machine.now.core.harts }
+    requires few { harts ≤ MAX_HARTS }
+    ensures { IfOk result (λ ticks. ticks.items ≡ ticks_seen machine.now.core) }
+{
+    let mut ticks = Vec::new(alloc);
+    for number in 0..harts {
+        ticks.push(machine.ticks(HartNo::numbered(number)))?;
+    }
+    Ok(ticks)
+}
+
+/// How a hart ended.
+fn ended(stop: Option<Cause>, going: bool) -> StopText
+    ensures { result ≡ ended_by stop going }
+{
+    match stop {
+        None if going => StopText::Cut,
+        None => StopText::Budget,
+        Some(Cause::Exit(status)) => StopText::Exit(status),
+        Some(Cause::Illegal) => StopText::Illegal,
+        Some(Cause::Break) => StopText::Break,
+        Some(Cause::Misaligned) => StopText::Misaligned,
+        Some(Cause::Access(at)) => StopText::Access(at),
+        Some(Cause::TextAccess(at)) => StopText::TextAccess(at),
+        Some(Cause::FetchOutside) => StopText::FetchOutside,
+    }
+}
+
+/// How a hart ended, and where.
+fn hart_stop(machine: &Machine, budget: u64, hart: HartNo) -> HartStop
+    requires { hart < length machine.now.core.harts }
+    ensures { slice_get (stops_seen budget machine.now.core) hart ≡ Some result }
+{
+    let going = machine.ticks(hart) < budget;
+    HartStop {
+        stop: ended(machine.stop(hart), going),
+        pc: machine.at(hart),
+    }
+}
+
+/// How each hart ended, and where.
+pub fn stops(
+    alloc: Global,
+    machine: &Machine,
+    harts: u32,
+    budget: u64,
+) -> Result<Vec<HartStop>, NoMemory>
+    requires harts { harts ≡ length machine.now.core.harts }
+    requires few { harts ≤ MAX_HARTS }
+    ensures { IfOk result (λ stops. stops.items ≡ stops_seen budget machine.now.core) }
+{
+    let mut stops = Vec::new(alloc);
+    for number in 0..harts {
+        stops.push(hart_stop(machine, budget, HartNo::numbered(number)))?;
+    }
+    Ok(stops)
+}
+
+/// The sum of readings, modulo 2^64.
+fn sum_of(readings: &[u64]) -> u64
+    ensures { result ≡ sum readings.now % 2 ^ 64 }
+{
+    let mut total: u64 = 0;
+    for reading in readings {
+        total = total.wrapping_add(*reading);
+    }
+    total
+}
+
+/// What a counter reads on all harts together. `sample` has a place for each of them.
+fn read(
+    alloc: Global,
+    machine: &Machine,
+    counter: &Counter,
+    sample: &mut Sample,
+) -> Result<u64, NoMemory>
+    requires quiet { IsQuiet machine.now.core }
+    requires places { length sample.old.readings ≡ length machine.now.core.harts }
+    ensures read { IfOk result (λ count. count ≡ counter_read machine.now.core counter.now) }
+    ensures places { length sample.new.readings ≡ length machine.now.core.harts }
+{
+    let placed = counter.placed(alloc)?;
+    let _quiet = machine.sample(&placed, sample);
+    Ok(sum_of(sample.readings.as_slice()))
+}
+
+/// What the counter of each block reads, if it has one.
+pub fn counts(
+    alloc: Global,
+    machine: &Machine,
+    harts: u32,
+    spots: &[Spot],
+) -> Result<Vec<Option<u64>>, NoMemory>
+    requires quiet { IsQuiet machine.now.core }
+    requires harts { harts ≡ length machine.now.core.harts }
+    ensures { IfOk result (λ counts. counts.items ≡ counts_read machine.now.core spots.now) }
+{
+    let mut sample = Sample {
+        readings: Seq::from_vec(vec![in alloc; 0; harts as usize]?),
+    };
+    let mut counts = Vec::new(alloc);
+    for spot in spots {
+        let count = match &spot.counter {
+            Some(counter) => Some(read(alloc, machine, counter, &mut sample)?),
+            None => None,
+        };
+        counts.push(count)?;
+    }
+    Ok(counts)
+}

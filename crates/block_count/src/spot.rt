@@ -1,0 +1,139 @@
+//! Where the counters of a program's blocks stand.
+
+ghost use Rattle.std.specs.Prelude.{◌≡◌, ◌+◌, ◌*◌, ◌<◌, ◌≤◌, ◌^◌, IfOk, IfSome, length, map};
+ghost use Rattle.std.specs.List.{AllByRecursion};
+ghost use Rattle.std.specs.Option.{option_map};
+ghost use Rattle.pn_types.specs.Images.{IsImage};
+ghost use Rattle.rv_word.specs.Plain.{program_word};
+ghost use Rattle.rv_mem.specs.Start.{program_of};
+ghost use Rattle.tramp_spec.specs.Banks.{first_slot};
+ghost use Rattle.tramp_spec.specs.Codes.{tool_at};
+ghost use Rattle.tramp_spec.specs.MovedWords.{moved_of, words_of};
+ghost use Rattle.block_count.specs.Counters.{end_of};
+ghost use Rattle.block_count.specs.Spots.{counter_for, counters_in, spots_from, spots_of};
+
+use crate::block_head::BlockHead;
+use crate::counter::Counter;
+use crate::finding::heads;
+use crate::text::text_words;
+use pn_types::{FIRST_SLOT, Image, NoMemory, Proc, SEGMENTS_TO};
+use relocate::move_word;
+use std::alloc::Global;
+use tramp_spec::Moved;
+
+/// A block, and its counter if it can be counted.
+#[derive(Drop)]
+pub struct Spot {
+    pub head: BlockHead,
+    pub counter: Option<Counter>,
+}
+
+/// The word at an address, where a text that begins at `text_at` has one there.
+fn word_at(text_at: u64, words: &[u32], at: u64) -> Option<u32>
+    ensures word { result ≡ program_word (record { at = text_at; words = words.now }) at }
+    ensures low { IfSome result (λ word. at < text_at + 4 * length words.now) }
+{
+    if at < text_at || (at - text_at) % 4 != 0 {
+        return None;
+    }
+    words.get(((at - text_at) / 4) as usize).copied()
+}
+
+/// The words that do at an address what the word at a point does: None where it can't be moved there.
+fn moved(word: u32, point: u64, to: u64) -> Option<Moved>
+    requires point { point < 2 ^ 63 }
+    requires to { to < 2 ^ 63 }
+    ensures words { option_map words_of result ≡ moved_of word point to }
+    ensures few { IfSome result (λ moved. moved.len ≤ 4) }
+{
+    match move_word(word, point, to) {
+        Ok(moved) => {
+            // No word becomes more than four.
+            let words = moved.words;
+            let len = moved.len.min(4);
+            Some(Moved { words, len })
+        }
+        Err(_) => None,
+    }
+}
+
+/// The counter of a block's first word, on a slot and with its base block at an address: None where the word can't be moved there.
+fn counter(text_at: u64, words: &[u32], point: u64, slot: u32, at: u64) -> Option<Counter>
+    requires text { text_at + 4 * length words.now ≤ SEGMENTS_TO }
+    requires at { at < 2 ^ 62 }
+    ensures counter { result ≡ counter_for (record { at = text_at; words = words.now }) slot at point }
+    ensures near { IfSome result (λ counter. end_of counter ≤ at + 48) }
+{
+    let word = word_at(text_at, words, point)?;
+    let moved = moved(word, point, at + 12)?;
+    Some(Counter {
+        point,
+        slot,
+        at,
+        moved,
+    })
+}
+
+/// The blocks with their counters, from an address of the tool text on.
+fn spots_from(
+    alloc: Global,
+    text_at: u64,
+    words: &[u32],
+    heads: &[BlockHead],
+    first: u64,
+) -> Result<Vec<Spot>, NoMemory>
+    requires text { text_at + 4 * length words.now ≤ SEGMENTS_TO }
+    requires few { length heads.now < 2 ^ 31 }
+    requires first { first < 2 ^ 32 }
+    ensures spots { IfOk result (λ spots. spots.items ≡ spots_from (record { at = text_at; words = words.now }) first_slot first heads.now) }
+    ensures len { IfOk result (λ spots. length spots.items ≡ length heads.now) }
+{
+    let mut spots = Vec::with_capacity(alloc, heads.len())?;
+    let mut slot = FIRST_SLOT;
+    let mut at = first;
+    for head in heads {
+        let counter = counter(text_at, words, head.at, slot, at);
+        if let Some(counter) = &counter {
+            slot += 1;
+            at = counter.end();
+        }
+        spots.push(Spot {
+            head: *head,
+            counter,
+        })?;
+    }
+    Ok(spots)
+}
+
+/// The blocks of a program with their counters.
+pub fn spots(alloc: Global, image: &Image, procs: &[Proc]) -> Result<Vec<Spot>, NoMemory>
+    requires { IsImage image.now }
+    ensures spots { IfOk result (λ spots. spots.items ≡ spots_of image.now procs.now) }
+    ensures few { IfOk result (λ spots. length spots.items < 2 ^ 31) }
+    ensures narrow { IfOk result (λ spots. AllByRecursion (λ word. word < 2 ^ 32) (program_of image.now).words) }
+{
+    let heads = heads(alloc, image, procs)?;
+    let words = text_words(alloc, image)?;
+    let end = image.text_at + 4 * words.len() as u64;
+    spots_from(
+        alloc,
+        image.text_at,
+        &words,
+        &heads,
+        end.next_multiple_of(4096),
+    )
+}
+
+/// The counters of blocks.
+pub fn counters(alloc: Global, spots: &[Spot]) -> Result<Vec<&Counter>, NoMemory>
+    ensures counters { IfOk result (λ counters. map (λ c. c.now) counters.items ≡ counters_in spots.now) }
+    ensures few { IfOk result (λ counters. length counters.items ≤ length spots.now) }
+{
+    let mut counters = Vec::new(alloc);
+    for spot in spots {
+        if let Some(counter) = &spot.counter {
+            counters.push(counter)?;
+        }
+    }
+    Ok(counters)
+}
