@@ -50,9 +50,9 @@ passes_of trace s = option_map (λ _. positions_at s.head.at trace % 2 ^ 64) s.c
 
 -- ---- the answer
 
--- There are as many counters as slots at most. The events can happen when they come. Their ticks are a run of the unpatched program, which is what the patched machine is behind
--- them. The ticks and stops are those of this run, and a block's count is the number of its positions at the block's head, modulo
--- 2^64. A block whose first word can't be moved has none.
+-- There are at most as many counters as slots. The events can happen when they come. Their ticks are a run of the unpatched program,
+-- and the patched machine is that program's state behind it. The ticks and stops are those of this run, and a block's count is the
+-- number of the run's positions at the block's head, modulo 2^64. A block whose first word can't be moved has none.
 pub record IsCounted (image : Image) (procs : List Proc) (budget : ℕ) (p : Pace) (r : Counts) : Type 0 where
   pub few : length (counters_of image procs) ≤ 4094
   pub legal : Legal (block_events image procs budget p) (start_core image p.harts budget)
