@@ -8,7 +8,7 @@ mod point_lines;
 mod search_lines;
 mod shown_lines;
 
-pub use lines::report;
+pub use lines::{add_harts, report};
 pub use parts::{HartPart, NodePart, RefusedPart, ReportParts, SearchPart, ShownPart};
 pub use plan_lines::plan_text;
 pub use point_lines::points_text;

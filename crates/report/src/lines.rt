@@ -49,8 +49,12 @@ fn add_hart(alloc: Global, out: &mut Vec<u8>, number: u32, part: &HartPart) -> R
     out.extend_from_slice(line.as_bytes())
 }
 
-/// The lines of all harts.
-fn add_harts(alloc: Global, out: &mut Vec<u8>, parts: &[HartPart]) -> Result<(), NoMemory>
+/// Adds the lines of all harts.
+///
+/// # Errors
+///
+/// `NoMemory` where memory is wanting.
+pub fn add_harts(alloc: Global, out: &mut Vec<u8>, parts: &[HartPart]) -> Result<(), NoMemory>
     requires { length parts.now < 2 ^ 32 }
     ensures { OnOk result (out.new.items ≡ out.old.items ++ hart_lines 0 parts.now) }
 {
