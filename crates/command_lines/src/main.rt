@@ -3,8 +3,8 @@
 #![tactic(auto)]
 
 use command_words::{
-    LiveRequest, PlanRequest, ReplayRequest, Request, RunRequest, StressRequest, WordFault,
-    log_name, read_request,
+    BlocksRequest, LiveRequest, PlanRequest, ReplayRequest, Request, RunRequest, StressRequest,
+    WordFault, log_name, read_request,
 };
 use pn_types::{NoMemory, Settings, Start};
 use std::alloc::Global;
@@ -85,6 +85,16 @@ fn stress_text(alloc: Global, stress: StressRequest) -> Result<String, NoMemory>
     format!(in alloc; "stress procs {procs} seed {seed}")
 }
 
+/// What `blocks` is asked for.
+fn blocks_text(alloc: Global, blocks: &BlocksRequest<'_>) -> Result<String, NoMemory> {
+    let program = blocks.program;
+    let harts = blocks.harts;
+    let budget = blocks.budget;
+    let seed = blocks.seed;
+    let quantum = blocks.quantum;
+    format!(in alloc; "blocks [{program}] harts {harts} budget {budget} seed {seed} quantum {quantum}")
+}
+
 /// What words ask for.
 fn request_text(alloc: Global, words: &[String]) -> Result<String, NoMemory> {
     match read_request(alloc, words) {
@@ -96,6 +106,7 @@ fn request_text(alloc: Global, words: &[String]) -> Result<String, NoMemory> {
         Ok(Request::Points(program)) => format!(in alloc; "points [{program}]"),
         Ok(Request::Relog(log)) => format!(in alloc; "relog [{log}]"),
         Ok(Request::Stress(stress)) => stress_text(alloc, stress),
+        Ok(Request::Blocks(blocks)) => blocks_text(alloc, &blocks),
         Err(WordFault::Usage) => String::from_str(alloc, "usage"),
         Err(WordFault::NoMemory) => Err(NoMemory {}),
     }

@@ -5,12 +5,13 @@ use Rattle.clap.specs.declared.parser.matches.ArgMatches.{ArgMatches}
 use Rattle.command_words.specs.Grammar.{Text, Form, Given, Taken, given_in, taken_of}
 use Rattle.command_words.specs.Requests as request
 use Rattle.command_words.specs.declared.requests.Request.{Request}
-use Rattle.command_words.specs.declared.requests.Request.TheVariants.{Run, Live, Replay, Plan, Asm, Points, Relog, Stress}
+use Rattle.command_words.specs.declared.requests.Request.TheVariants.{Run, Live, Replay, Plan, Asm, Points, Relog, Stress, Blocks}
 use Rattle.command_words.specs.declared.requests.RunRequest.{RunRequest}
 use Rattle.command_words.specs.declared.requests.LiveRequest.{LiveRequest}
 use Rattle.command_words.specs.declared.requests.ReplayRequest.{ReplayRequest}
 use Rattle.command_words.specs.declared.requests.PlanRequest.{PlanRequest}
 use Rattle.command_words.specs.declared.requests.StressRequest.{StressRequest}
+use Rattle.command_words.specs.declared.requests.BlocksRequest.{BlocksRequest}
 
 abbrev pub asked_run : RunRequest → request.RunRequest
 asked_run r = record { program = r.program.now; conf = r.conf.now; settings = r.settings; seed = r.seed; quantum = r.quantum; log = option_map (λ s. s.now) r.log }
@@ -27,6 +28,9 @@ asked_plan p = record { program = p.program.now; conf = p.conf.now; metric = p.m
 abbrev pub asked_stress : StressRequest → request.StressRequest
 asked_stress r = record { procs = r.procs; seed = r.seed }
 
+abbrev pub asked_blocks : BlocksRequest → request.BlocksRequest
+asked_blocks r = record { program = r.program.now; harts = r.harts; budget = r.budget; seed = r.seed; quantum = r.quantum }
+
 abbrev pub asked : Request → request.Request
 asked (Run r) = request.run (asked_run r)
 asked (Live r) = request.live (asked_live r)
@@ -36,6 +40,7 @@ asked (Asm text) = request.assemble text.now
 asked (Points program) = request.list_points program.now
 asked (Relog log) = request.relog log.now
 asked (Stress r) = request.stress (asked_stress r)
+asked (Blocks r) = request.count_blocks (asked_blocks r)
 
 -- the values that clap's matches hold
 abbrev pub given_by : ArgMatches → Given

@@ -3,7 +3,7 @@ use Rattle.std.specs.Prelude.{◌≤◌, ◌<◌, ◌^◌, ℕ, if◌then◌else
 use Rattle.std.specs.Option.{option_and_then, option_map_or}
 use Rattle.std.specs.Str.{bytes_eq}
 use Rattle.pn_types.specs.Settings.{AreInRange}
-use Rattle.pn_types.specs.declared.limits.TheConstants.{MAX_HARTS, MAX_QUANTUM, MAX_WORKERS}
+use Rattle.pn_types.specs.declared.limits.TheConstants.{MAX_BUDGET, MAX_HARTS, MAX_QUANTUM, MAX_WORKERS}
 use Rattle.pn_types.specs.declared.settings.Settings.{Settings}
 use Rattle.pn_types.specs.declared.settings.Start.{Start}
 use Rattle.pn_types.specs.declared.settings.Start.TheVariants.{Cold, Warm}
@@ -11,7 +11,7 @@ use Rattle.command_words.specs.Grammar.{Text, Given, given_in, taken_of}
 use Rattle.command_words.specs.Commands.{form_of, command_named}
 use Rattle.command_words.specs.Numbers.{number_between, number_given, harts_option, workers_option, seed_option, quantum_option, budget_option, bins_option, width_option, instruments_option}
 use Rattle.command_words.specs.declared.commands.CommandName.{CommandName}
-use Rattle.command_words.specs.declared.commands.CommandName.TheVariants.{Run, Live, Replay, Asm, Points, Plan, Stress, Relog}
+use Rattle.command_words.specs.declared.commands.CommandName.TheVariants.{Run, Live, Replay, Asm, Points, Plan, Stress, Relog, Blocks}
 
 -- ---- values
 
@@ -78,6 +78,15 @@ pub record StressRequest : Type 0 where
   -- the seed of the program, and of the order of quanta
   pub seed : ℕ
 
+pub record BlocksRequest : Type 0 where
+  pub program : Text
+  pub harts : ℕ
+  -- the ticks of each hart, at most
+  pub budget : ℕ
+  -- the seed of the order of quanta
+  pub seed : ℕ
+  pub quantum : ℕ
+
 pub data Request : Type 0 where
   run : RunRequest → Request
   live : LiveRequest → Request
@@ -88,6 +97,8 @@ pub data Request : Type 0 where
   -- to write the log of this name anew
   relog : Text → Request
   stress : StressRequest → Request
+  -- to count how often each basic block is executed
+  count_blocks : BlocksRequest → Request
 
 abbrev pub run_request : Given → Option Request
 run_request given =
@@ -113,6 +124,15 @@ stress_request given =
     option_and_then (λ procs. option_map (λ seed. stress (record { procs = procs; seed = seed })) (number_between 0 4294967295 (place_in given (codes "seed"))))
     (number_between 1 200 (place_in given (codes "procs")))
 
+abbrev pub blocks_request : Given → Option Request
+blocks_request given =
+    option_and_then (λ harts. option_and_then (λ budget. option_and_then (λ seed. option_map (λ quantum.
+    count_blocks (record { program = place_in given (codes "program"); harts = harts; budget = budget; seed = seed; quantum = quantum }))
+    (number_given given quantum_option))
+    (number_given given seed_option))
+    (number_given given budget_option))
+    (number_given given harts_option)
+
 abbrev pub request_from : CommandName → Given → Option Request
 request_from Run given = run_request given
 request_from Live given = live_request given
@@ -122,6 +142,7 @@ request_from Points given = Some (list_points (place_in given (codes "program"))
 request_from Plan given = plan_request given
 request_from Stress given = stress_request given
 request_from Relog given = Some (relog (place_in given (codes "record")))
+request_from Blocks given = blocks_request given
 
 -- What the words ask for; none where they are no command.
 abbrev pub request_of : List Text → Option Request
@@ -143,6 +164,7 @@ IsNotLive (assemble text) = Unit {0}
 IsNotLive (list_points program) = Unit {0}
 IsNotLive (relog log) = Unit {0}
 IsNotLive (stress r) = Unit {0}
+IsNotLive (count_blocks r) = Unit {0}
 
 -- the numbers of a request are in their ranges
 abbrev pub HasRanges : Request → Type 0
@@ -154,3 +176,4 @@ HasRanges (assemble text) = Unit {0}
 HasRanges (list_points program) = Unit {0}
 HasRanges (relog log) = Unit {0}
 HasRanges (stress r) = ((1 ≤ r.procs) × (r.procs ≤ 200)) × (r.seed < 2 ^ 32)
+HasRanges (count_blocks r) = ((1 ≤ r.harts) × (r.harts ≤ MAX_HARTS)) × ((1 ≤ r.budget) × (r.budget ≤ MAX_BUDGET)) × ((r.seed < 2 ^ 32) × ((1 ≤ r.quantum) × (r.quantum ≤ MAX_QUANTUM)))

@@ -16,10 +16,11 @@ pub enum CommandName {
     Plan,
     Stress,
     Relog,
+    Blocks,
 }
 
 /// All commands.
-const COMMANDS: [CommandName; 8] = [
+const COMMANDS: [CommandName; 9] = [
     CommandName::Run,
     CommandName::Live,
     CommandName::Replay,
@@ -28,6 +29,7 @@ const COMMANDS: [CommandName; 8] = [
     CommandName::Plan,
     CommandName::Stress,
     CommandName::Relog,
+    CommandName::Blocks,
 ];
 
 const RUN_OPTIONS: [&str; 9] = [
@@ -54,6 +56,8 @@ const LIVE_OPTIONS: [&str; 9] = [
     "start",
 ];
 
+const BLOCKS_OPTIONS: [&str; 4] = ["harts", "seed", "quantum", "budget"];
+
 /// The first of some commands whose word this is.
 fn first_named(commands: &[CommandName], word: &str) -> Option<CommandName>
     ensures { result ≡ find (λ name. bytes_eq (form_of name).word word.now) commands.now }
@@ -77,6 +81,7 @@ impl CommandName {
             }
             CommandName::Stress => Form::new("stress", &["procs", "seed"], &[]),
             CommandName::Relog => Form::new("relog", &["record"], &[]),
+            CommandName::Blocks => Form::new("blocks", &["program"], &BLOCKS_OPTIONS),
         }
     }
 

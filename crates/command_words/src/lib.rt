@@ -18,6 +18,6 @@ pub use commands::CommandName;
 pub use logging::log_name;
 pub use matching::WordFault;
 pub use requests::{
-    LiveRequest, PlanRequest, ReplayRequest, Request, RunRequest, StressRequest, begin_live,
-    read_request,
+    BlocksRequest, LiveRequest, PlanRequest, ReplayRequest, Request, RunRequest, StressRequest,
+    begin_live, read_request,
 };

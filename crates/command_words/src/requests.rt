@@ -1,7 +1,7 @@
 ghost use Rattle.std.specs.Prelude.{◌≡◌, ◌≤◌, MatchResult, IfOk, IfSome, Some, None, map, option_map, string_bytes};
 ghost use Rattle.command_words.specs.Asked.{asked};
 ghost use Rattle.command_words.specs.Numbers.{number_between, number_given};
-ghost use Rattle.command_words.specs.Requests.{place_in, settings_of, start_given, start_named, run_request, live_request, plan_request, stress_request, request_from, request_of, begins_live, HasRanges};
+ghost use Rattle.command_words.specs.Requests.{place_in, settings_of, start_given, start_named, run_request, live_request, plan_request, stress_request, blocks_request, request_from, request_of, begins_live, HasRanges};
 ghost use Rattle.command_words.specs.Walked.{option_seen};
 ghost use Rattle.pn_types.specs.Settings.{AreInRange};
 
@@ -84,6 +84,21 @@ pub struct StressRequest {
     pub seed: u32,
 }
 
+/// What `blocks` is asked for.
+#[derive(Clone, Copy, Drop)]
+pub struct BlocksRequest<'a> {
+    /// The name of the program's file.
+    pub program: &'a str,
+    /// The number of harts, from 1 to [`pn_types::MAX_HARTS`].
+    pub harts: u32,
+    /// The ticks of each hart, at most, from 1 to [`pn_types::MAX_BUDGET`].
+    pub budget: u64,
+    /// The seed of the order of quanta; 0 goes round.
+    pub seed: u32,
+    /// The most turns of a quantum, from 1 to [`pn_types::MAX_QUANTUM`].
+    pub quantum: u32,
+}
+
 /// What the words ask for.
 #[derive(Clone, Copy, Drop)]
 pub enum Request<'a> {
@@ -103,6 +118,8 @@ pub enum Request<'a> {
     Relog(&'a str),
     /// To run a program that is made from a seed, and sum the run up.
     Stress(StressRequest),
+    /// To count how often each basic block of a program is executed.
+    Blocks(BlocksRequest<'a>),
 }
 
 /// A positional word.
@@ -236,6 +253,23 @@ fn stress_request<'a, G: Given<'a>>(given: &G) -> Option<Request<'a>>
     }))
 }
 
+fn blocks_request<'a, G: Given<'a>>(given: &G) -> Option<Request<'a>>
+    ensures request { option_map asked result ≡ blocks_request (G.given given.now) }
+    ensures ranges { IfSome result (λ request. HasRanges (asked request)) }
+{
+    let harts = number_given(given, HARTS)?;
+    let budget = number_given(given, BUDGET)?;
+    let seed = number_given(given, SEED)?;
+    let quantum = number_given(given, QUANTUM)?;
+    Some(Request::Blocks(BlocksRequest {
+        program: place(given, "program"),
+        harts: harts as u32,
+        budget,
+        seed: seed as u32,
+        quantum: quantum as u32,
+    }))
+}
+
 pub fn request_from<'a, G: Given<'a>>(name: CommandName, given: &G) -> Option<Request<'a>>
     ensures request { option_map asked result ≡ request_from name (G.given given.now) }
     ensures ranges { IfSome result (λ request. HasRanges (asked request)) }
@@ -253,6 +287,7 @@ pub fn request_from<'a, G: Given<'a>>(name: CommandName, given: &G) -> Option<Re
         CommandName::Plan => plan_request(given),
         CommandName::Stress => stress_request(given),
         CommandName::Relog => Some(Request::Relog(place(given, "record"))),
+        CommandName::Blocks => blocks_request(given),
     }
 }
 

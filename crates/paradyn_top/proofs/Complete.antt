@@ -6,7 +6,7 @@ use Rattle.command_words.specs.Requests.{begins_live}
 use Rattle.outside.specs.Causes.{count_up}
 use Rattle.outside.specs.Outside.{Holding}
 use Rattle.refusals.specs.declared.fault.Fault.{Fault}
-use Rattle.refusals.specs.declared.fault.Fault.TheVariants.{Usage, FileFault, BadProgram, BadConf, BadPick, BadLog}
+use Rattle.refusals.specs.declared.fault.Fault.TheVariants.{Usage, FileFault, BadProgram, BadConf, BadPick, BadLog, TooManyBlocks}
 use Rattle.paradyn_top.specs.Answers.{status_of, texts_of}
 use Rattle.paradyn_top.specs.Delivery.{IsTorn}
 use Rattle.paradyn_top.specs.Serving.{AreGained, AreOne, AreTold, AreTorn, IsOwed, IsSpared, IsUntold, OneOwed}
@@ -62,6 +62,7 @@ module _ {F K L : Type 0} (holds : F → List ℕ → Holding) (faults : F → L
     status_three name rose (Err (BadConf fault)) owed = absurd (rose (owed.counts name))
     status_three name rose (Err (BadPick metric focus why)) owed = absurd (rose (owed.counts name))
     status_three name rose (Err (BadLog place why)) owed = absurd (rose (owed.counts name))
+    status_three name rose (Err (TooManyBlocks count)) owed = absurd (rose (owed.counts name))
 
     pub unread : (name : List ℕ) → (faults new name ≡ faults old name → ⊥) → (result ≡ 3) ⊎ ((result ≡ 7) ⊎ (result ≡ 8))
     unread name rose = by (cases_eq result 7) (cases_eq result 8)

@@ -6,6 +6,7 @@ mod Inside
 mod Wished
 mod Numbered
 mod Given
+mod Counted
 mod OneDue
 mod Rising
 mod OneOwed

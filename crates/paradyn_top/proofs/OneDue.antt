@@ -1,7 +1,7 @@
 -- What is due is unique where each file was seen as one thing.
 use Rattle.std.proofs.Common.{◌≡◌, ℕ, Bool, true, false, List, Option, Some, None, Result, Ok, Err, refl, sym, ap, ◌∙◌}
 use Rattle.std.specs.Prelude.{codes, is_some}
-use Rattle.command_words.specs.Requests.{Request, RunRequest, LiveRequest, ReplayRequest, PlanRequest, StressRequest, run, live, replay, make_plan, assemble, list_points, relog, stress, begins_live, request_of}
+use Rattle.command_words.specs.Requests.{Request, RunRequest, LiveRequest, ReplayRequest, PlanRequest, StressRequest, run, live, replay, make_plan, assemble, list_points, relog, stress, count_blocks, begins_live, request_of}
 use Rattle.command_words.proofs.Lives.{AskNotLive, not_live}
 use Rattle.elf_form.specs.declared.limits.TheConstants.{MAX_PROGRAM_LEN}
 use Rattle.live_run.specs.ByWorkers.{IsShared}
@@ -40,6 +40,7 @@ use Rattle.session_spec.specs.declared.data.RefusedWish.{RefusedWish}
 use Rattle.whole_run.specs.Replayed.{misfit_of}
 use Rattle.whole_run.specs.Seeded.{IsSeeded, OneSeeded}
 use Rattle.paradyn_top.specs.Answers.{output}
+use Rattle.paradyn_top.specs.Blocks.{AreCounted}
 use Rattle.paradyn_top.specs.Due.{IsDueFor, IsDue}
 use Rattle.paradyn_top.specs.Found.{resources_of, IsCheck, IsFound}
 use Rattle.paradyn_top.specs.Given.{inputs_with}
@@ -56,6 +57,7 @@ use Rattle.paradyn_top.specs.declared.inputs.Inputs.{Inputs}
 use Rattle.paradyn_top.specs.declared.logs.Log.{Log}
 use Rattle.paradyn_top.specs.declared.logs.TheConstants.{LOG_LIMIT}
 use Rattle.paradyn_top.specs.declared.texts.Texts.{Texts}
+use Rattle.paradyn_top.proofs.Counted.{counted_once}
 
 -- the laws of what the top call's steps stand upon
 pub record Laws : Type 0 where
@@ -254,6 +256,7 @@ module _ (laws : Laws) where
         (one_then (IsProgramContent sees name) (λ bytes file. file ≡ file_of bytes) (content_once sees once MAX_PROGRAM_LEN (BadProgram TooLong) name) (λ bytes. equal_once (file_of bytes))) (λ file. equal_once (Ok (output file)))
     due_for_once (Some (relog name)) other = one_then (IsLog sees name) _ (log_once name) (λ log. equal_once _)
     due_for_once (Some (stress r)) other = stress_due_once r
+    due_for_once (Some (count_blocks r)) other = one_then (IsProgram sees r.program) (AreCounted r) (program_once sees once r.program) (counted_once r)
 
     due_for_alike : (asked : Option Request) (a b : Result Texts Fault) → IsDueFor asked sees a → IsDueFor asked sees b → AreAlike a b
     due_for_alike None a b d e = of_same a b (due_for_once None tt a b d e)
@@ -265,6 +268,7 @@ module _ (laws : Laws) where
     due_for_alike (Some (assemble name)) a b d e = of_same a b (due_for_once (Some (assemble name)) tt a b d e)
     due_for_alike (Some (relog name)) a b d e = of_same a b (due_for_once (Some (relog name)) tt a b d e)
     due_for_alike (Some (stress r)) a b d e = of_same a b (due_for_once (Some (stress r)) tt a b d e)
+    due_for_alike (Some (count_blocks r)) a b d e = of_same a b (due_for_once (Some (count_blocks r)) tt a b d e)
 
     by_kind : (words : List (List ℕ)) (is : Bool) → begins_live words ≡ is → (a b : Result Texts Fault) → IsDue words sees a → IsDue words sees b → AreOne is a b
     by_kind words true e a b due other = due_for_alike (request_of words) a b due other

@@ -9,7 +9,7 @@ use Rattle.outside.specs.Causes.{count_up, Rose}
 use Rattle.outside.specs.Outside.{Holding, IsWhole, IsCalm}
 use Rattle.refusals.proofs.Steps.{IsOne}
 use Rattle.refusals.specs.declared.fault.Fault.{Fault}
-use Rattle.refusals.specs.declared.fault.Fault.TheVariants.{Usage, FileFault, BadProgram, BadConf, BadPick, BadLog}
+use Rattle.refusals.specs.declared.fault.Fault.TheVariants.{Usage, FileFault, BadProgram, BadConf, BadPick, BadLog, TooManyBlocks}
 use Rattle.paradyn_top.proofs.OneDue.{Laws, due_once, of_same}
 use Rattle.paradyn_top.proofs.Rising.{NotFile, rises}
 use Rattle.paradyn_top.specs.Serving.{AreOne, AreTold, IsOwed}
@@ -28,6 +28,7 @@ naming (BadProgram fault) = Other (BadProgram fault) tt
 naming (BadConf fault) = Other (BadConf fault) tt
 naming (BadPick metric focus why) = Other (BadPick metric focus why) tt
 naming (BadLog place why) = Other (BadLog place why) tt
+naming (TooManyBlocks count) = Other (TooManyBlocks count) tt
 
 same_bytes : (holding : Holding) (x y : List ℕ) → IsSome holding → IsWhole holding x → IsWhole holding y → x ≡ y
 same_bytes None x y told a b = absurd (cc)
@@ -47,6 +48,7 @@ module _ {F : Type 0} (holds : F → List ℕ → Holding) (faults : F → List 
   calm_of (BadConf fault) other c = c
   calm_of (BadPick metric focus why) other c = c
   calm_of (BadLog place why) other c = c
+  calm_of (TooManyBlocks count) other c = c
 
   seen_once : IsCalm faults old new → (name : List ℕ) → IsOne (seen (holds old) (faults old) (faults new) name)
   seen_once calm name (Ok x) (Ok y) a b = ap (λ (bytes : List ℕ). Ok bytes) (same_bytes (holds old name) x y (told name).0 a b)

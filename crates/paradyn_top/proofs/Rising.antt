@@ -2,7 +2,7 @@
 use Rattle.std.proofs.Common.{◌≡◌, ℕ, List, length, Option, Some, None, Bool, true, false, cond, Result, Ok, Err, sym, subst}
 use Rattle.std.specs.Prelude.{⊤, codes, is_some, nat_lt}
 use Rattle.asm_file.specs.Made.{elf_of}
-use Rattle.command_words.specs.Requests.{Request, RunRequest, LiveRequest, ReplayRequest, PlanRequest, StressRequest, run, live, replay, make_plan, assemble, list_points, relog, stress, request_of}
+use Rattle.command_words.specs.Requests.{Request, RunRequest, LiveRequest, ReplayRequest, PlanRequest, StressRequest, run, live, replay, make_plan, assemble, list_points, relog, stress, count_blocks, request_of}
 use Rattle.elf_form.specs.Meaning.{meaning_of}
 use Rattle.elf_form.specs.declared.fault.ElfFault.{ElfFault}
 use Rattle.elf_form.specs.declared.limits.TheConstants.{MAX_PROGRAM_LEN}
@@ -27,7 +27,7 @@ use Rattle.refusals.specs.Kinds.{fault_at}
 use Rattle.refusals.specs.Refusals.{Then}
 use Rattle.refusals.specs.declared.configuration.ConfKind.TheVariants.{TooLong as TooLongConf}
 use Rattle.refusals.specs.declared.fault.Fault.{Fault}
-use Rattle.refusals.specs.declared.fault.Fault.TheVariants.{Usage, FileFault, BadProgram, BadConf, BadPick, BadLog}
+use Rattle.refusals.specs.declared.fault.Fault.TheVariants.{Usage, FileFault, BadProgram, BadConf, BadPick, BadLog, TooManyBlocks}
 use Rattle.refusals.specs.declared.log.LogCause.TheVariants.{TooLong as TooLongLog}
 use Rattle.refusals.specs.declared.program.ProgramFault.TheVariants.{TooLong}
 use Rattle.resource_tree.specs.Foci.{canonical}
@@ -43,6 +43,7 @@ use Rattle.whole_run.specs.declared.misfit.Misfit.{Misfit}
 use Rattle.whole_run.specs.declared.misfit.Misfit.TheVariants as misfit
 use Rattle.paradyn_top.specs.Given.{inputs_with}
 use Rattle.paradyn_top.specs.Answers.{output}
+use Rattle.paradyn_top.specs.Blocks.{AreCounted}
 use Rattle.paradyn_top.specs.Due.{IsDueFor, IsDue}
 use Rattle.paradyn_top.specs.Runs.{texts_of_run, IsPrepared, IsOpened, IsRunWith, IsRunDue, IsLiveWith, IsLiveDue, IsStressWith, IsStressDue, stress_settings, stress_sight, summary_of}
 use Rattle.paradyn_top.specs.Found.{resources_of, IsCheck, IsFound}
@@ -57,6 +58,7 @@ use Rattle.paradyn_top.specs.declared.inputs.Inputs.{Inputs}
 use Rattle.paradyn_top.specs.declared.logs.Log.{Log}
 use Rattle.paradyn_top.specs.declared.logs.TheConstants.{LOG_LIMIT}
 use Rattle.paradyn_top.specs.declared.texts.Texts.{Texts}
+use Rattle.paradyn_top.proofs.Counted.{counted_spared}
 
 -- ---- what names no file as unread
 
@@ -67,6 +69,7 @@ NotFile (BadProgram fault) = ⊤
 NotFile (BadConf fault) = ⊤
 NotFile (BadPick metric focus why) = ⊤
 NotFile (BadLog place why) = ⊤
+NotFile (TooManyBlocks count) = ⊤
 
 abbrev Spares : {A : Type 0} → Result A Fault → Type 0
 Spares (Ok a) = ⊤
@@ -231,6 +234,8 @@ module _ (name : List ℕ) (P : Type 0) (sees : Sight) (at_file : (other : List 
   at_request (Some (assemble other)) = of_either P (IsElfFile sees other) (λ file texts. texts ≡ Ok (output file)) (FileFault name) (at_text name P sees at_file other) (λ file e. absurd (cc))
   at_request (Some (relog other)) = of_either P (IsLog sees other) _ (FileFault name) (at_log other) (λ log e. absurd (cc))
   at_request (Some (stress r)) = λ e. absurd (stress_spared r name e)
+  at_request (Some (count_blocks r)) =
+      of_either P (IsProgram sees r.program) (AreCounted r) (FileFault name) (at_program name P sees at_file r.program) (λ image e. absurd (counted_spared r image name e))
 
   at_words : (words : List (List ℕ)) → IsDue words sees (Err (FileFault name)) → P
   at_words words = at_request (request_of words)

@@ -7,6 +7,7 @@ pub mod Plans
 pub mod Logs
 pub mod Replays
 pub mod Runs
+pub mod Blocks
 pub mod Due
 pub mod Delivery
 pub mod Serving

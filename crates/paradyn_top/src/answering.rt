@@ -7,6 +7,7 @@ ghost use Rattle.paradyn_top.specs.Due.{IsDue, IsDueFor};
 ghost use Rattle.paradyn_top.specs.Sights.{seen, Looks};
 ghost use Rattle.refusals.specs.Refusals.{Comes};
 
+use crate::blocks::blocks;
 use crate::listing::{list_points, write_elf};
 use crate::live::live;
 use crate::planning::show_plan;
@@ -41,6 +42,7 @@ fn answer_request<F: Files>(
         Request::Asm(text) => write_elf(alloc, text, files),
         Request::Relog(log) => relog(alloc, log, files),
         Request::Stress(request) => stress(alloc, *request),
+        Request::Blocks(request) => blocks(alloc, request, files),
     }
 }
 

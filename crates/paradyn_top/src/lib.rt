@@ -2,6 +2,7 @@
 #![tactic(auto)]
 
 mod answering;
+mod blocks;
 mod configuration;
 mod delivery;
 mod files;

@@ -101,8 +101,8 @@ pub fn serve<F: Files, K: Sink, L: Sink>(
 ///
 /// - 0: the output gained what was asked for: the report of the program's whole run in the order of a seed, of one that workers share
 ///   or of one along the quanta of a log, the plan of a metric, the program's points, the ELF file of an assembly text, a log as it is
-///   written now, or the line that sums up the run of a program that was made from a seed. The log of a run gained its quanta where
-///   one was asked for.
+///   written now, the line that sums up the run of a program that was made from a seed, or how often each basic block of a program was
+///   executed. The log of a run gained its quanta where one was asked for.
 /// - 2: the words are no command, and the output gained the line of that fault.
 /// - 3: a file could not be read, and the output gained a line with its name.
 /// - 4: the program is faulty, and the output gained the line of that fault.
@@ -112,6 +112,7 @@ pub fn serve<F: Files, K: Sink, L: Sink>(
 /// - 7: a sink failed; each sink has a prefix of what was due, and the log came first.
 /// - 8: memory was wanting; both sinks are as before.
 /// - 9: the log is faulty, or its quanta aren't those of a whole run, and the output gained the line of that fault.
+/// - 11: more basic blocks have a first word that can be moved than a hart has slots, and the output gained the line of that fault.
 pub fn paradyn<R: Threads + Wait + Sync, F: Files, K: Sink, L: Sink, G: Gate + Sync>(
     rt: &R,
     alloc: Global,

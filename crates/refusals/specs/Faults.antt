@@ -7,7 +7,7 @@ use Rattle.elf_form.specs.declared.fault.ElfFault.TheVariants as elf
 use Rattle.rv_asm.specs.declared.fault.AsmFault.{AsmFault}
 use Rattle.rv_asm.specs.declared.fault.AsmFault.TheVariants as asm
 use Rattle.refusals.specs.declared.fault.Fault.{Fault}
-use Rattle.refusals.specs.declared.fault.Fault.TheVariants.{Usage, FileFault, BadProgram, BadConf, BadPick, BadLog}
+use Rattle.refusals.specs.declared.fault.Fault.TheVariants.{Usage, FileFault, BadProgram, BadConf, BadPick, BadLog, TooManyBlocks}
 use Rattle.refusals.specs.Kinds.{kind_text}
 use Rattle.refusals.specs.declared.configuration.ConfFault.{ConfFault}
 use Rattle.refusals.specs.declared.log.LogCause.{LogCause}
@@ -79,6 +79,7 @@ fault_line (BadProgram fault) = codes "paradyn: bad program: " ++ program_text f
 fault_line (BadConf fault) = codes "paradyn: bad configuration: " ++ conf_text fault ++ codes "\n"
 fault_line (BadPick metric focus cause) = codes "paradyn: cannot measure " ++ (pick_text metric focus ++ (codes ": " ++ (cause_text cause ++ codes "\n")))
 fault_line (BadLog place cause) = codes "paradyn: bad log at " ++ decimal place ++ codes ": " ++ log_text cause ++ codes "\n"
+fault_line (TooManyBlocks count) = codes "paradyn: too many blocks " ++ decimal count ++ codes "\n"
 
 abbrev pub fault_status : Fault → ℕ
 fault_status Usage = 2
@@ -87,3 +88,4 @@ fault_status (BadProgram fault) = 4
 fault_status (BadConf fault) = 5
 fault_status (BadPick metric focus cause) = 6
 fault_status (BadLog place cause) = 9
+fault_status (TooManyBlocks count) = 11

@@ -21,6 +21,8 @@ pub enum Fault {
     BadPick(Text, Text, PickCause),
     /// The log is faulty at this place, in bytes from its front.
     BadLog(u64, LogCause),
+    /// So many basic blocks have a first word that can be moved, and a hart has not as many slots.
+    TooManyBlocks(u32),
 }
 
 impl Fault {
@@ -35,6 +37,7 @@ impl Fault {
             Fault::BadConf(_) => 5,
             Fault::BadPick(_, _, _) => 6,
             Fault::BadLog(_, _) => 9,
+            Fault::TooManyBlocks(_) => 11,
         }
     }
 }

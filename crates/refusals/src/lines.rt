@@ -74,6 +74,15 @@ fn faulty_log(alloc: Global, place: u64, cause: LogCause) -> Result<Vec<u8>, NoM
     Ok(line)
 }
 
+fn too_many_blocks(alloc: Global, count: u32) -> Result<Vec<u8>, NoMemory>
+    ensures { IfOk result (λ text. text.items ≡ fault_line (Fault.TooManyBlocks count)) }
+{
+    let mut line = Vec::new(alloc);
+    add_number(alloc, &mut line, b"paradyn: too many blocks ", count as u128)?;
+    line.extend_from_slice(b"\n")?;
+    Ok(line)
+}
+
 /// The line of a fault.
 pub fn faults_text(alloc: Global, fault: &Fault) -> Result<Vec<u8>, NoMemory>
     ensures { IfOk result (λ text. text.items ≡ fault_line fault.now) }
@@ -85,6 +94,7 @@ pub fn faults_text(alloc: Global, fault: &Fault) -> Result<Vec<u8>, NoMemory>
         Fault::BadConf(fault) => Ok(bad_configuration(alloc, *fault)?),
         Fault::BadPick(metric, focus, cause) => Ok(bad_pick(alloc, metric, focus, *cause)?),
         Fault::BadLog(place, cause) => Ok(faulty_log(alloc, *place, *cause)?),
+        Fault::TooManyBlocks(count) => Ok(too_many_blocks(alloc, *count)?),
     }
 }
 

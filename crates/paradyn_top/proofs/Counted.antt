@@ -1,0 +1,68 @@
+-- What is counted of a program's blocks is one thing.
+use Rattle.std.proofs.Common.{◌≡◌, ℕ, zero, suc, ◌+◌, List, Ok, Err, Result, length, map, refl, sym, ap, ◌∙◌, arith}
+use Rattle.std.proofs.lemmas.List.{length-map}
+use Rattle.block_count.specs.Counted.{IsCounted, stop_of, passes_of}
+use Rattle.block_count.specs.Course.{Pace, block_events}
+use Rattle.block_count.specs.Heads.{heads_of}
+use Rattle.block_count.specs.Spots.{spots_of}
+use Rattle.block_count.specs.declared.counts.Counts.{Counts}
+use Rattle.block_count.specs.declared.counts.HartStop.{HartStop}
+use Rattle.block_report.specs.Texts.{blocks_text}
+use Rattle.code_points.specs.Procedures.{procedures_of}
+use Rattle.command_words.specs.Requests.{BlocksRequest}
+use Rattle.machine.specs.Cores.{start_core}
+use Rattle.machine.specs.Replays.{owns}
+use Rattle.pn_types.specs.declared.code.Proc.{Proc}
+use Rattle.pn_types.specs.declared.image.Image.{Image}
+use Rattle.refusals.proofs.Steps.{IsOne}
+use Rattle.refusals.specs.declared.fault.Fault.{Fault}
+use Rattle.refusals.specs.declared.fault.Fault.TheVariants.{FileFault}
+use Rattle.rv_exec.proofs.Runs.{length-run_from}
+use Rattle.rv_exec.specs.Run.{run, trace}
+use Rattle.rv_exec.specs.Start.{harts_from, start}
+use Rattle.rv_mem.specs.Start.{program_of}
+use Rattle.paradyn_top.specs.Answers.{output}
+use Rattle.paradyn_top.specs.Blocks.{AreCounted, pace_of}
+use Rattle.paradyn_top.specs.declared.texts.Texts.{Texts}
+
+-- ---- there are as many numbers of ticks as harts
+
+length-harts_from : (more h : ℕ) (image : Image) (n : ℕ) → length (harts_from more h image n) ≡ more
+length-harts_from zero h image n = refl
+length-harts_from (suc more) h image n = omega (arith, length-harts_from more (h + 1) image n)
+
+module _ (image : Image) (procs : List Proc) (budget : ℕ) (p : Pace) where
+  pub harts_counted : (r : Counts) → IsCounted image procs budget p r → length r.ticks ≡ p.harts
+  harts_counted r is =
+      ap (λ (ts : List ℕ). length ts) is.ticks ∙ length-map (run image p.harts is.turns).harts (λ x. x.ticks)
+      ∙ length-run_from (program_of image) is.turns (start image p.harts) ∙ length-harts_from p.harts 0 image p.harts
+
+  -- ---- the run of which they are is one
+
+  abbrev counts_along : List ℕ → Counts
+  counts_along turns = record {
+    ticks = map (λ x. x.ticks) (run image p.harts turns).harts;
+    stops = map (stop_of budget) (run image p.harts turns).harts;
+    counts = map (passes_of (trace image p.harts turns)) (spots_of image procs);
+  }
+
+  along : (r : Counts) (is : IsCounted image procs budget p r) → r ≡ counts_along is.turns
+  along r is = let a = is.ticks in let b = is.stops in let c = is.counts in cc
+
+  counts_once : (r s : Counts) → IsCounted image procs budget p r → IsCounted image procs budget p s → r ≡ s
+  counts_once r s is it = along r is ∙ ap counts_along (is.owned ∙ sym it.owned) ∙ sym (along s it)
+
+-- ---- what is due
+
+pub counted_once : (r : BlocksRequest) (image : Image) → IsOne (AreCounted r image)
+counted_once r image (Ok a) (Ok b) (counts, is, e) (others, it, f) =
+    let same = counts_once image (procedures_of image) r.budget (pace_of r) counts others is it in
+    ap (λ (t : Texts). Ok t) (e ∙ ap (λ (c : Counts). output (blocks_text (heads_of image (procedures_of image)) c)) same ∙ sym f)
+counted_once r image (Ok a) (Err f) (counts, is, e) (n, many, why) = absurd (omega (arith, is.few, many.0, many.1))
+counted_once r image (Err e) (Ok b) (n, many, why) (counts, is, f) = absurd (omega (arith, is.few, many.0, many.1))
+counted_once r image (Err e) (Err f) (n, many, why) (m, more, because) =
+    let same : n ≡ m = sym many.0 ∙ more.0 in cc
+
+-- no file is at fault
+pub counted_spared : (r : BlocksRequest) (image : Image) (name : List ℕ) → AreCounted r image (Err (FileFault name)) → ⊥
+counted_spared r image name (n, many, why) = absurd cc
