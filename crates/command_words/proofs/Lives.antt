@@ -57,13 +57,15 @@ module _ (word : Text) (words : List Text) (other : bytes_eq (codes "live") word
   named Relog e = by Relog (λ given. tt)
   named Blocks e = by Blocks blocks_are_not
 
+  either : (name : CommandName) (rest : Option CommandName) (b : Bool) → bytes_eq (form_of name).word word ≡ b → AskNotLive (option_and_then asked_as rest)
+      → AskNotLive (option_and_then asked_as (cond b (Some name) rest))
+  either name rest true e h = named name e
+  either name rest false e h = h
+
   among : (names : List CommandName) → AskNotLive (option_and_then asked_as (find (λ name. bytes_eq (form_of name).word word) names))
   among [] = tt
-  among (name ∷ names) = go (bytes_eq (form_of name).word word) refl
-    where
-      go : (b : Bool) → bytes_eq (form_of name).word word ≡ b → AskNotLive (option_and_then asked_as (cond b (Some name) (find (λ name. bytes_eq (form_of name).word word) names)))
-      go true e = named name e
-      go false e = among names
+  among (name ∷ names) =
+      either name (find (λ name. bytes_eq (form_of name).word word) names) (bytes_eq (form_of name).word word) refl (among names)
 
 pub not_live : (words : List Text) → begins_live words ≡ false → AskNotLive (request_of words)
 not_live [] e = tt
