@@ -18,6 +18,11 @@ check_search() {
   shift
   "$paradyn" run "$name.elf" search.conf "$@" >"$made" && cmp "$made" "${name}_search.report" || failed=1
 }
+check_blocks() {
+  name=$1
+  shift
+  "$paradyn" blocks "$name.elf" "$@" >"$made" && cmp "$made" "$name.blocks" || failed=1
+}
 check_plan() {
   name=$1
   shift
@@ -28,6 +33,7 @@ check tickets --harts 4 --width 10000
 check rounds --harts 4 --quantum 25 --width 5000
 check_search tickets --harts 4 --width 5000
 check_search rounds --harts 4 --quantum 25 --width 1000
+check_blocks crc
 check_plan tickets sync_wait /SyncObject/lock_tickets
 [ "$failed" = 0 ] && echo "all examples print what they should"
 exit "$failed"
