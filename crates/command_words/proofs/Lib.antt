@@ -1,5 +1,5 @@
 pub mod SeenNames
-pub mod Lives
+pub mod Unthreaded
 pub mod WordKinds
 pub mod Rows
 pub mod Settling

@@ -5,13 +5,15 @@ use Rattle.clap.specs.declared.parser.matches.ArgMatches.{ArgMatches}
 use Rattle.command_words.specs.Grammar.{Text, Form, Given, Taken, given_in, taken_of}
 use Rattle.command_words.specs.Requests as request
 use Rattle.command_words.specs.declared.requests.Request.{Request}
-use Rattle.command_words.specs.declared.requests.Request.TheVariants.{Run, Live, Replay, Plan, Asm, Points, Relog, Stress, Blocks}
+use Rattle.command_words.specs.declared.requests.Request.TheVariants.{Run, Live, Replay, Plan, Asm, Points, Relog, Stress, Blocks, Visi, Advise, Direct}
 use Rattle.command_words.specs.declared.requests.RunRequest.{RunRequest}
 use Rattle.command_words.specs.declared.requests.LiveRequest.{LiveRequest}
 use Rattle.command_words.specs.declared.requests.ReplayRequest.{ReplayRequest}
 use Rattle.command_words.specs.declared.requests.PlanRequest.{PlanRequest}
 use Rattle.command_words.specs.declared.requests.StressRequest.{StressRequest}
 use Rattle.command_words.specs.declared.requests.BlocksRequest.{BlocksRequest}
+use Rattle.command_words.specs.declared.requests.VisiRequest.{VisiRequest}
+use Rattle.command_words.specs.declared.requests.DirectRequest.{DirectRequest}
 
 abbrev pub asked_run : RunRequest → request.RunRequest
 asked_run r = record { program = r.program.now; conf = r.conf.now; settings = r.settings; seed = r.seed; quantum = r.quantum; log = option_map (λ s. s.now) r.log }
@@ -31,6 +33,12 @@ asked_stress r = record { procs = r.procs; seed = r.seed }
 abbrev pub asked_blocks : BlocksRequest → request.BlocksRequest
 asked_blocks r = record { program = r.program.now; harts = r.harts; budget = r.budget; seed = r.seed; quantum = r.quantum }
 
+abbrev pub asked_visi : VisiRequest → request.VisiRequest
+asked_visi r = record { program = r.program.now; conf = r.conf.now; settings = r.settings; seed = r.seed; quantum = r.quantum; views = r.views }
+
+abbrev pub asked_direct : DirectRequest → request.DirectRequest
+asked_direct r = record { program = r.program.now; conf = r.conf.now; directives = r.directives.now; settings = r.settings; seed = r.seed; quantum = r.quantum }
+
 abbrev pub asked : Request → request.Request
 asked (Run r) = request.run (asked_run r)
 asked (Live r) = request.live (asked_live r)
@@ -41,6 +49,9 @@ asked (Points program) = request.list_points program.now
 asked (Relog log) = request.relog log.now
 asked (Stress r) = request.stress (asked_stress r)
 asked (Blocks r) = request.count_blocks (asked_blocks r)
+asked (Visi r) = request.visi (asked_visi r)
+asked (Advise report) = request.advise report.now
+asked (Direct r) = request.direct (asked_direct r)
 
 -- the values that clap's matches hold
 abbrev pub given_by : ArgMatches → Given

@@ -1,5 +1,5 @@
 -- What the words ask for.
-use Rattle.std.specs.Prelude.{◌≤◌, ◌<◌, ◌^◌, ℕ, if◌then◌else◌, Bool, false, List, [], ◌∷◌, Option, Some, None, codes, option_map, unwrap_or}
+use Rattle.std.specs.Prelude.{◌≤◌, ◌<◌, ◌^◌, ◌||◌, ℕ, if◌then◌else◌, Bool, false, List, [], ◌∷◌, Option, Some, None, codes, option_map, unwrap_or}
 use Rattle.std.specs.Option.{option_and_then, option_map_or}
 use Rattle.std.specs.Str.{bytes_eq}
 use Rattle.pn_types.specs.Settings.{AreInRange}
@@ -9,9 +9,10 @@ use Rattle.pn_types.specs.declared.settings.Start.{Start}
 use Rattle.pn_types.specs.declared.settings.Start.TheVariants.{Cold, Warm}
 use Rattle.command_words.specs.Grammar.{Text, Given, given_in, taken_of}
 use Rattle.command_words.specs.Commands.{form_of, command_named}
-use Rattle.command_words.specs.Numbers.{number_between, number_given, harts_option, workers_option, seed_option, quantum_option, budget_option, bins_option, width_option, instruments_option}
+use Rattle.command_words.specs.Numbers.{number_between, number_given, harts_option, workers_option, seed_option, quantum_option, budget_option, bins_option, width_option, instruments_option, views_option}
+use Rattle.command_words.specs.declared.numbers.TheConstants.{MAX_VIEWS}
 use Rattle.command_words.specs.declared.commands.CommandName.{CommandName}
-use Rattle.command_words.specs.declared.commands.CommandName.TheVariants.{Run, Live, Replay, Asm, Points, Plan, Stress, Relog, Blocks}
+use Rattle.command_words.specs.declared.commands.CommandName.TheVariants.{Run, Live, Replay, Asm, Points, Plan, Stress, Relog, Blocks, Visi, Advise, Direct}
 
 -- ---- values
 
@@ -87,6 +88,25 @@ pub record BlocksRequest : Type 0 where
   pub seed : ℕ
   pub quantum : ℕ
 
+pub record VisiRequest : Type 0 where
+  pub program : Text
+  pub conf : Text
+  pub settings : Settings
+  -- the seed of the order of quanta
+  pub seed : ℕ
+  pub quantum : ℕ
+  -- how many threads view the run
+  pub views : ℕ
+
+pub record DirectRequest : Type 0 where
+  pub program : Text
+  pub conf : Text
+  pub directives : Text
+  pub settings : Settings
+  -- the seed of the order of quanta
+  pub seed : ℕ
+  pub quantum : ℕ
+
 pub data Request : Type 0 where
   run : RunRequest → Request
   live : LiveRequest → Request
@@ -99,6 +119,10 @@ pub data Request : Type 0 where
   stress : StressRequest → Request
   -- to count how often each basic block is executed
   count_blocks : BlocksRequest → Request
+  visi : VisiRequest → Request
+  -- to tell what the report of this name advises
+  advise : Text → Request
+  direct : DirectRequest → Request
 
 abbrev pub run_request : Given → Option Request
 run_request given =
@@ -133,6 +157,23 @@ blocks_request given =
     (number_given given budget_option))
     (number_given given harts_option)
 
+abbrev pub visi_request : Given → Option Request
+visi_request given =
+    option_and_then (λ settings. option_and_then (λ seed. option_and_then (λ quantum. option_map (λ views.
+    visi (record { program = place_in given (codes "program"); conf = place_in given (codes "conf"); settings = settings; seed = seed; quantum = quantum; views = views }))
+    (number_given given views_option))
+    (number_given given quantum_option))
+    (number_given given seed_option))
+    (settings_of given)
+
+abbrev pub direct_request : Given → Option Request
+direct_request given =
+    option_and_then (λ settings. option_and_then (λ seed. option_map (λ quantum.
+    direct (record { program = place_in given (codes "program"); conf = place_in given (codes "conf"); directives = place_in given (codes "directives"); settings = settings; seed = seed; quantum = quantum }))
+    (number_given given quantum_option))
+    (number_given given seed_option))
+    (settings_of given)
+
 abbrev pub request_from : CommandName → Given → Option Request
 request_from Run given = run_request given
 request_from Live given = live_request given
@@ -143,28 +184,34 @@ request_from Plan given = plan_request given
 request_from Stress given = stress_request given
 request_from Relog given = Some (relog (place_in given (codes "record")))
 request_from Blocks given = blocks_request given
+request_from Visi given = visi_request given
+request_from Advise given = Some (advise (place_in given (codes "report")))
+request_from Direct given = direct_request given
 
 -- What the words ask for; none where they are no command.
 abbrev pub request_of : List Text → Option Request
 request_of [] = None
 request_of (word ∷ words) = option_and_then (λ name. option_and_then (λ taken. request_from name (given_in taken)) (taken_of (form_of name) words)) (command_named word)
 
--- The words begin with `live`.
-abbrev pub begins_live : List Text → Bool
-begins_live [] = false
-begins_live (word ∷ words) = bytes_eq (codes "live") word
+-- The words begin with that of a command that begins threads.
+abbrev pub begins_threaded : List Text → Bool
+begins_threaded [] = false
+begins_threaded (word ∷ words) = bytes_eq (codes "live") word || bytes_eq (codes "visi") word
 
--- the request is for another command than `live`
-abbrev pub IsNotLive : Request → Type 0
-IsNotLive (run r) = Unit {0}
-IsNotLive (live r) = ⊥
-IsNotLive (replay r) = Unit {0}
-IsNotLive (make_plan p) = Unit {0}
-IsNotLive (assemble text) = Unit {0}
-IsNotLive (list_points program) = Unit {0}
-IsNotLive (relog log) = Unit {0}
-IsNotLive (stress r) = Unit {0}
-IsNotLive (count_blocks r) = Unit {0}
+-- the request is for a command that begins no threads
+abbrev pub IsUnthreaded : Request → Type 0
+IsUnthreaded (run r) = Unit {0}
+IsUnthreaded (live r) = ⊥
+IsUnthreaded (replay r) = Unit {0}
+IsUnthreaded (make_plan p) = Unit {0}
+IsUnthreaded (assemble text) = Unit {0}
+IsUnthreaded (list_points program) = Unit {0}
+IsUnthreaded (relog log) = Unit {0}
+IsUnthreaded (stress r) = Unit {0}
+IsUnthreaded (count_blocks r) = Unit {0}
+IsUnthreaded (visi r) = ⊥
+IsUnthreaded (advise report) = Unit {0}
+IsUnthreaded (direct r) = Unit {0}
 
 -- the numbers of a request are in their ranges
 abbrev pub HasRanges : Request → Type 0
@@ -177,3 +224,6 @@ HasRanges (list_points program) = Unit {0}
 HasRanges (relog log) = Unit {0}
 HasRanges (stress r) = ((1 ≤ r.procs) × (r.procs ≤ 200)) × (r.seed < 2 ^ 32)
 HasRanges (count_blocks r) = ((1 ≤ r.harts) × (r.harts ≤ MAX_HARTS)) × ((1 ≤ r.budget) × (r.budget ≤ MAX_BUDGET)) × ((r.seed < 2 ^ 32) × ((1 ≤ r.quantum) × (r.quantum ≤ MAX_QUANTUM)))
+HasRanges (visi r) = AreInRange r.settings × ((1 ≤ r.quantum) × (r.quantum ≤ MAX_QUANTUM)) × ((1 ≤ r.views) × (r.views ≤ MAX_VIEWS))
+HasRanges (advise report) = Unit {0}
+HasRanges (direct r) = AreInRange r.settings × (1 ≤ r.quantum) × (r.quantum ≤ MAX_QUANTUM)

@@ -17,10 +17,13 @@ pub enum CommandName {
     Stress,
     Relog,
     Blocks,
+    Visi,
+    Advise,
+    Direct,
 }
 
 /// All commands.
-const COMMANDS: [CommandName; 9] = [
+const COMMANDS: [CommandName; 12] = [
     CommandName::Run,
     CommandName::Live,
     CommandName::Replay,
@@ -30,6 +33,9 @@ const COMMANDS: [CommandName; 9] = [
     CommandName::Stress,
     CommandName::Relog,
     CommandName::Blocks,
+    CommandName::Visi,
+    CommandName::Advise,
+    CommandName::Direct,
 ];
 
 const RUN_OPTIONS: [&str; 9] = [
@@ -58,6 +64,29 @@ const LIVE_OPTIONS: [&str; 9] = [
 
 const BLOCKS_OPTIONS: [&str; 4] = ["harts", "seed", "quantum", "budget"];
 
+const VISI_OPTIONS: [&str; 9] = [
+    "harts",
+    "seed",
+    "quantum",
+    "budget",
+    "bins",
+    "width",
+    "instruments",
+    "start",
+    "views",
+];
+
+const DIRECT_OPTIONS: [&str; 8] = [
+    "harts",
+    "seed",
+    "quantum",
+    "budget",
+    "bins",
+    "width",
+    "instruments",
+    "start",
+];
+
 /// The first of some commands whose word this is.
 fn first_named(commands: &[CommandName], word: &str) -> Option<CommandName>
     ensures { result ≡ find (λ name. bytes_eq (form_of name).word word.now) commands.now }
@@ -82,6 +111,11 @@ impl CommandName {
             CommandName::Stress => Form::new("stress", &["procs", "seed"], &[]),
             CommandName::Relog => Form::new("relog", &["record"], &[]),
             CommandName::Blocks => Form::new("blocks", &["program"], &BLOCKS_OPTIONS),
+            CommandName::Visi => Form::new("visi", &["program", "conf"], &VISI_OPTIONS),
+            CommandName::Advise => Form::new("advise", &["report"], &[]),
+            CommandName::Direct => {
+                Form::new("direct", &["program", "conf", "directives"], &DIRECT_OPTIONS)
+            }
         }
     }
 

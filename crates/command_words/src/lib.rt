@@ -17,7 +17,8 @@ mod word_kind;
 pub use commands::CommandName;
 pub use logging::log_name;
 pub use matching::WordFault;
+pub use numbers::MAX_VIEWS;
 pub use requests::{
-    BlocksRequest, LiveRequest, PlanRequest, ReplayRequest, Request, RunRequest, StressRequest,
-    begin_live, read_request,
+    BlocksRequest, DirectRequest, LiveRequest, PlanRequest, ReplayRequest, Request, RunRequest,
+    StressRequest, VisiRequest, begin_threaded, read_request,
 };

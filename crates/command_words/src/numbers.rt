@@ -6,6 +6,9 @@ use pn_types::{
     MAX_BINS, MAX_BUDGET, MAX_HARTS, MAX_INSTRUMENTS, MAX_QUANTUM, MAX_WIDTH, MAX_WORKERS, MIN_BINS,
 };
 
+/// The most views of a run.
+pub const MAX_VIEWS: u32 = 8;
+
 /// An option whose value is a number.
 #[derive(Clone, Copy, Drop)]
 pub struct NumberOption<'n> {
@@ -68,6 +71,14 @@ pub const WIDTH: NumberOption<'static> = NumberOption {
     least: 1,
     most: MAX_WIDTH,
     default: 1_000,
+};
+
+/// The threads that view a run.
+pub const VIEWS: NumberOption<'static> = NumberOption {
+    name: "views",
+    least: 1,
+    most: MAX_VIEWS as u64,
+    default: 2,
 };
 
 pub const INSTRUMENTS: NumberOption<'static> = NumberOption {

@@ -1,7 +1,7 @@
 ghost use Rattle.std.specs.Prelude.{◌≡◌, ◌≤◌, MatchResult, IfOk, IfSome, Some, None, map, option_map, string_bytes};
 ghost use Rattle.command_words.specs.Asked.{asked};
 ghost use Rattle.command_words.specs.Numbers.{number_between, number_given};
-ghost use Rattle.command_words.specs.Requests.{place_in, settings_of, start_given, start_named, run_request, live_request, plan_request, stress_request, blocks_request, request_from, request_of, begins_live, HasRanges};
+ghost use Rattle.command_words.specs.Requests.{place_in, settings_of, start_given, start_named, run_request, live_request, plan_request, stress_request, blocks_request, visi_request, direct_request, request_from, request_of, begins_threaded, HasRanges};
 ghost use Rattle.command_words.specs.Walked.{option_seen};
 ghost use Rattle.pn_types.specs.Settings.{AreInRange};
 
@@ -9,7 +9,7 @@ use crate::commands::CommandName;
 use crate::given::Given;
 use crate::matching::{WordFault, matches};
 use crate::numbers::{
-    BINS, BUDGET, HARTS, INSTRUMENTS, NumberOption, QUANTUM, SEED, WIDTH, WORKERS,
+    BINS, BUDGET, HARTS, INSTRUMENTS, NumberOption, QUANTUM, SEED, VIEWS, WIDTH, WORKERS,
 };
 use pn_text::number;
 use pn_types::{Settings, Start};
@@ -99,6 +99,40 @@ pub struct BlocksRequest<'a> {
     pub quantum: u32,
 }
 
+/// What `visi` is asked for.
+#[derive(Clone, Copy, Drop)]
+pub struct VisiRequest<'a> {
+    /// The name of the program's file.
+    pub program: &'a str,
+    /// The name of the configuration's file.
+    pub conf: &'a str,
+    /// The numbers of the run.
+    pub settings: Settings,
+    /// The seed of the order of quanta; 0 goes round.
+    pub seed: u32,
+    /// The most turns of a quantum, from 1 to [`pn_types::MAX_QUANTUM`].
+    pub quantum: u32,
+    /// How many threads view the run, from 1 to [`MAX_VIEWS`](crate::MAX_VIEWS).
+    pub views: u32,
+}
+
+/// What `direct` is asked for.
+#[derive(Clone, Copy, Drop)]
+pub struct DirectRequest<'a> {
+    /// The name of the program's file.
+    pub program: &'a str,
+    /// The name of the configuration's file.
+    pub conf: &'a str,
+    /// The name of the directives' file.
+    pub directives: &'a str,
+    /// The numbers of the run.
+    pub settings: Settings,
+    /// The seed of the order of quanta; 0 goes round.
+    pub seed: u32,
+    /// The most turns of a quantum, from 1 to [`pn_types::MAX_QUANTUM`].
+    pub quantum: u32,
+}
+
 /// What the words ask for.
 #[derive(Clone, Copy, Drop)]
 pub enum Request<'a> {
@@ -120,6 +154,12 @@ pub enum Request<'a> {
     Stress(StressRequest),
     /// To count how often each basic block of a program is executed.
     Blocks(BlocksRequest<'a>),
+    /// To run a program before views.
+    Visi(VisiRequest<'a>),
+    /// To tell what the report of this name advises.
+    Advise(&'a str),
+    /// To run a program under search directives.
+    Direct(DirectRequest<'a>),
 }
 
 /// A positional word.
@@ -270,6 +310,41 @@ fn blocks_request<'a, G: Given<'a>>(given: &G) -> Option<Request<'a>>
     }))
 }
 
+fn visi_request<'a, G: Given<'a>>(given: &G) -> Option<Request<'a>>
+    ensures request { option_map asked result ≡ visi_request (G.given given.now) }
+    ensures ranges { IfSome result (λ request. HasRanges (asked request)) }
+{
+    let settings = settings(given)?;
+    let seed = number_given(given, SEED)?;
+    let quantum = number_given(given, QUANTUM)?;
+    let views = number_given(given, VIEWS)?;
+    Some(Request::Visi(VisiRequest {
+        program: place(given, "program"),
+        conf: place(given, "conf"),
+        settings,
+        seed: seed as u32,
+        quantum: quantum as u32,
+        views: views as u32,
+    }))
+}
+
+fn direct_request<'a, G: Given<'a>>(given: &G) -> Option<Request<'a>>
+    ensures request { option_map asked result ≡ direct_request (G.given given.now) }
+    ensures ranges { IfSome result (λ request. HasRanges (asked request)) }
+{
+    let settings = settings(given)?;
+    let seed = number_given(given, SEED)?;
+    let quantum = number_given(given, QUANTUM)?;
+    Some(Request::Direct(DirectRequest {
+        program: place(given, "program"),
+        conf: place(given, "conf"),
+        directives: place(given, "directives"),
+        settings,
+        seed: seed as u32,
+        quantum: quantum as u32,
+    }))
+}
+
 pub fn request_from<'a, G: Given<'a>>(name: CommandName, given: &G) -> Option<Request<'a>>
     ensures request { option_map asked result ≡ request_from name (G.given given.now) }
     ensures ranges { IfSome result (λ request. HasRanges (asked request)) }
@@ -288,15 +363,18 @@ pub fn request_from<'a, G: Given<'a>>(name: CommandName, given: &G) -> Option<Re
         CommandName::Stress => stress_request(given),
         CommandName::Relog => Some(Request::Relog(place(given, "record"))),
         CommandName::Blocks => blocks_request(given),
+        CommandName::Visi => visi_request(given),
+        CommandName::Advise => Some(Request::Advise(place(given, "report"))),
+        CommandName::Direct => direct_request(given),
     }
 }
 
-/// The words begin with `live`.
-pub fn begin_live(words: &[String]) -> bool
-    ensures { result ≡ begins_live (map string_bytes words.now) }
+/// The words begin with that of a command that begins threads: `live` or `visi`.
+pub fn begin_threaded(words: &[String]) -> bool
+    ensures { result ≡ begins_threaded (map string_bytes words.now) }
 {
     match words.first() {
-        Some(first) => "live" == first.as_str(),
+        Some(first) => "live" == first.as_str() || "visi" == first.as_str(),
         None => false,
     }
 }
