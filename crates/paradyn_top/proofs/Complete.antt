@@ -2,14 +2,14 @@
 use Rattle.std.proofs.Common.{◌≡◌, ℕ, ◌+◌, ◌-◌, Bool, true, false, List, Option, Result, Ok, Err, inl, inr, ◌⊎◌, refl, ap, ◌∙◌, arith}
 use Rattle.std.proofs.Math.Nat.{min-eq_left}
 use Rattle.std.proofs.lemmas.Bool.{cases_eq}
-use Rattle.command_words.specs.Requests.{begins_live}
+use Rattle.command_words.specs.Requests.{request_of}
 use Rattle.outside.specs.Causes.{count_up}
 use Rattle.outside.specs.Outside.{Holding}
 use Rattle.refusals.specs.declared.fault.Fault.{Fault}
-use Rattle.refusals.specs.declared.fault.Fault.TheVariants.{Usage, FileFault, BadProgram, BadConf, BadPick, BadLog, TooManyBlocks}
+use Rattle.refusals.specs.declared.fault.Fault.TheVariants.{Usage, FileFault, BadProgram, BadConf, BadPick, BadLog, TooManyBlocks, BadDirectives, BadReport}
 use Rattle.paradyn_top.specs.Answers.{status_of, texts_of}
 use Rattle.paradyn_top.specs.Delivery.{IsTorn}
-use Rattle.paradyn_top.specs.Serving.{AreGained, AreOne, AreTold, AreTorn, IsOwed, IsSpared, IsUntold, OneOwed}
+use Rattle.paradyn_top.specs.Serving.{AreGained, AreOne, AreTold, AreTorn, IsOwed, IsSpared, IsUntold, OneOwed, is_live}
 use Rattle.paradyn_top.specs.declared.texts.Texts.{Texts}
 
 -- a sink that was torn isn't spared
@@ -51,7 +51,7 @@ module _ {F K L : Type 0} (holds : F → List ℕ → Holding) (faults : F → L
         by (inr other) (inl eight) = inr eight
         by (inr other) (inr sound) =
             let given = a.answered other sound in
-            inl (given.2 ∙ status_zero (begins_live words) due given.0 (one old new words (Ok due) given.0 told owed given.1))
+            inl (given.2 ∙ status_zero (is_live (request_of words)) due given.0 (one old new words (Ok due) given.0 told owed given.1))
 
     -- an answer for which a count of the files rose names a file as unread
     status_three : (name : List ℕ) → (faults new name ≡ faults old name → ⊥) → (answer : Result Texts Fault) → Owed answer → status_of answer ≡ 3
@@ -63,6 +63,8 @@ module _ {F K L : Type 0} (holds : F → List ℕ → Holding) (faults : F → L
     status_three name rose (Err (BadPick metric focus why)) owed = absurd (rose (owed.counts name))
     status_three name rose (Err (BadLog place why)) owed = absurd (rose (owed.counts name))
     status_three name rose (Err (TooManyBlocks count)) owed = absurd (rose (owed.counts name))
+    status_three name rose (Err (BadDirectives fault)) owed = absurd (rose (owed.counts name))
+    status_three name rose (Err (BadReport place)) owed = absurd (rose (owed.counts name))
 
     pub unread : (name : List ℕ) → (faults new name ≡ faults old name → ⊥) → (result ≡ 3) ⊎ ((result ≡ 7) ⊎ (result ≡ 8))
     unread name rose = by (cases_eq result 7) (cases_eq result 8)

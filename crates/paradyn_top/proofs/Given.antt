@@ -29,7 +29,7 @@ pub record IsKnown (image : Image) (conf : Conf) (found : Found) : Type 0 where
   pub low : HasLowObjects found.tree
   pub points : length found.points < 2 ^ 32
   pub ascending : IsStrictlyIncreasing (map (λ p. p.at) found.points)
-  pub items : length conf.items ≤ 1048576
+  pub items : length conf.items ≤ 4194304
 
 module _ (image : Image) (harts : ℕ) (conf : Conf) (found : Found) (are : AreFound image harts conf found) where
   tree_harts : found.tree.harts ≡ harts

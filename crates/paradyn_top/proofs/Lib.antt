@@ -1,5 +1,6 @@
 mod Each
 mod FewItems
+mod Directed
 mod SightSteps
 mod PlanLemmas
 mod Inside

@@ -6,7 +6,6 @@ use Rattle.mdl_ast.specs.declared.items.Item.{Item}
 use Rattle.mdl_ast.specs.declared.items.Item.TheVariants.{Include, Sync, Metric, Constraint, Hypothesis, Search, Phase, Wish}
 use Rattle.mdl_ast.specs.declared.items.SearchDecl.{SearchDecl}
 use Rattle.mdl_ast.specs.declared.items.Wish.{Wish as TheWish}
-use Rattle.mdl_check.proofs.Few.{spots_counted}
 use Rattle.mdl_check.specs.Checking.{IsAnswer, fault_from, spot_of, metric_of, hypothesis_of, phase_of, search_behind, search_in, wish_with, wish_of}
 use Rattle.mdl_check.specs.Names.{metric_number}
 use Rattle.mdl_check.specs.Rules.{fault_of, is_cyclic, is_search, parents_of}
@@ -18,7 +17,7 @@ use Rattle.mdl_parse.specs.Shipped.{shipped_conf}
 use Rattle.pn_types.specs.declared.focus.Focus.{Focus}
 use Rattle.resource_tree.specs.Resources.{Resources}
 use Rattle.session.specs.Given.{HasWindow}
-use Rattle.paradyn_top.proofs.FewItems.{shipped_few}
+use Rattle.paradyn_top.proofs.FewItems.{shipped_few, spots_counted}
 
 -- ---- how many
 
@@ -129,7 +128,7 @@ pub record IsNumbered (c : Checked) : Type 0 where
   pub hypotheses : length c.hypotheses < 2 ^ 32
   pub phases : length c.phases < 2 ^ 32
 
-pub numbered : (t : Resources) (items : List Item) (c : Checked) → IsAnswer t shipped_conf.items items (Ok c) → length items ≤ 1048576 → IsNumbered c
+pub numbered : (t : Resources) (items : List Item) (c : Checked) → IsAnswer t shipped_conf.items items (Ok c) → length items ≤ 4194304 → IsNumbered c
 numbered t items c (es, entries, none, is) few =
     let places = entries.places_are in
     let entries_few : length es < 2 ^ 32 =

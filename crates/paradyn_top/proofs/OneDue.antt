@@ -1,8 +1,10 @@
 -- What is due is unique where each file was seen as one thing.
 use Rattle.std.proofs.Common.{◌≡◌, ℕ, Bool, true, false, List, Option, Some, None, Result, Ok, Err, refl, sym, ap, ◌∙◌}
 use Rattle.std.specs.Prelude.{codes, is_some}
-use Rattle.command_words.specs.Requests.{Request, RunRequest, LiveRequest, ReplayRequest, PlanRequest, StressRequest, run, live, replay, make_plan, assemble, list_points, relog, stress, count_blocks, begins_live, request_of}
-use Rattle.command_words.proofs.Lives.{AskNotLive, not_live}
+use Rattle.command_words.specs.Requests.{Request, RunRequest, LiveRequest, ReplayRequest, PlanRequest, StressRequest, VisiRequest, DirectRequest, run, live, replay, make_plan, assemble, list_points, relog, stress, count_blocks, visi, advise, direct, request_of}
+use Rattle.advice.specs.Reading.{verdicts_of}
+use Rattle.directives.specs.Acts.{applied}
+use Rattle.directives.specs.Reading.{directives_of}
 use Rattle.elf_form.specs.declared.limits.TheConstants.{MAX_PROGRAM_LEN}
 use Rattle.live_run.specs.ByWorkers.{IsShared}
 use Rattle.mdl_ast.specs.declared.items.Conf.{Conf}
@@ -31,7 +33,7 @@ use Rattle.refusals.specs.declared.configuration.ConfKind.TheVariants.{TooLong a
 use Rattle.refusals.specs.declared.log.LogCause.TheVariants.{TooLong as TooLongLog}
 use Rattle.refusals.specs.declared.program.ProgramFault.TheVariants.{TooLong}
 use Rattle.refusals.specs.declared.fault.Fault.{Fault}
-use Rattle.refusals.specs.declared.fault.Fault.TheVariants.{Usage, BadProgram, BadConf, BadLog}
+use Rattle.refusals.specs.declared.fault.Fault.TheVariants.{Usage, BadProgram, BadConf, BadLog, BadDirectives, BadReport}
 use Rattle.resource_tree.specs.Foci.{OneSelection, canonical}
 use Rattle.resource_tree.specs.Resources.{Resources}
 use Rattle.session_spec.specs.Inputs.{Inputs as SessionInputs}
@@ -39,19 +41,23 @@ use Rattle.session_spec.specs.Opening.{bad_pick}
 use Rattle.session_spec.specs.declared.data.RefusedWish.{RefusedWish}
 use Rattle.whole_run.specs.Replayed.{misfit_of}
 use Rattle.whole_run.specs.Seeded.{IsSeeded, OneSeeded}
+use Rattle.paradyn_top.specs.Advising.{advised, IsAdviceDue, IsReportContent}
 use Rattle.paradyn_top.specs.Answers.{output}
 use Rattle.paradyn_top.specs.Blocks.{AreCounted}
+use Rattle.paradyn_top.specs.Directing.{AreDirectives, IsDirected, IsDirectDue, IsDirection, IsDirectivesContent, IsDirectRun, IsDirectWith, conf_with, directed_texts, or_bad_directives}
 use Rattle.paradyn_top.specs.Due.{IsDueFor, IsDue}
 use Rattle.paradyn_top.specs.Found.{resources_of, IsCheck, IsFound}
 use Rattle.paradyn_top.specs.Given.{inputs_with}
 use Rattle.paradyn_top.specs.Inputs.{image_of, file_of, MeansConf, IsProgramContent, IsProgram, IsElfFile, IsConfContent, IsConfiguration, AreInputs}
 use Rattle.paradyn_top.specs.Logs.{or_bad_log, IsLog, IsLogContent, MeansLog}
 use Rattle.paradyn_top.specs.Replays.{replayed, IsReplay, IsReplayDue, IsReplayOf, IsReplayWith}
-use Rattle.paradyn_top.specs.Runs.{texts_of_run, IsPrepared, IsOpened, IsRunWith, IsRunDue, IsLiveWith, IsLiveDue, IsStressWith, IsStressDue, stress_settings, stress_sight, summary_of}
+use Rattle.paradyn_top.specs.Runs.{texts_of_run, IsPrepared, IsOpened, IsRunWith, IsRunDue, IsLiveWith, IsLiveDue, IsVisiWith, IsVisiDue, views_of, IsStressWith, IsStressDue, stress_settings, stress_sight, summary_of}
 use Rattle.paradyn_top.specs.Plans.{metric_named, or_unknown, or_bad_focus, IsSelected, IsPlanned, IsPlanAt, IsPlan}
-use Rattle.paradyn_top.specs.Serving.{AreAlike, AreOne}
+use Rattle.paradyn_top.specs.Serving.{AreAlike, AreOne, is_live}
 use Rattle.paradyn_top.specs.Sights.{Sight, limited, IsContent}
+use Rattle.paradyn_top.specs.declared.advising.TheConstants.{REPORT_LIMIT}
 use Rattle.paradyn_top.specs.declared.configuration.TheConstants.{CONFIGURATION_LIMIT}
+use Rattle.paradyn_top.specs.declared.directing.TheConstants.{DIRECTIVES_LIMIT}
 use Rattle.paradyn_top.specs.declared.finding.Found.{Found}
 use Rattle.paradyn_top.specs.declared.inputs.Inputs.{Inputs}
 use Rattle.paradyn_top.specs.declared.logs.Log.{Log}
@@ -188,6 +194,14 @@ module _ (laws : Laws) where
   run_once : (r : RunRequest) (i : SessionInputs) → IsOne (IsRunWith r i)
   run_once r i = opened_once (bad_pick i) i (IsSeeded i r.seed r.quantum) (texts_of_run (is_some r.log) i) (laws.seeded i r.seed r.quantum)
 
+  visi_once : (r : VisiRequest) (i : SessionInputs) → IsOne (IsVisiWith r i)
+  visi_once r i = opened_once (bad_pick i) i (IsSeeded i r.seed r.quantum) (views_of r.views i) (laws.seeded i r.seed r.quantum)
+
+  direct_run_once : (r : DirectRequest) (image : Image) (conf : Conf) → IsOne (IsDirectRun r image conf)
+  direct_run_once r image conf =
+      one_then (IsFound image r.settings.harts conf) (λ found. IsDirectWith r (inputs_with image found r.settings)) (found_once image r.settings.harts conf)
+      (λ found. let i = inputs_with image found r.settings in opened_once (bad_pick i) i (IsSeeded i r.seed r.quantum) (directed_texts i) (laws.seeded i r.seed r.quantum))
+
   stress_once : (r : StressRequest) (i : SessionInputs) → IsOne (IsStressWith r i)
   stress_once r i = opened_once (bad_pick i) i (IsSeeded i r.seed 50) (summary_of r.procs i) (laws.seeded i r.seed 50)
 
@@ -242,10 +256,34 @@ module _ (laws : Laws) where
         one_then (AreInputs sees r.program r.conf) (λ i. Then (IsLog sees r.log) (λ log. IsReplayOf log i)) (inputs_once sees once r.program r.conf)
         (λ i. one_then (IsLog sees r.log) (λ log. IsReplayOf log i) (log_once r.log) (λ log. replay_of_once log i))
 
-    due_for_once : (asked : Option Request) → AskNotLive asked → IsOne (IsDueFor asked sees)
+    visi_due_once : (r : VisiRequest) → IsOne (IsVisiDue r sees)
+    visi_due_once r = one_then (IsPrepared r.program r.conf r.settings sees) (IsVisiWith r) (prepared_once sees once r.program r.conf r.settings) (visi_once r)
+
+    advice_due_once : (name : List ℕ) → IsOne (IsAdviceDue name sees)
+    advice_due_once name =
+        one_then (IsReportContent sees name) (λ bytes texts. texts ≡ advised (verdicts_of bytes)) (content_once sees once REPORT_LIMIT (BadReport REPORT_LIMIT) name)
+        (λ bytes. equal_once (advised (verdicts_of bytes)))
+
+    directives_once : (name : List ℕ) → IsOne (AreDirectives sees name)
+    directives_once name =
+        one_then (IsDirectivesContent sees name) (λ bytes directives. directives ≡ or_bad_directives (directives_of bytes))
+        (content_once sees once DIRECTIVES_LIMIT (BadDirectives (fault_at 0 0 TooLongConf)) name) (λ bytes. equal_once (or_bad_directives (directives_of bytes)))
+
+    direction_once : (r : DirectRequest) (i : Inputs) → IsOne (IsDirection r sees i)
+    direction_once r i =
+        one_then (AreDirectives sees r.directives) (λ directives. Then (IsDirected i.conf directives) (IsDirectRun r i.image)) (directives_once r.directives)
+        (λ directives. one_then (IsDirected i.conf directives) (IsDirectRun r i.image) (equal_once (conf_with (or_bad_directives (applied shipped_conf.items i.conf.items directives))))
+        (direct_run_once r i.image))
+
+    direct_due_once : (r : DirectRequest) → IsOne (IsDirectDue r sees)
+    direct_due_once r =
+        one_then (AreInputs sees r.program r.conf) (λ i. Then (IsFound i.image r.settings.harts i.conf) (λ found. IsDirection r sees i)) (inputs_once sees once r.program r.conf)
+        (λ i. one_then (IsFound i.image r.settings.harts i.conf) (λ found. IsDirection r sees i) (found_once i.image r.settings.harts i.conf) (λ found. direction_once r i))
+
+    due_for_once : (asked : Option Request) → is_live asked ≡ false → IsOne (IsDueFor asked sees)
     due_for_once None other = equal_once (Err Usage)
     due_for_once (Some (run r)) other = run_due_once r
-    due_for_once (Some (live r)) other = absurd other
+    due_for_once (Some (live r)) other = absurd (cc)
     due_for_once (Some (replay r)) other = replay_due_once r
     due_for_once (Some (make_plan p)) other =
         one_then (AreInputs sees p.program p.conf) (λ i. Then (IsFound i.image p.harts i.conf) (IsPlan p)) (inputs_once sees once p.program p.conf)
@@ -257,22 +295,28 @@ module _ (laws : Laws) where
     due_for_once (Some (relog name)) other = one_then (IsLog sees name) _ (log_once name) (λ log. equal_once _)
     due_for_once (Some (stress r)) other = stress_due_once r
     due_for_once (Some (count_blocks r)) other = one_then (IsProgram sees r.program) (AreCounted r) (program_once sees once r.program) (counted_once r)
+    due_for_once (Some (visi r)) other = visi_due_once r
+    due_for_once (Some (advise name)) other = advice_due_once name
+    due_for_once (Some (direct r)) other = direct_due_once r
 
     due_for_alike : (asked : Option Request) (a b : Result Texts Fault) → IsDueFor asked sees a → IsDueFor asked sees b → AreAlike a b
-    due_for_alike None a b d e = of_same a b (due_for_once None tt a b d e)
-    due_for_alike (Some (run r)) a b d e = of_same a b (due_for_once (Some (run r)) tt a b d e)
+    due_for_alike None a b d e = of_same a b (due_for_once None refl a b d e)
+    due_for_alike (Some (run r)) a b d e = of_same a b (due_for_once (Some (run r)) refl a b d e)
     due_for_alike (Some (live r)) a b d e = live_due_alike r a b d e
-    due_for_alike (Some (replay r)) a b d e = of_same a b (due_for_once (Some (replay r)) tt a b d e)
-    due_for_alike (Some (make_plan p)) a b d e = of_same a b (due_for_once (Some (make_plan p)) tt a b d e)
-    due_for_alike (Some (list_points name)) a b d e = of_same a b (due_for_once (Some (list_points name)) tt a b d e)
-    due_for_alike (Some (assemble name)) a b d e = of_same a b (due_for_once (Some (assemble name)) tt a b d e)
-    due_for_alike (Some (relog name)) a b d e = of_same a b (due_for_once (Some (relog name)) tt a b d e)
-    due_for_alike (Some (stress r)) a b d e = of_same a b (due_for_once (Some (stress r)) tt a b d e)
-    due_for_alike (Some (count_blocks r)) a b d e = of_same a b (due_for_once (Some (count_blocks r)) tt a b d e)
+    due_for_alike (Some (replay r)) a b d e = of_same a b (due_for_once (Some (replay r)) refl a b d e)
+    due_for_alike (Some (make_plan p)) a b d e = of_same a b (due_for_once (Some (make_plan p)) refl a b d e)
+    due_for_alike (Some (list_points name)) a b d e = of_same a b (due_for_once (Some (list_points name)) refl a b d e)
+    due_for_alike (Some (assemble name)) a b d e = of_same a b (due_for_once (Some (assemble name)) refl a b d e)
+    due_for_alike (Some (relog name)) a b d e = of_same a b (due_for_once (Some (relog name)) refl a b d e)
+    due_for_alike (Some (stress r)) a b d e = of_same a b (due_for_once (Some (stress r)) refl a b d e)
+    due_for_alike (Some (count_blocks r)) a b d e = of_same a b (due_for_once (Some (count_blocks r)) refl a b d e)
+    due_for_alike (Some (visi r)) a b d e = of_same a b (due_for_once (Some (visi r)) refl a b d e)
+    due_for_alike (Some (advise name)) a b d e = of_same a b (due_for_once (Some (advise name)) refl a b d e)
+    due_for_alike (Some (direct r)) a b d e = of_same a b (due_for_once (Some (direct r)) refl a b d e)
 
-    by_kind : (words : List (List ℕ)) (is : Bool) → begins_live words ≡ is → (a b : Result Texts Fault) → IsDue words sees a → IsDue words sees b → AreOne is a b
+    by_kind : (words : List (List ℕ)) (is : Bool) → is_live (request_of words) ≡ is → (a b : Result Texts Fault) → IsDue words sees a → IsDue words sees b → AreOne is a b
     by_kind words true e a b due other = due_for_alike (request_of words) a b due other
-    by_kind words false e a b due other = due_for_once (request_of words) (not_live words e) a b due other
+    by_kind words false e a b due other = due_for_once (request_of words) e a b due other
 
-    pub due_once : (words : List (List ℕ)) (a b : Result Texts Fault) → IsDue words sees a → IsDue words sees b → AreOne (begins_live words) a b
-    due_once words = by_kind words (begins_live words) refl
+    pub due_once : (words : List (List ℕ)) (a b : Result Texts Fault) → IsDue words sees a → IsDue words sees b → AreOne (is_live (request_of words)) a b
+    due_once words = by_kind words (is_live (request_of words)) refl

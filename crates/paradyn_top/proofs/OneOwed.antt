@@ -4,15 +4,15 @@ use Rattle.std.proofs.Math.Nat.{min-eq_left}
 use Rattle.std.proofs.lemmas.Slice.Eq.{bytes_eq-Decides}
 use Rattle.std.specs.Prelude.{IsSome}
 use Rattle.std.specs.Str.{bytes_eq}
-use Rattle.command_words.specs.Requests.{begins_live}
+use Rattle.command_words.specs.Requests.{request_of}
 use Rattle.outside.specs.Causes.{count_up, Rose}
 use Rattle.outside.specs.Outside.{Holding, IsWhole, IsCalm}
 use Rattle.refusals.proofs.Steps.{IsOne}
 use Rattle.refusals.specs.declared.fault.Fault.{Fault}
-use Rattle.refusals.specs.declared.fault.Fault.TheVariants.{Usage, FileFault, BadProgram, BadConf, BadPick, BadLog, TooManyBlocks}
+use Rattle.refusals.specs.declared.fault.Fault.TheVariants.{Usage, FileFault, BadProgram, BadConf, BadPick, BadLog, TooManyBlocks, BadDirectives, BadReport}
 use Rattle.paradyn_top.proofs.OneDue.{Laws, due_once, of_same}
 use Rattle.paradyn_top.proofs.Rising.{NotFile, rises}
-use Rattle.paradyn_top.specs.Serving.{AreOne, AreTold, IsOwed}
+use Rattle.paradyn_top.specs.Serving.{AreOne, AreTold, IsOwed, is_live}
 use Rattle.paradyn_top.specs.Sights.{seen, Counted}
 use Rattle.paradyn_top.specs.declared.texts.Texts.{Texts}
 
@@ -29,6 +29,8 @@ naming (BadConf fault) = Other (BadConf fault) tt
 naming (BadPick metric focus why) = Other (BadPick metric focus why) tt
 naming (BadLog place why) = Other (BadLog place why) tt
 naming (TooManyBlocks count) = Other (TooManyBlocks count) tt
+naming (BadDirectives fault) = Other (BadDirectives fault) tt
+naming (BadReport place) = Other (BadReport place) tt
 
 same_bytes : (holding : Holding) (x y : List ℕ) → IsSome holding → IsWhole holding x → IsWhole holding y → x ≡ y
 same_bytes None x y told a b = absurd (cc)
@@ -49,6 +51,8 @@ module _ {F : Type 0} (holds : F → List ℕ → Holding) (faults : F → List 
   calm_of (BadPick metric focus why) other c = c
   calm_of (BadLog place why) other c = c
   calm_of (TooManyBlocks count) other c = c
+  calm_of (BadDirectives fault) other c = c
+  calm_of (BadReport place) other c = c
 
   seen_once : IsCalm faults old new → (name : List ℕ) → IsOne (seen (holds old) (faults old) (faults new) name)
   seen_once calm name (Ok x) (Ok y) a b = ap (λ (bytes : List ℕ). Ok bytes) (same_bytes (holds old name) x y (told name).0 a b)
@@ -61,7 +65,7 @@ module _ {F : Type 0} (holds : F → List ℕ → Holding) (faults : F → List 
     Owed = IsOwed holds faults old new words
 
     abbrev Same : Result Texts Fault → Result Texts Fault → Type 0
-    Same = AreOne (begins_live words)
+    Same = AreOne (is_live (request_of words))
 
     of_equal : (live : Bool) (a b : Result Texts Fault) → a ≡ b → AreOne live a b
     of_equal true a b e = of_same a b e
@@ -86,7 +90,7 @@ module _ {F : Type 0} (holds : F → List ℕ → Holding) (faults : F → List 
     fault_once f g (Other e h) y a b = calm_once (calm_of f h a.counts) (Err f) (Err g) a b
     fault_once f g (File m) (Other e h) a b = absurd (not_risen (faults old m) (faults new m) (told m).1 (calm_of g h b.counts m) (risen m a))
     fault_once f g (File m) (File n) a b =
-        of_equal (begins_live words) (refused (FileFault m)) (refused (FileFault n)) (ap (λ (name : List ℕ). refused (FileFault name)) (same_name m n a b (bytes_eq m n) refl))
+        of_equal (is_live (request_of words)) (refused (FileFault m)) (refused (FileFault n)) (ap (λ (name : List ℕ). refused (FileFault name)) (same_name m n a b (bytes_eq m n) refl))
 
     pub owed_once : (a b : Result Texts Fault) → Owed a → Owed b → Same a b
     owed_once (Ok x) b owed other = calm_once owed.counts (Ok x) b owed other

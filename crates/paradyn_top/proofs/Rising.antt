@@ -2,7 +2,16 @@
 use Rattle.std.proofs.Common.{◌≡◌, ℕ, List, length, Option, Some, None, Bool, true, false, cond, Result, Ok, Err, sym, subst}
 use Rattle.std.specs.Prelude.{⊤, codes, is_some, nat_lt}
 use Rattle.asm_file.specs.Made.{elf_of}
-use Rattle.command_words.specs.Requests.{Request, RunRequest, LiveRequest, ReplayRequest, PlanRequest, StressRequest, run, live, replay, make_plan, assemble, list_points, relog, stress, count_blocks, request_of}
+use Rattle.advice.specs.Reading.{verdicts_of}
+use Rattle.advice.specs.declared.fault.ReportFault.{ReportFault}
+use Rattle.advice.specs.declared.fault.ReportFault.TheVariants as report_fault
+use Rattle.advice.specs.declared.verdict.Verdict.{Verdict}
+use Rattle.directives.specs.Acts.{applied}
+use Rattle.directives.specs.Reading.{directives_of}
+use Rattle.directives.specs.declared.fault.DirectiveFault.{DirectiveFault}
+use Rattle.directives.specs.declared.fault.DirectiveFault.TheVariants as directive_fault
+use Rattle.mdl_ast.specs.declared.items.Item.{Item}
+use Rattle.command_words.specs.Requests.{Request, RunRequest, LiveRequest, ReplayRequest, PlanRequest, StressRequest, VisiRequest, DirectRequest, run, live, replay, make_plan, assemble, list_points, relog, stress, count_blocks, visi, advise, direct, request_of}
 use Rattle.elf_form.specs.Meaning.{meaning_of}
 use Rattle.elf_form.specs.declared.fault.ElfFault.{ElfFault}
 use Rattle.elf_form.specs.declared.limits.TheConstants.{MAX_PROGRAM_LEN}
@@ -27,7 +36,7 @@ use Rattle.refusals.specs.Kinds.{fault_at}
 use Rattle.refusals.specs.Refusals.{Then}
 use Rattle.refusals.specs.declared.configuration.ConfKind.TheVariants.{TooLong as TooLongConf}
 use Rattle.refusals.specs.declared.fault.Fault.{Fault}
-use Rattle.refusals.specs.declared.fault.Fault.TheVariants.{Usage, FileFault, BadProgram, BadConf, BadPick, BadLog, TooManyBlocks}
+use Rattle.refusals.specs.declared.fault.Fault.TheVariants.{Usage, FileFault, BadProgram, BadConf, BadPick, BadLog, TooManyBlocks, BadDirectives, BadReport}
 use Rattle.refusals.specs.declared.log.LogCause.TheVariants.{TooLong as TooLongLog}
 use Rattle.refusals.specs.declared.program.ProgramFault.TheVariants.{TooLong}
 use Rattle.resource_tree.specs.Foci.{canonical}
@@ -42,17 +51,21 @@ use Rattle.whole_run.specs.Seeded.{IsSeeded}
 use Rattle.whole_run.specs.declared.misfit.Misfit.{Misfit}
 use Rattle.whole_run.specs.declared.misfit.Misfit.TheVariants as misfit
 use Rattle.paradyn_top.specs.Given.{inputs_with}
+use Rattle.paradyn_top.specs.Advising.{advised, IsAdviceDue, IsReportContent}
 use Rattle.paradyn_top.specs.Answers.{output}
 use Rattle.paradyn_top.specs.Blocks.{AreCounted}
+use Rattle.paradyn_top.specs.Directing.{AreDirectives, IsDirected, IsDirectDue, IsDirection, IsDirectivesContent, IsDirectRun, IsDirectWith, conf_with, directed_texts, or_bad_directives}
 use Rattle.paradyn_top.specs.Due.{IsDueFor, IsDue}
-use Rattle.paradyn_top.specs.Runs.{texts_of_run, IsPrepared, IsOpened, IsRunWith, IsRunDue, IsLiveWith, IsLiveDue, IsStressWith, IsStressDue, stress_settings, stress_sight, summary_of}
+use Rattle.paradyn_top.specs.Runs.{texts_of_run, IsPrepared, IsOpened, IsRunWith, IsRunDue, IsLiveWith, IsLiveDue, IsVisiWith, IsVisiDue, views_of, IsStressWith, IsStressDue, stress_settings, stress_sight, summary_of}
 use Rattle.paradyn_top.specs.Found.{resources_of, IsCheck, IsFound}
 use Rattle.paradyn_top.specs.Inputs.{begins_elf, or_bad_elf, or_bad_text, image_of, file_of, MeansConf, IsProgramContent, IsProgram, IsElfFile, IsConfContent, IsConfiguration, AreInputs}
 use Rattle.paradyn_top.specs.Logs.{or_bad_log, IsLog, IsLogContent, MeansLog}
 use Rattle.paradyn_top.specs.Replays.{replayed, IsReplay, IsReplayDue, IsReplayOf, IsReplayWith}
 use Rattle.paradyn_top.specs.Plans.{metric_named, or_unknown, or_bad_focus, IsSelected, IsPlanned, IsPlanAt, IsPlan}
 use Rattle.paradyn_top.specs.Sights.{Sight, seen, limited, IsContent}
+use Rattle.paradyn_top.specs.declared.advising.TheConstants.{REPORT_LIMIT}
 use Rattle.paradyn_top.specs.declared.configuration.TheConstants.{CONFIGURATION_LIMIT}
+use Rattle.paradyn_top.specs.declared.directing.TheConstants.{DIRECTIVES_LIMIT}
 use Rattle.paradyn_top.specs.declared.finding.Found.{Found}
 use Rattle.paradyn_top.specs.declared.inputs.Inputs.{Inputs}
 use Rattle.paradyn_top.specs.declared.logs.Log.{Log}
@@ -70,6 +83,8 @@ NotFile (BadConf fault) = ⊤
 NotFile (BadPick metric focus why) = ⊤
 NotFile (BadLog place why) = ⊤
 NotFile (TooManyBlocks count) = ⊤
+NotFile (BadDirectives fault) = ⊤
+NotFile (BadReport place) = ⊤
 
 abbrev Spares : {A : Type 0} → Result A Fault → Type 0
 Spares (Ok a) = ⊤
@@ -138,6 +153,20 @@ replayed_spared None None log image i = tt
 
 replay_spared : (log : Log) (image : Image) (i : SessionInputs) (name : List ℕ) → IsReplayWith log image i (Err (FileFault name)) → ⊥
 replay_spared log image i name e = spared (replayed (bad_pick i) (misfit_of i log.quanta) log image i) name (replayed_spared (bad_pick i) (misfit_of i log.quanta) log image i) e
+
+advice_spared : (r : Result (List Verdict) ReportFault) → Spares (advised r)
+advice_spared (Ok verdicts) = tt
+advice_spared (Err (report_fault.BadReport place)) = tt
+advice_spared (Err report_fault.NoMemory) = tt
+
+directives_spared : {A : Type 0} (r : Result A DirectiveFault) → Spares (or_bad_directives r)
+directives_spared (Ok a) = tt
+directives_spared (Err (directive_fault.At line col kind)) = tt
+directives_spared (Err directive_fault.NoMemory) = tt
+
+conf_with_spared : (r : Result (List Item) Fault) → Spares r → Spares (conf_with r)
+conf_with_spared (Ok items) h = tt
+conf_with_spared (Err fault) h = h
 
 -- ---- where a file was read
 
@@ -221,6 +250,41 @@ module _ (name : List ℕ) (P : Type 0) (sees : Sight) (at_file : (other : List 
       of_either P (AreInputs sees r.program r.conf) (λ i. Then (IsLog sees r.log) (λ log. IsReplayOf log i)) (FileFault name) (at_inputs name P sees at_file r.program r.conf)
       (λ i. of_either P (IsLog sees r.log) (λ log. IsReplayOf log i) (FileFault name) (at_log r.log) (λ log. at_replay_from log i))
 
+  at_visi : (r : VisiRequest) → IsVisiDue r sees (Err (FileFault name)) → P
+  at_visi r =
+      of_either P (IsPrepared r.program r.conf r.settings sees) (IsVisiWith r) (FileFault name) (at_prepared name P sees at_file r.program r.conf r.settings)
+      (λ i e. absurd (opened_spared (bad_pick i) i (IsSeeded i r.seed r.quantum) (views_of r.views i) name e))
+
+  at_advice : (other : List ℕ) → IsAdviceDue other sees (Err (FileFault name)) → P
+  at_advice other =
+      of_either P (IsReportContent sees other) (λ bytes texts. texts ≡ advised (verdicts_of bytes)) (FileFault name) (at_content name P sees at_file REPORT_LIMIT (BadReport REPORT_LIMIT) other tt)
+      (λ bytes e. absurd (spared (advised (verdicts_of bytes)) name (advice_spared (verdicts_of bytes)) e))
+
+  at_directives : (other : List ℕ) → AreDirectives sees other (Err (FileFault name)) → P
+  at_directives other =
+      of_either P (IsDirectivesContent sees other) (λ bytes directives. directives ≡ or_bad_directives (directives_of bytes)) (FileFault name)
+      (at_content name P sees at_file DIRECTIVES_LIMIT (BadDirectives (fault_at 0 0 TooLongConf)) other tt)
+      (λ bytes e. absurd (spared (or_bad_directives (directives_of bytes)) name (directives_spared (directives_of bytes)) e))
+
+  at_direct_run : (r : DirectRequest) (image : Image) (conf : Conf) → IsDirectRun r image conf (Err (FileFault name)) → P
+  at_direct_run r image conf =
+      of_either P (IsFound image r.settings.harts conf) (λ found. IsDirectWith r (inputs_with image found r.settings)) (FileFault name)
+      (λ wrong. absurd (check_spared (resources_of image r.settings.harts conf) conf name wrong))
+      (λ found e. let i = inputs_with image found r.settings in absurd (opened_spared (bad_pick i) i (IsSeeded i r.seed r.quantum) (directed_texts i) name e))
+
+  at_direction : (r : DirectRequest) (i : Inputs) → IsDirection r sees i (Err (FileFault name)) → P
+  at_direction r i =
+      of_either P (AreDirectives sees r.directives) (λ directives. Then (IsDirected i.conf directives) (IsDirectRun r i.image)) (FileFault name) (at_directives r.directives)
+      (λ directives. let made = applied shipped_conf.items i.conf.items directives in
+      of_either P (IsDirected i.conf directives) (IsDirectRun r i.image) (FileFault name)
+      (λ e. absurd (spared (conf_with (or_bad_directives made)) name (conf_with_spared (or_bad_directives made) (directives_spared made)) e)) (at_direct_run r i.image))
+
+  at_direct : (r : DirectRequest) → IsDirectDue r sees (Err (FileFault name)) → P
+  at_direct r =
+      of_either P (AreInputs sees r.program r.conf) (λ i. Then (IsFound i.image r.settings.harts i.conf) (λ found. IsDirection r sees i)) (FileFault name) (at_inputs name P sees at_file r.program r.conf)
+      (λ i. of_either P (IsFound i.image r.settings.harts i.conf) (λ found. IsDirection r sees i) (FileFault name)
+      (λ wrong. absurd (check_spared (resources_of i.image r.settings.harts i.conf) i.conf name wrong)) (λ found. at_direction r i))
+
   at_request : (asked : Option Request) → IsDueFor asked sees (Err (FileFault name)) → P
   at_request None = no_usage name P sees at_file
   at_request (Some (run r)) = at_run r
@@ -234,6 +298,9 @@ module _ (name : List ℕ) (P : Type 0) (sees : Sight) (at_file : (other : List 
   at_request (Some (assemble other)) = of_either P (IsElfFile sees other) (λ file texts. texts ≡ Ok (output file)) (FileFault name) (at_text name P sees at_file other) (λ file e. absurd (cc))
   at_request (Some (relog other)) = of_either P (IsLog sees other) _ (FileFault name) (at_log other) (λ log e. absurd (cc))
   at_request (Some (stress r)) = λ e. absurd (stress_spared r name e)
+  at_request (Some (visi r)) = at_visi r
+  at_request (Some (advise other)) = at_advice other
+  at_request (Some (direct r)) = at_direct r
   at_request (Some (count_blocks r)) =
       of_either P (IsProgram sees r.program) (AreCounted r) (FileFault name) (at_program name P sees at_file r.program) (λ image e. absurd (counted_spared r image name e))
 

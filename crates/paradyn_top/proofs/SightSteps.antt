@@ -5,6 +5,8 @@ use Rattle.std.proofs.lemmas.Bool.{lt-ltb, le-ltb, cond-true, cond-false}
 use Rattle.std.proofs.lemmas.List.{length-replicate}
 use Rattle.outside.specs.Causes.{Rose}
 use Rattle.outside.specs.Outside.{Holding, IsWhole, IsLonger}
+use Rattle.command_words.specs.Requests.{DirectRequest}
+use Rattle.directives.specs.declared.directive.Directive.{Directive}
 use Rattle.mdl_ast.specs.declared.items.Conf.{Conf}
 use Rattle.pn_types.specs.declared.image.Image.{Image}
 use Rattle.pn_types.specs.declared.settings.Settings.{Settings}
@@ -13,12 +15,14 @@ use Rattle.refusals.specs.declared.fault.Fault.{Fault}
 use Rattle.refusals.specs.declared.refusal.Refusal.{Refusal}
 use Rattle.refusals.specs.declared.refusal.Refusal.TheVariants as refusal
 use Rattle.session_spec.specs.Inputs.{Inputs as SessionInputs}
+use Rattle.paradyn_top.specs.Directing.{AreDirectives, IsDirection}
 use Rattle.paradyn_top.specs.Inputs.{IsProgram, IsConfiguration, AreInputs}
 use Rattle.paradyn_top.specs.Logs.{IsLog}
 use Rattle.paradyn_top.specs.Runs.{IsPrepared}
 use Rattle.paradyn_top.specs.Sights.{Sight, seen, IsContent}
 use Rattle.paradyn_top.specs.declared.inputs.Inputs.{Inputs}
 use Rattle.paradyn_top.specs.declared.logs.Log.{Log}
+use Rattle.paradyn_top.specs.declared.texts.Texts.{Texts}
 
 -- a file that is longer than so many bytes has some bytes
 pub some_longer : (holding : Holding) (most : ℕ) → IsLonger holding most → (bytes : List ℕ) × IsWhole holding bytes × (most < length bytes)
@@ -94,3 +98,9 @@ log_from sees also name more log (content, (bytes, h, short), means) = (content,
 pub refuses_as : (P Q : Fault → Type 0) (e : Refusal) → ((fault : Fault) → P fault → Q fault) → Refuses e P → Refuses e Q
 refuses_as P Q (refusal.Fault fault) more h = more fault h
 refuses_as P Q refusal.NoMemory more h = tt
+
+pub directives_from : (sees also : Sight) (name : List ℕ) → ((r : Result (List ℕ) Fault) → sees name r → also name r) → (directives : Result (List Directive) Fault) → AreDirectives sees name directives → AreDirectives also name directives
+directives_from sees also name more directives (content, (bytes, h, short), means) = (content, (bytes, more bytes h, short), means)
+
+pub direction_from : (sees also : Sight) (r : DirectRequest) → ((x : Result (List ℕ) Fault) → sees r.directives x → also r.directives x) → (i : Inputs) (texts : Result Texts Fault) → IsDirection r sees i texts → IsDirection r also i texts
+direction_from sees also r more i texts (directives, h, rest) = (directives, directives_from sees also r.directives more directives h, rest)

@@ -2,17 +2,19 @@
 use Rattle.std.specs.Prelude.{◌≡◌, ℕ, List, Option, None, Some, Ok, Err}
 use Rattle.code_points.specs.Points.{points_of}
 use Rattle.code_points.specs.Procedures.{procedures_of, skipped_of}
-use Rattle.command_words.specs.Requests.{Request, PlanRequest, run, live, replay, make_plan, assemble, list_points, relog, stress, count_blocks, request_of}
+use Rattle.command_words.specs.Requests.{Request, PlanRequest, run, live, replay, make_plan, assemble, list_points, relog, stress, count_blocks, visi, advise, direct, request_of}
 use Rattle.refusals.specs.Refusals.{Step, Then}
 use Rattle.refusals.specs.declared.fault.Fault.TheVariants.{Usage}
 use Rattle.report.specs.Points.{points_text}
+use Rattle.paradyn_top.specs.Advising.{IsAdviceDue}
 use Rattle.paradyn_top.specs.Answers.{output}
 use Rattle.paradyn_top.specs.Blocks.{AreBlocksDue}
+use Rattle.paradyn_top.specs.Directing.{IsDirectDue}
 use Rattle.paradyn_top.specs.Found.{IsFound}
 use Rattle.paradyn_top.specs.Inputs.{IsProgram, IsElfFile, AreInputs}
 use Rattle.paradyn_top.specs.Plans.{IsPlan}
 use Rattle.paradyn_top.specs.Replays.{IsRelogDue, IsReplayDue}
-use Rattle.paradyn_top.specs.Runs.{IsRunDue, IsLiveDue, IsStressDue}
+use Rattle.paradyn_top.specs.Runs.{IsRunDue, IsLiveDue, IsVisiDue, IsStressDue}
 use Rattle.paradyn_top.specs.Sights.{Sight}
 use Rattle.paradyn_top.specs.declared.texts.Texts.{Texts}
 
@@ -43,6 +45,9 @@ IsDueFor (Some (assemble name)) sees texts = IsAssembled name sees texts
 IsDueFor (Some (relog name)) sees texts = IsRelogDue name sees texts
 IsDueFor (Some (stress r)) sees texts = IsStressDue r texts
 IsDueFor (Some (count_blocks r)) sees texts = AreBlocksDue r sees texts
+IsDueFor (Some (visi r)) sees texts = IsVisiDue r sees texts
+IsDueFor (Some (advise name)) sees texts = IsAdviceDue name sees texts
+IsDueFor (Some (direct r)) sees texts = IsDirectDue r sees texts
 
 -- What is due for words and what was seen of files: the texts that were asked for, or the first fault.
 abbrev pub IsDue : List (List ℕ) → Sight → Step Texts

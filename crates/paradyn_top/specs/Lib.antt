@@ -8,6 +8,8 @@ pub mod Logs
 pub mod Replays
 pub mod Runs
 pub mod Blocks
+pub mod Advising
+pub mod Directing
 pub mod Due
 pub mod Delivery
 pub mod Serving

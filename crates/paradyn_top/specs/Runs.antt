@@ -1,8 +1,8 @@
--- What is due for the commands that run a program: `run`, `live` and `stress`.
-use Rattle.std.specs.Prelude.{◌≡◌, ℕ, Bool, is_some, if◌then◌else◌, List, Option, None, Some, Ok, Err, codes}
+-- What is due for the commands that run a program: `run`, `live`, `visi` and `stress`.
+use Rattle.std.specs.Prelude.{◌≡◌, ℕ, Bool, is_some, if◌then◌else◌, List, replicate, Option, None, Some, Ok, Err, codes}
 use Rattle.std.specs.Str.{bytes_eq}
 use Rattle.code_points.specs.Procedures.{skipped_of}
-use Rattle.command_words.specs.Requests.{RunRequest, LiveRequest, StressRequest}
+use Rattle.command_words.specs.Requests.{RunRequest, LiveRequest, VisiRequest, StressRequest}
 use Rattle.live_run.specs.ByWorkers.{IsShared}
 use Rattle.pn_types.specs.declared.settings.Settings.{Settings}
 use Rattle.pn_types.specs.declared.settings.Start.TheVariants.{Warm}
@@ -16,6 +16,9 @@ use Rattle.session_spec.specs.declared.data.RefusedWish.{RefusedWish}
 use Rattle.stress_run.specs.Configuration.{configuration_text}
 use Rattle.stress_run.specs.Program.{program_text}
 use Rattle.stress_run.specs.Summary.{summary_text}
+use Rattle.visi_run.specs.Texts.{visi_text}
+use Rattle.visi_run.specs.Feed.{feed_of}
+use Rattle.visi_run.specs.Viewed.{shown_of}
 use Rattle.whole_run.specs.Recorded.{log_of, report_of}
 use Rattle.whole_run.specs.Seeded.{IsSeeded}
 use Rattle.paradyn_top.specs.Answers.{output}
@@ -54,6 +57,19 @@ IsRunDue r sees = Then (IsPrepared r.program r.conf r.settings sees) (IsRunWith 
 
 abbrev pub IsLiveDue : LiveRequest → Sight → Step Texts
 IsLiveDue r sees = Then (IsPrepared r.program r.conf r.settings sees) (IsLiveWith r)
+
+-- ---- visi
+
+-- what each of so many views is given of these quanta
+abbrev pub views_of : ℕ → Inputs → List Quantum → Texts
+views_of views i quanta = output (visi_text (shown_of i quanta) (replicate views (feed_of i quanta)))
+
+-- the whole list of quanta in the order of the seed
+abbrev pub IsVisiWith : VisiRequest → Inputs → Step Texts
+IsVisiWith r i = IsOpened (bad_pick i) i (IsSeeded i r.seed r.quantum) (views_of r.views i)
+
+abbrev pub IsVisiDue : VisiRequest → Sight → Step Texts
+IsVisiDue r sees = Then (IsPrepared r.program r.conf r.settings sees) (IsVisiWith r)
 
 -- ---- stress
 

@@ -1,6 +1,6 @@
 -- What the top call leaves in its sinks.
 use Rattle.std.specs.Prelude.{◌≡◌, ◌⊎◌, ℕ, ◌<◌, ◌-◌, ◌^◌, IsSome, Bool, true, false, List, [], map, string_bytes, Option, Some, None, Result, Ok, Err}
-use Rattle.command_words.specs.Requests.{begins_live}
+use Rattle.command_words.specs.Requests.{Request, live, request_of}
 use Rattle.outside.specs.Outside.{Holding, IsCalm}
 use Rattle.refusals.specs.declared.fault.Fault.{Fault}
 use Rattle.refusals.specs.declared.fault.Fault.TheVariants.{FileFault}
@@ -33,6 +33,11 @@ AreAlike (Ok texts) (Err fault) = ⊥
 AreAlike (Err fault) (Ok texts) = ⊥
 AreAlike (Err fault) (Err other) = fault ≡ other
 
+-- the request is for a run that workers share
+abbrev pub is_live : Option Request → Bool
+is_live (Some (live r)) = true
+is_live asked = false
+
 -- under `live` they are alike, and else the same
 abbrev pub AreOne : Bool → Result Texts Fault → Result Texts Fault → Type 0
 AreOne true a b = AreAlike a b
@@ -41,7 +46,7 @@ AreOne false a b = a ≡ b
 -- Over files that are told one answer is owed; under `live` the texts may be others.
 abbrev pub OneOwed : {F : Type 0} → (F → List ℕ → Holding) → (F → List ℕ → ℕ) → Type 0
 OneOwed {F} holds faults = (old new : F) (words : List (List ℕ)) (a b : Result Texts Fault) →
-    AreTold holds faults old → IsOwed holds faults old new words a → IsOwed holds faults old new words b → AreOne (begins_live words) a b
+    AreTold holds faults old → IsOwed holds faults old new words a → IsOwed holds faults old new words b → AreOne (is_live (request_of words)) a b
 
 -- Nothing was read beyond what is due: no count of faults rose, or the answer that is due names a file as unread.
 abbrev pub IsUntold : {F : Type 0} → (F → List ℕ → Holding) → (F → List ℕ → ℕ) → F → F → List (List ℕ) → Type 0

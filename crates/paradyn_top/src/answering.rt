@@ -2,12 +2,14 @@
 
 ghost use Rattle.std.specs.Prelude.{◌≡◌, false, Some, map, string_bytes};
 ghost use Rattle.command_words.specs.Asked.{asked};
-ghost use Rattle.command_words.specs.Requests.{begins_live, HasRanges, IsNotLive};
+ghost use Rattle.command_words.specs.Requests.{begins_threaded, HasRanges, IsUnthreaded};
 ghost use Rattle.paradyn_top.specs.Due.{IsDue, IsDueFor};
 ghost use Rattle.paradyn_top.specs.Sights.{seen, Looks};
 ghost use Rattle.refusals.specs.Refusals.{Comes};
 
+use crate::advising::advise_from;
 use crate::blocks::blocks;
+use crate::directing::direct;
 use crate::listing::{list_points, write_elf};
 use crate::live::live;
 use crate::planning::show_plan;
@@ -15,6 +17,7 @@ use crate::replaying::{relog, replay};
 use crate::running::run;
 use crate::stressing::stress;
 use crate::texts::Texts;
+use crate::viewing::view;
 use command_words::{Request, WordFault, read_request};
 use outside::{Files, Gate};
 use refusals::{Fault, Refusal};
@@ -22,20 +25,20 @@ use std::alloc::Global;
 use std::sync::Wait;
 use std::thread::Threads;
 
-/// What is due for a request that isn't for workers.
+/// What is due for a request that begins no threads.
 fn answer_request<F: Files>(
     alloc: Global,
     request: &Request<'_>,
     files: &mut F,
 ) -> Result<Texts, Refusal>
     requires ranges { HasRanges (asked request.now) }
-    requires other { IsNotLive (asked request.now) }
+    requires other { IsUnthreaded (asked request.now) }
     ensures due { Comes result (IsDueFor (Some (asked request.now)) (seen (F.holds files.old) (F.faults files.old) (F.faults files.new))) }
     ensures looks { Looks F.holds F.faults files.old files.new result }
 {
     match request {
         Request::Run(request) => run(alloc, request, files),
-        Request::Live(_) => unreachable!(),
+        Request::Live(_) | Request::Visi(_) => unreachable!(),
         Request::Replay(request) => replay(alloc, request, files),
         Request::Plan(request) => show_plan(alloc, request, files),
         Request::Points(program) => list_points(alloc, program, files),
@@ -43,16 +46,18 @@ fn answer_request<F: Files>(
         Request::Relog(log) => relog(alloc, log, files),
         Request::Stress(request) => stress(alloc, *request),
         Request::Blocks(request) => blocks(alloc, request, files),
+        Request::Advise(report) => advise_from(alloc, report, files),
+        Request::Direct(request) => direct(alloc, request, files),
     }
 }
 
-/// What is due for words that don't begin with `live`.
+/// What is due for words that begin no threads.
 pub(crate) fn answer<F: Files>(
     alloc: Global,
     words: &[String],
     files: &mut F,
 ) -> Result<Texts, Refusal>
-    requires { begins_live (map string_bytes words.now) ≡ false }
+    requires { begins_threaded (map string_bytes words.now) ≡ false }
     ensures due { Comes result (IsDue (map string_bytes words.now) (seen (F.holds files.old) (F.faults files.old) (F.faults files.new))) }
     ensures looks { Looks F.holds F.faults files.old files.new result }
 {
@@ -63,8 +68,8 @@ pub(crate) fn answer<F: Files>(
     }
 }
 
-/// What is due for words, and `live`'s are among them.
-pub(crate) fn answer_live<F: Files, R: Threads + Wait + Sync, G: Gate + Sync>(
+/// What is due for words, of which some begin threads.
+pub(crate) fn answer_threaded<F: Files, R: Threads + Wait + Sync, G: Gate + Sync>(
     rt: &R,
     alloc: Global,
     words: &[String],
@@ -76,6 +81,7 @@ pub(crate) fn answer_live<F: Files, R: Threads + Wait + Sync, G: Gate + Sync>(
 {
     match read_request(alloc, words) {
         Ok(Request::Live(request)) => live(rt, alloc, &request, files, gate),
+        Ok(Request::Visi(request)) => view(rt, alloc, &request, files),
         Ok(request) => answer_request(alloc, &request, files),
         Err(WordFault::Usage) => Err(Refusal::Fault(Fault::Usage)),
         Err(WordFault::NoMemory) => Err(Refusal::NoMemory),

@@ -89,7 +89,7 @@ pub fn find(alloc: Global, image: &Image, harts: u32, conf: &Conf) -> Result<Fou
     requires modules { AreModulesGood image.now }
     requires unscratched { IsUnscratched image.now }
     requires harts { harts ≤ MAX_HARTS }
-    requires few { length conf.now.items ≤ 1048576 }
+    requires few { length conf.now.items ≤ 4194304 }
     requires small { AllByRecursion HasSmall conf.now.items }
     ensures found { Comes result (IsFound image.now harts conf.now) }
     ensures procs { IfOk result (λ found. AreProcsOf image.now found.procs) }

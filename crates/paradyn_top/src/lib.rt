@@ -1,10 +1,12 @@
 //! The top call: all that the program does, over files and sinks that are handed in.
 #![tactic(auto)]
 
+mod advising;
 mod answering;
 mod blocks;
 mod configuration;
 mod delivery;
+mod directing;
 mod files;
 mod finding;
 mod inputs;
@@ -21,6 +23,7 @@ mod running;
 mod stressing;
 mod texts;
 mod top;
+mod viewing;
 
 pub use command_words::log_name;
 pub use delivery::deliver;

@@ -1,15 +1,15 @@
 ghost use Rattle.std.specs.Prelude.{◌≡◌, ◌≢◌, ◌⊎◌, ℕ, false, IfOk, List, Result, Ok, Err, Some, map, string_bytes};
-ghost use Rattle.command_words.specs.Requests.{begins_live};
+ghost use Rattle.command_words.specs.Requests.{begins_threaded};
 ghost use Rattle.paradyn_top.specs.Answers.{status_of, texts_of};
 ghost use Rattle.paradyn_top.specs.Serving.{IsOwed, IsSpared, IsUntold, IsReply, AreGained, AreTold, AreTorn, told_of};
 ghost use Rattle.paradyn_top.specs.declared.texts.Texts.{Texts as texts};
 ghost use Rattle.refusals.specs.declared.fault.Fault.{Fault as fault};
 
-use crate::answering::{answer, answer_live};
+use crate::answering::{answer, answer_threaded};
 use crate::delivery::deliver;
 use crate::laws::one_owed;
 use crate::texts::Texts;
-use command_words::begin_live;
+use command_words::begin_threaded;
 use outside::{Files, Gate, Sink};
 use pn_types::NoMemory;
 use refusals::{Fault, Refusal, faults_text};
@@ -70,7 +70,7 @@ fn give<K: Sink, L: Sink>(
     }
 }
 
-/// What [`paradyn`] does, for words that don't begin with `live`. It waits for nothing.
+/// What [`paradyn`] does, for words that begin with neither `live` nor `visi`. It waits for nothing.
 pub fn serve<F: Files, K: Sink, L: Sink>(
     alloc: Global,
     words: &[String],
@@ -78,7 +78,7 @@ pub fn serve<F: Files, K: Sink, L: Sink>(
     out: &mut K,
     log: &mut L,
 ) -> u8
-    requires { begins_live (map string_bytes words.now) ≡ false }
+    requires { begins_threaded (map string_bytes words.now) ≡ false }
     // All but 7 and 8: the answer that is due was given, and both sinks gained its bytes.
     ensures answered { result ≢ 7 → result ≢ 8 → (answer : Result texts fault)
         × IsOwed F.holds F.faults files.old files.new (map string_bytes words.now) answer
@@ -101,8 +101,9 @@ pub fn serve<F: Files, K: Sink, L: Sink>(
 ///
 /// - 0: the output gained what was asked for: the report of the program's whole run in the order of a seed, of one that workers share
 ///   or of one along the quanta of a log, the plan of a metric, the program's points, the ELF file of an assembly text, a log as it is
-///   written now, the line that sums up the run of a program that was made from a seed, or how often each basic block of a program was
-///   executed. The log of a run gained its quanta where one was asked for.
+///   written now, the line that sums up the run of a program that was made from a seed, how often each basic block of a program was
+///   executed, what each view of a run was given, the directives that a report advises, or the report of the run under directives.
+///   The log of a run gained its quanta where one was asked for.
 /// - 2: the words are no command, and the output gained the line of that fault.
 /// - 3: a file could not be read, and the output gained a line with its name.
 /// - 4: the program is faulty, and the output gained the line of that fault.
@@ -113,6 +114,8 @@ pub fn serve<F: Files, K: Sink, L: Sink>(
 /// - 8: memory was wanting; both sinks are as before.
 /// - 9: the log is faulty, or its quanta aren't those of a whole run, and the output gained the line of that fault.
 /// - 11: more basic blocks have a first word that can be moved than a hart has slots, and the output gained the line of that fault.
+/// - 12: the directives are faulty, and the output gained the line of that fault.
+/// - 13: the report is faulty, and the output gained the line of that fault.
 pub fn paradyn<R: Threads + Wait + Sync, F: Files, K: Sink, L: Sink, G: Gate + Sync>(
     rt: &R,
     alloc: Global,
@@ -142,8 +145,8 @@ pub fn paradyn<R: Threads + Wait + Sync, F: Files, K: Sink, L: Sink, G: Gate + S
     ensures unwritten { (K.faults out.new ≢ K.faults out.old) ⊎ (L.faults log.new ≢ L.faults log.old) → result ≡ 7 }
 {
     one_owed::<F>();
-    if begin_live(words) {
-        let answered = answer_live(rt, alloc, words, files, gate);
+    if begin_threaded(words) {
+        let answered = answer_threaded(rt, alloc, words, files, gate);
         give(alloc, answered, out, log)
     } else {
         serve(alloc, words, files, out, log)

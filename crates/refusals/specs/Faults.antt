@@ -7,7 +7,7 @@ use Rattle.elf_form.specs.declared.fault.ElfFault.TheVariants as elf
 use Rattle.rv_asm.specs.declared.fault.AsmFault.{AsmFault}
 use Rattle.rv_asm.specs.declared.fault.AsmFault.TheVariants as asm
 use Rattle.refusals.specs.declared.fault.Fault.{Fault}
-use Rattle.refusals.specs.declared.fault.Fault.TheVariants.{Usage, FileFault, BadProgram, BadConf, BadPick, BadLog, TooManyBlocks}
+use Rattle.refusals.specs.declared.fault.Fault.TheVariants.{Usage, FileFault, BadProgram, BadConf, BadPick, BadLog, TooManyBlocks, BadDirectives, BadReport}
 use Rattle.refusals.specs.Kinds.{kind_text}
 use Rattle.refusals.specs.declared.configuration.ConfFault.{ConfFault}
 use Rattle.refusals.specs.declared.log.LogCause.{LogCause}
@@ -64,7 +64,7 @@ log_text (log.NotRunnable hart) = codes "hart " ++ decimal hart ++ codes " not r
 log_text (log.OtherOwns of_log of_run) = codes "owns " ++ decimal of_log ++ codes " not " ++ decimal of_run
 log_text log.Unfinished = codes "unfinished"
 
--- what is wrong with a configuration, and where
+-- what is wrong with a configuration or with directives, and where
 abbrev pub conf_text : ConfFault → List ℕ
 conf_text f = codes "line " ++ decimal f.line ++ codes " column " ++ decimal f.col ++ codes ": " ++ kind_text f.kind
 
@@ -80,6 +80,8 @@ fault_line (BadConf fault) = codes "paradyn: bad configuration: " ++ conf_text f
 fault_line (BadPick metric focus cause) = codes "paradyn: cannot measure " ++ (pick_text metric focus ++ (codes ": " ++ (cause_text cause ++ codes "\n")))
 fault_line (BadLog place cause) = codes "paradyn: bad log at " ++ decimal place ++ codes ": " ++ log_text cause ++ codes "\n"
 fault_line (TooManyBlocks count) = codes "paradyn: too many blocks " ++ decimal count ++ codes "\n"
+fault_line (BadDirectives fault) = codes "paradyn: bad directives: " ++ conf_text fault ++ codes "\n"
+fault_line (BadReport place) = codes "paradyn: bad report at " ++ decimal place ++ codes "\n"
 
 abbrev pub fault_status : Fault → ℕ
 fault_status Usage = 2
@@ -89,3 +91,5 @@ fault_status (BadConf fault) = 5
 fault_status (BadPick metric focus cause) = 6
 fault_status (BadLog place cause) = 9
 fault_status (TooManyBlocks count) = 11
+fault_status (BadDirectives fault) = 12
+fault_status (BadReport place) = 13

@@ -1,9 +1,11 @@
--- The kinds of faults of configurations.
+-- The kinds of faults of configurations and of directives.
 use Rattle.std.specs.Prelude.{ℕ, List, codes}
 use Rattle.mdl_parse.specs.declared.fault.SyntaxKind.{SyntaxKind}
 use Rattle.mdl_parse.specs.declared.fault.SyntaxKind.TheVariants as syntax
 use Rattle.mdl_check.specs.declared.fault.CheckKind.{CheckKind}
 use Rattle.mdl_check.specs.declared.fault.CheckKind.TheVariants as check
+use Rattle.directives.specs.declared.fault.DirectiveKind.{DirectiveKind}
+use Rattle.directives.specs.declared.fault.DirectiveKind.TheVariants as directive
 use Rattle.refusals.specs.declared.configuration.ConfKind.{ConfKind}
 use Rattle.refusals.specs.declared.configuration.ConfKind.TheVariants.{BadByte, OpenString, BigNumber, Unexpected, TooDeep, TooLong, UnknownName, TwiceNamed, WrongKind, CyclicParent, BadFocus}
 use Rattle.refusals.specs.declared.configuration.ConfFault.{ConfFault}
@@ -37,6 +39,15 @@ check_kind check.TwiceNamed = TwiceNamed
 check_kind check.WrongKind = WrongKind
 check_kind check.CyclicParent = CyclicParent
 check_kind check.BadFocus = BadFocus
+
+-- a fault of directives
+abbrev pub directive_kind : DirectiveKind → ConfKind
+directive_kind directive.BadByte = BadByte
+directive_kind directive.OpenString = OpenString
+directive_kind directive.BigNumber = BigNumber
+directive_kind directive.Unexpected = Unexpected
+directive_kind directive.UnknownName = UnknownName
+directive_kind directive.WrongKind = WrongKind
 
 -- a fault and where it stands
 abbrev pub fault_at : ℕ → ℕ → ConfKind → ConfFault

@@ -1,12 +1,13 @@
-//! The faults of configurations.
+//! The faults of configurations and of directives.
 
 ghost use Rattle.std.specs.Prelude.{◌≡◌};
-ghost use Rattle.refusals.specs.Kinds.{kind_text, syntax_kind, check_kind};
+ghost use Rattle.refusals.specs.Kinds.{kind_text, syntax_kind, check_kind, directive_kind};
 
+use directives::DirectiveKind;
 use mdl_check::CheckKind;
 use mdl_parse::SyntaxKind;
 
-/// What is wrong with a configuration.
+/// What is wrong with a configuration or with directives.
 #[derive(Clone, Copy, Debug, PartialEq, Eq, Drop)]
 pub enum ConfKind {
     /// A byte with which no word begins or goes on.
@@ -54,7 +55,7 @@ impl ConfKind {
     }
 }
 
-/// A fault of a configuration and where it stands.
+/// A fault of a configuration or of directives, and where it stands.
 #[derive(Clone, Copy, Debug, PartialEq, Eq, Drop)]
 pub struct ConfFault {
     /// The line, from 1, or 0 for the whole text.
@@ -88,5 +89,19 @@ pub fn check_kind(kind: CheckKind) -> ConfKind
         CheckKind::WrongKind => ConfKind::WrongKind,
         CheckKind::CyclicParent => ConfKind::CyclicParent,
         CheckKind::BadFocus => ConfKind::BadFocus,
+    }
+}
+
+/// A fault of directives.
+pub fn directive_kind(kind: DirectiveKind) -> ConfKind
+    ensures { result ≡ directive_kind kind }
+{
+    match kind {
+        DirectiveKind::BadByte => ConfKind::BadByte,
+        DirectiveKind::OpenString => ConfKind::OpenString,
+        DirectiveKind::BigNumber => ConfKind::BigNumber,
+        DirectiveKind::Unexpected => ConfKind::Unexpected,
+        DirectiveKind::UnknownName => ConfKind::UnknownName,
+        DirectiveKind::WrongKind => ConfKind::WrongKind,
     }
 }

@@ -23,6 +23,10 @@ pub enum Fault {
     BadLog(u64, LogCause),
     /// So many basic blocks have a first word that can be moved, and a hart has not as many slots.
     TooManyBlocks(u32),
+    /// The directives are faulty.
+    BadDirectives(ConfFault),
+    /// The report is faulty at this place, in bytes from its front.
+    BadReport(u64),
 }
 
 impl Fault {
@@ -38,6 +42,8 @@ impl Fault {
             Fault::BadPick(_, _, _) => 6,
             Fault::BadLog(_, _) => 9,
             Fault::TooManyBlocks(_) => 11,
+            Fault::BadDirectives(_) => 12,
+            Fault::BadReport(_) => 13,
         }
     }
 }

@@ -8,7 +8,7 @@ mod log;
 mod program;
 mod refusal;
 
-pub use configuration::{ConfFault, ConfKind, check_kind, syntax_kind};
+pub use configuration::{ConfFault, ConfKind, check_kind, directive_kind, syntax_kind};
 pub use fault::Fault;
 pub use lines::faults_text;
 pub use log::LogCause;

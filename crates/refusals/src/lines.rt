@@ -18,7 +18,7 @@ fn bad_program(alloc: Global, fault: ProgramFault) -> Result<Vec<u8>, NoMemory>
     Ok(line)
 }
 
-/// Adds what is wrong with a configuration, and where.
+/// Adds what is wrong with a configuration or with directives, and where.
 fn add_configuration(alloc: Global, line: &mut Vec<u8>, fault: ConfFault) -> Result<(), NoMemory>
     ensures { OnOk result (line.new.items ≡ line.old.items ++ conf_text fault) }
 {
@@ -74,6 +74,25 @@ fn faulty_log(alloc: Global, place: u64, cause: LogCause) -> Result<Vec<u8>, NoM
     Ok(line)
 }
 
+fn bad_directives(alloc: Global, fault: ConfFault) -> Result<Vec<u8>, NoMemory>
+    ensures { IfOk result (λ text. text.items ≡ fault_line (Fault.BadDirectives fault)) }
+{
+    let mut line = Vec::new(alloc);
+    line.extend_from_slice(b"paradyn: bad directives: ")?;
+    add_configuration(alloc, &mut line, fault)?;
+    line.extend_from_slice(b"\n")?;
+    Ok(line)
+}
+
+fn bad_report(alloc: Global, place: u64) -> Result<Vec<u8>, NoMemory>
+    ensures { IfOk result (λ text. text.items ≡ fault_line (Fault.BadReport place)) }
+{
+    let mut line = Vec::new(alloc);
+    add_number(alloc, &mut line, b"paradyn: bad report at ", place as u128)?;
+    line.extend_from_slice(b"\n")?;
+    Ok(line)
+}
+
 fn too_many_blocks(alloc: Global, count: u32) -> Result<Vec<u8>, NoMemory>
     ensures { IfOk result (λ text. text.items ≡ fault_line (Fault.TooManyBlocks count)) }
 {
@@ -95,6 +114,8 @@ pub fn faults_text(alloc: Global, fault: &Fault) -> Result<Vec<u8>, NoMemory>
         Fault::BadPick(metric, focus, cause) => Ok(bad_pick(alloc, metric, focus, *cause)?),
         Fault::BadLog(place, cause) => Ok(faulty_log(alloc, *place, *cause)?),
         Fault::TooManyBlocks(count) => Ok(too_many_blocks(alloc, *count)?),
+        Fault::BadDirectives(fault) => Ok(bad_directives(alloc, *fault)?),
+        Fault::BadReport(place) => Ok(bad_report(alloc, *place)?),
     }
 }
 

@@ -3,7 +3,6 @@ use Rattle.std.specs.List.Sorted.{IsStrictlyIncreasing}
 use Rattle.code_points.specs.Points.{points_of}
 use Rattle.code_points.specs.Procedures.{procedures_of, AreProcsOf}
 use Rattle.mdl_ast.specs.declared.items.Conf.{Conf}
-use Rattle.mdl_check.proofs.Few.{spots_counted}
 use Rattle.pn_types.specs.declared.code.Point.{Point}
 use Rattle.pn_types.specs.declared.code.Proc.{Proc}
 use Rattle.refusals.proofs.Steps.{handed_as}
@@ -11,7 +10,7 @@ use Rattle.refusals.specs.Refusals.{Refuses}
 use Rattle.resource_tree.specs.Resources.{Resources}
 use Rattle.paradyn_top.specs.Found.{IsCheck, IsFound, AreFound}
 use Rattle.paradyn_top.specs.declared.finding.Found.{Found}
-use Rattle.paradyn_top.proofs.FewItems.{shipped_few}
+use Rattle.paradyn_top.proofs.FewItems.{shipped_few, spots_counted}
 use Rattle.paradyn_top.proofs.Given.{given}
 use Rattle.paradyn_top.proofs.finding.find.Goals as goal
 
