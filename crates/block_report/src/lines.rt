@@ -1,4 +1,4 @@
-ghost use Rattle.std.specs.Prelude.{◌≡◌, ◌++◌, is_none, is_some, OnOk, IfOk, count_by, flat_map, length, sum, ◌<◌, ◌^◌};
+ghost use Rattle.std.specs.Prelude.{◌≡◌, ◌++◌, ◌≤◌, is_none, is_some, OnOk, IfOk, count_by, flat_map, length, sum, ◌<◌, ◌^◌};
 ghost use Rattle.std.specs.List.{zip};
 ghost use Rattle.block_report.specs.Texts.{block_line, blocks_text, count_text, covered_line, is_covered, numbers_line, parts_of};
 
@@ -59,7 +59,8 @@ fn add_numbers(
 
 /// What a report says of each hart.
 fn hart_parts(alloc: Global, counts: &Counts) -> Result<Vec<HartPart>, NoMemory>
-    ensures { IfOk result (λ parts. parts.items ≡ parts_of counts.now) }
+    ensures parts { IfOk result (λ parts. parts.items ≡ parts_of counts.now) }
+    ensures few { IfOk result (λ parts. length parts.items ≤ length counts.now.ticks) }
 {
     let mut parts = Vec::new(alloc);
     let ends = counts.ticks.as_slice().iter().zip(counts.stops.as_slice());
