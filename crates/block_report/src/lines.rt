@@ -129,18 +129,21 @@ fn add_covered(alloc: Global, out: &mut Vec<u8>, counts: &[Option<u64>]) -> Resu
 /// # Errors
 ///
 /// `NoMemory` where memory is wanting.
-pub fn blocks_text(
-    alloc: Global,
-    heads: &[BlockHead],
-    counts: &Counts,
-) -> Result<Vec<u8>, NoMemory>
+pub fn blocks_text(alloc: Global, heads: &[BlockHead], counts: &Counts) -> Result<Vec<u8>, NoMemory>
     requires { length counts.now.ticks < 2 ^ 32 }
     ensures { IfOk result (λ text. text.items ≡ blocks_text heads.now counts.now) }
 {
     let mut out = Vec::new(alloc);
     let ticks = counts.ticks.as_slice();
     let passes = counts.counts.as_slice();
-    add_numbers(alloc, &mut out, heads.len(), ticks.len(), total(ticks), unmovable(passes))?;
+    add_numbers(
+        alloc,
+        &mut out,
+        heads.len(),
+        ticks.len(),
+        total(ticks),
+        unmovable(passes),
+    )?;
     let parts = hart_parts(alloc, counts)?;
     add_harts(alloc, &mut out, &parts)?;
     add_blocks(alloc, &mut out, heads, passes)?;

@@ -92,7 +92,9 @@ fn blocks_text(alloc: Global, blocks: &BlocksRequest<'_>) -> Result<String, NoMe
     let budget = blocks.budget;
     let seed = blocks.seed;
     let quantum = blocks.quantum;
-    format!(in alloc; "blocks [{program}] harts {harts} budget {budget} seed {seed} quantum {quantum}")
+    format!(in alloc;
+        "blocks [{program}] harts {harts} budget {budget} seed {seed} quantum {quantum}"
+    )
 }
 
 /// What words ask for.

@@ -1,5 +1,5 @@
 -- What follows of the answer that was given: it is complete, and tells of each fault of files and sinks.
-use Rattle.std.proofs.Common.{◌≡◌, ℕ, ◌+◌, ◌-◌, Bool, true, false, List, Option, Result, Ok, Err, inl, inr, ◌⊎◌, refl, ap, ◌∙◌, arith}
+use Rattle.std.proofs.Common.{◌≡◌, ℕ, ◌+◌, Bool, true, false, List, Option, Result, Ok, Err, inl, inr, ◌⊎◌, refl, ap, ◌∙◌, arith}
 use Rattle.std.proofs.Math.Nat.{min-eq_left}
 use Rattle.std.proofs.lemmas.Bool.{cases_eq}
 use Rattle.command_words.specs.Requests.{request_of}

@@ -1,8 +1,8 @@
 -- What is counted of a program's blocks is one thing.
-use Rattle.std.proofs.Common.{◌≡◌, ℕ, zero, suc, ◌+◌, List, Ok, Err, Result, length, map, refl, sym, ap, ◌∙◌, arith}
+use Rattle.std.proofs.Common.{◌≡◌, ℕ, zero, suc, ◌+◌, Option, List, Ok, Err, length, map, refl, sym, ap, ◌∙◌, arith}
 use Rattle.std.proofs.lemmas.List.{length-map}
 use Rattle.block_count.specs.Counted.{IsCounted, stop_of, passes_of}
-use Rattle.block_count.specs.Course.{Pace, block_events}
+use Rattle.block_count.specs.Course.{Pace}
 use Rattle.block_count.specs.Heads.{heads_of}
 use Rattle.block_count.specs.Spots.{spots_of}
 use Rattle.block_count.specs.declared.counts.Counts.{Counts}
@@ -10,12 +10,9 @@ use Rattle.block_count.specs.declared.counts.HartStop.{HartStop}
 use Rattle.block_report.specs.Texts.{blocks_text}
 use Rattle.code_points.specs.Procedures.{procedures_of}
 use Rattle.command_words.specs.Requests.{BlocksRequest}
-use Rattle.machine.specs.Cores.{start_core}
-use Rattle.machine.specs.Replays.{owns}
 use Rattle.pn_types.specs.declared.code.Proc.{Proc}
 use Rattle.pn_types.specs.declared.image.Image.{Image}
 use Rattle.refusals.proofs.Steps.{IsOne}
-use Rattle.refusals.specs.declared.fault.Fault.{Fault}
 use Rattle.refusals.specs.declared.fault.Fault.TheVariants.{FileFault}
 use Rattle.rv_exec.proofs.Runs.{length-run_from}
 use Rattle.rv_exec.specs.Run.{run, trace}
@@ -24,6 +21,13 @@ use Rattle.rv_mem.specs.Start.{program_of}
 use Rattle.paradyn_top.specs.Answers.{output}
 use Rattle.paradyn_top.specs.Blocks.{AreCounted, pace_of}
 use Rattle.paradyn_top.specs.declared.texts.Texts.{Texts}
+
+abbrev made : List ℕ → List HartStop → List (Option ℕ) → Counts
+made ticks stops counts = record { ticks = ticks; stops = stops; counts = counts }
+
+of_parts : (ticks : List ℕ) (stops : List HartStop) (counts : List (Option ℕ)) (r : Counts) → r.ticks ≡ ticks → r.stops ≡ stops → r.counts ≡ counts → r ≡ made ticks stops counts
+of_parts ticks stops counts r a b c =
+    ap (λ (x : List ℕ). made x r.stops r.counts) a ∙ ap (λ (x : List HartStop). made ticks x r.counts) b ∙ ap (λ (x : List (Option ℕ)). made ticks stops x) c
 
 -- ---- there are as many numbers of ticks as harts
 
@@ -40,14 +44,13 @@ module _ (image : Image) (procs : List Proc) (budget : ℕ) (p : Pace) where
   -- ---- the run of which they are is one
 
   abbrev counts_along : List ℕ → Counts
-  counts_along turns = record {
-    ticks = map (λ x. x.ticks) (run image p.harts turns).harts;
-    stops = map (stop_of budget) (run image p.harts turns).harts;
-    counts = map (passes_of (trace image p.harts turns)) (spots_of image procs);
-  }
+  counts_along turns =
+      made (map (λ x. x.ticks) (run image p.harts turns).harts) (map (stop_of budget) (run image p.harts turns).harts) (map (passes_of (trace image p.harts turns)) (spots_of image procs))
 
   along : (r : Counts) (is : IsCounted image procs budget p r) → r ≡ counts_along is.turns
-  along r is = let a = is.ticks in let b = is.stops in let c = is.counts in cc
+  along r is =
+      let s = run image p.harts is.turns in
+      of_parts (map (λ x. x.ticks) s.harts) (map (stop_of budget) s.harts) (map (passes_of (trace image p.harts is.turns)) (spots_of image procs)) r is.ticks is.stops is.counts
 
   counts_once : (r s : Counts) → IsCounted image procs budget p r → IsCounted image procs budget p s → r ≡ s
   counts_once r s is it = along r is ∙ ap counts_along (is.owned ∙ sym it.owned) ∙ sym (along s it)

@@ -97,7 +97,12 @@ fn too_many_blocks(alloc: Global, count: u32) -> Result<Vec<u8>, NoMemory>
     ensures { IfOk result (λ text. text.items ≡ fault_line (Fault.TooManyBlocks count)) }
 {
     let mut line = Vec::new(alloc);
-    add_number(alloc, &mut line, b"paradyn: too many blocks ", count as u128)?;
+    add_number(
+        alloc,
+        &mut line,
+        b"paradyn: too many blocks ",
+        count as u128,
+    )?;
     line.extend_from_slice(b"\n")?;
     Ok(line)
 }
