@@ -1,0 +1,4 @@
+pub mod Advice
+pub mod Directives
+pub mod Laws
+pub mod Lowering
