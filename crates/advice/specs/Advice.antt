@@ -2,8 +2,8 @@
 use Rattle.std.specs.Prelude.{ℕ, ◌≡◌, ◌<◌, ◌*◌, ◌/◌, ◌&&◌, if◌then◌else◌, min, is_some, bytes_eq, Bool, true, Option, List, [], ◌∷◌, ◌++◌, filter, map}
 use Rattle.std.specs.List.{reduce}
 use Rattle.first_places.specs.Places.{first_place}
-use Rattle.advice.specs.declared.advised.Advised.{Advised}
-use Rattle.advice.specs.declared.advised.TheConstants.{MAX_THRESHOLD}
+use Rattle.advice.specs.declared.hypothesis.Hypothesis.{Hypothesis}
+use Rattle.advice.specs.declared.hypothesis.TheConstants.{MAX_THRESHOLD}
 use Rattle.advice.specs.declared.verdict.Verdict.{Verdict}
 
 -- a true verdict is of some ticks
@@ -30,9 +30,9 @@ names_behind before (v ∷ vs) =
     else v.hypothesis ∷ names_behind (before ++ v.hypothesis ∷ []) vs
 
 -- a hypothesis with what these verdicts advise for it
-abbrev pub advised_of : List Verdict → List ℕ → Advised
-advised_of vs name = record { hypothesis = name; threshold = threshold_of vs name }
+abbrev pub hypothesis_of : List Verdict → List ℕ → Hypothesis
+hypothesis_of vs name = record { name = name; threshold = threshold_of vs name }
 
 -- each hypothesis once
-abbrev pub advised : List Verdict → List Advised
-advised vs = map (advised_of vs) (names_behind [] vs)
+abbrev pub hypotheses_of : List Verdict → List Hypothesis
+hypotheses_of vs = map (hypothesis_of vs) (names_behind [] vs)

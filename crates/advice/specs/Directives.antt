@@ -1,8 +1,8 @@
 -- The text of the directives that verdicts advise.
 use Rattle.std.specs.Prelude.{ℕ, Option, Some, None, List, [], ◌++◌, codes, flat_map, reverse}
 use Rattle.std.specs.Fmt.{decimal}
-use Rattle.advice.specs.Advice.{advised}
-use Rattle.advice.specs.declared.advised.Advised.{Advised}
+use Rattle.advice.specs.Advice.{hypotheses_of}
+use Rattle.advice.specs.declared.hypothesis.Hypothesis.{Hypothesis}
 use Rattle.advice.specs.declared.verdict.Verdict.{Verdict}
 
 -- a directive that only names a hypothesis
@@ -24,16 +24,16 @@ abbrev pub first_text : List ℕ → Option ℕ → List ℕ
 first_text name None = []
 first_text name (Some threshold) = directive (codes "first ") name
 
-abbrev pub prune_line : Advised → List ℕ
-prune_line a = prune_text a.hypothesis a.threshold
+abbrev pub prune_line : Hypothesis → List ℕ
+prune_line h = prune_text h.name h.threshold
 
-abbrev pub threshold_line : Advised → List ℕ
-threshold_line a = threshold_text a.hypothesis a.threshold
+abbrev pub threshold_line : Hypothesis → List ℕ
+threshold_line h = threshold_text h.name h.threshold
 
-abbrev pub first_line : Advised → List ℕ
-first_line a = first_text a.hypothesis a.threshold
+abbrev pub first_line : Hypothesis → List ℕ
+first_line h = first_text h.name h.threshold
 
 -- All prunes, all thresholds, and all firsts from the last to the first: each goes before those that went first so far.
 abbrev pub advice : List Verdict → List ℕ
 advice vs =
-    flat_map prune_line (advised vs) ++ (flat_map threshold_line (advised vs) ++ flat_map first_line (reverse (advised vs)))
+    flat_map prune_line (hypotheses_of vs) ++ (flat_map threshold_line (hypotheses_of vs) ++ flat_map first_line (reverse (hypotheses_of vs)))

@@ -3,7 +3,7 @@ use Rattle.std.specs.Prelude.{ℕ, ◌≡◌, ◌≤◌, Some, List}
 use Rattle.std.specs.List.{All}
 use Rattle.w3_axes.specs.Testing.{holds}
 use Rattle.advice.specs.Advice.{threshold_of}
-use Rattle.advice.specs.declared.advised.TheConstants.{MAX_THRESHOLD}
+use Rattle.advice.specs.declared.hypothesis.TheConstants.{MAX_THRESHOLD}
 use Rattle.advice.specs.declared.verdict.Verdict.{Verdict}
 
 -- the verdict is the answer of the test at a threshold

@@ -5,7 +5,7 @@ ghost use Rattle.std.specs.List.{All};
 ghost use Rattle.advice.specs.Advice.{HasTicks};
 ghost use Rattle.advice.specs.Directives.{advice, prune_line, threshold_line, first_line, directive};
 
-use crate::advised::{Advised, advised};
+use crate::hypothesis::{Hypothesis, hypotheses_of};
 use crate::verdict::Verdict;
 use pn_types::{NoMemory, Text};
 use std::alloc::Global;
@@ -20,40 +20,40 @@ fn add_directive(out: &mut Vec<u8>, word: &[u8], name: &Text) -> Result<(), NoMe
 }
 
 /// Prunes a hypothesis that never was true.
-fn add_prune(out: &mut Vec<u8>, one: &Advised) -> Result<(), NoMemory>
+fn add_prune(out: &mut Vec<u8>, one: &Hypothesis) -> Result<(), NoMemory>
     ensures { OnOk result (out.new.items ≡ out.old.items ++ prune_line one.now) }
 {
     match one.threshold {
-        None => add_directive(out, b"prune ", &one.hypothesis),
+        None => add_directive(out, b"prune ", &one.name),
         Some(_) => Ok(()),
     }
 }
 
 /// Sets the threshold of a hypothesis that was true.
-fn add_threshold(alloc: Global, out: &mut Vec<u8>, one: &Advised) -> Result<(), NoMemory>
+fn add_threshold(alloc: Global, out: &mut Vec<u8>, one: &Hypothesis) -> Result<(), NoMemory>
     ensures { OnOk result (out.new.items ≡ out.old.items ++ threshold_line one.now) }
 {
     let Some(threshold) = one.threshold else {
         return Ok(());
     };
     out.extend_from_slice(b"threshold ")?;
-    out.extend_from_slice(one.hypothesis.bytes())?;
+    out.extend_from_slice(one.name.bytes())?;
     let rest = format!(in alloc; " {threshold};\n")?;
     out.extend_from_slice(rest.as_bytes())
 }
 
 /// Puts a hypothesis that was true first.
-fn add_first(out: &mut Vec<u8>, one: &Advised) -> Result<(), NoMemory>
+fn add_first(out: &mut Vec<u8>, one: &Hypothesis) -> Result<(), NoMemory>
     ensures { OnOk result (out.new.items ≡ out.old.items ++ first_line one.now) }
 {
     match one.threshold {
         None => Ok(()),
-        Some(_) => add_directive(out, b"first ", &one.hypothesis),
+        Some(_) => add_directive(out, b"first ", &one.name),
     }
 }
 
 /// All prunes.
-fn add_prunes(out: &mut Vec<u8>, hypotheses: &[Advised]) -> Result<(), NoMemory>
+fn add_prunes(out: &mut Vec<u8>, hypotheses: &[Hypothesis]) -> Result<(), NoMemory>
     ensures { OnOk result (out.new.items ≡ out.old.items ++ flat_map prune_line hypotheses.now) }
 {
     for one in hypotheses {
@@ -66,7 +66,7 @@ fn add_prunes(out: &mut Vec<u8>, hypotheses: &[Advised]) -> Result<(), NoMemory>
 fn add_thresholds(
     alloc: Global,
     out: &mut Vec<u8>,
-    hypotheses: &[Advised],
+    hypotheses: &[Hypothesis],
 ) -> Result<(), NoMemory>
     ensures { OnOk result (out.new.items ≡ out.old.items ++ flat_map threshold_line hypotheses.now) }
 {
@@ -77,7 +77,7 @@ fn add_thresholds(
 }
 
 /// All firsts, from the last hypothesis to the first, so that the first ends up in front.
-fn add_firsts(out: &mut Vec<u8>, hypotheses: &[Advised]) -> Result<(), NoMemory>
+fn add_firsts(out: &mut Vec<u8>, hypotheses: &[Hypothesis]) -> Result<(), NoMemory>
     ensures { OnOk result (out.new.items ≡ out.old.items ++ flat_map first_line (reverse hypotheses.now)) }
 {
     for one in hypotheses.iter().rev() {
@@ -92,7 +92,7 @@ pub fn advise(alloc: Global, verdicts: &[Verdict]) -> Result<Vec<u8>, NoMemory>
     requires { All HasTicks verdicts.now }
     ensures { IfOk result (λ text. text.items ≡ advice verdicts.now) }
 {
-    let hypotheses = advised(alloc, verdicts)?;
+    let hypotheses = hypotheses_of(alloc, verdicts)?;
     let mut out = Vec::new(alloc);
     add_prunes(&mut out, hypotheses.as_slice())?;
     add_thresholds(alloc, &mut out, hypotheses.as_slice())?;

@@ -1,12 +1,12 @@
 //! What the report of an earlier search advises for a next one.
 #![tactic(auto)]
 
-mod advised;
+mod hypothesis;
 mod directive_lines;
 mod laws;
 mod verdict;
 
-pub use advised::MAX_THRESHOLD;
+pub use hypothesis::MAX_THRESHOLD;
 pub use directive_lines::advise;
 pub use laws::answers_stay;
 pub use verdict::Verdict;

@@ -3,8 +3,8 @@
 ghost use Rattle.std.specs.Prelude.{◌≡◌, ◌<◌, List, ℕ, true, IfOk, OnOk, if◌then◌else◌, bytes_eq, Some};
 ghost use Rattle.std.specs.List.{All};
 ghost use Rattle.std.specs.Map.{lookup};
-ghost use Rattle.advice.specs.Advice.{advised, rate, threshold_of, HasTicks};
-ghost use Rattle.advice.specs.Lowering.{lowered};
+ghost use Rattle.advice.specs.Advice.{hypotheses_of, rate, threshold_of, HasTicks};
+ghost use Rattle.advice.specs.Lowering.{least_with, lowered};
 
 use crate::verdict::Verdict;
 use first_places::FirstPlaces;
@@ -17,9 +17,9 @@ pub const MAX_THRESHOLD: u32 = 2_147_483_647;
 
 /// A hypothesis, and what is advised for it.
 #[derive(Drop, Debug)]
-pub struct Advised {
+pub struct Hypothesis {
     /// Its name.
-    pub hypothesis: Text,
+    pub name: Text,
     /// The greatest threshold that keeps its true verdicts true. None where it has none.
     pub threshold: Option<u32>,
 }
@@ -33,6 +33,16 @@ fn rate(verdict: &Verdict) -> u32
     rate.min(MAX_THRESHOLD as u128) as u32
 }
 
+/// The least of a number and of another, if there is one.
+fn least_with(number: u32, before: Option<u32>) -> u32
+    ensures { result ≡ least_with number before }
+{
+    match before {
+        None => number,
+        Some(before) => before.min(number),
+    }
+}
+
 /// Lowers the threshold of a true verdict's hypothesis to what the verdict allows.
 fn lower(
     alloc: Global,
@@ -43,10 +53,7 @@ fn lower(
     ensures { OnOk result ((name : List ℕ) → lookup (λ key. bytes_eq name key.items) thresholds.new.entries ≡ lowered verdict.now name (lookup (λ key. bytes_eq name key.items) thresholds.old.entries)) }
 {
     let name = verdict.hypothesis.bytes();
-    let mut least = rate(verdict);
-    if let Some(before) = thresholds.get(name) {
-        least = least.min(*before);
-    }
+    let least = least_with(rate(verdict), thresholds.get(name).copied());
     thresholds.insert(Vec::from_slice(alloc, name)?, least)?;
     Ok(())
 }
@@ -68,21 +75,33 @@ fn thresholds(
     Ok(thresholds)
 }
 
+/// The hypothesis of this name, with its threshold.
+fn hypothesis_of(
+    alloc: Global,
+    thresholds: &IndexMap<Vec<u8>, u32>,
+    name: &Text,
+) -> Result<Hypothesis, NoMemory>
+    ensures name { IfOk result (λ one. one.name ≡ name.now) }
+    ensures threshold { IfOk result (λ one. one.threshold ≡ lookup (λ key. bytes_eq name.now key.items) thresholds.now.entries) }
+{
+    Ok(Hypothesis {
+        name: name.copy(alloc)?,
+        threshold: thresholds.get(name.bytes()).copied(),
+    })
+}
+
 /// The hypotheses in the order of their first mention, with their thresholds.
-pub fn advised(alloc: Global, verdicts: &[Verdict]) -> Result<Vec<Advised>, NoMemory>
+pub fn hypotheses_of(alloc: Global, verdicts: &[Verdict]) -> Result<Vec<Hypothesis>, NoMemory>
     requires { All HasTicks verdicts.now }
-    ensures { IfOk result (λ advised_ones. advised_ones.items ≡ advised verdicts.now) }
+    ensures { IfOk result (λ all. all.items ≡ hypotheses_of verdicts.now) }
 {
     let thresholds = thresholds(alloc, verdicts)?;
     let mut mentioned = FirstPlaces::new(alloc);
     let mut hypotheses = Vec::new(alloc);
     for verdict in verdicts {
-        let name = verdict.hypothesis.bytes();
-        if !mentioned.push(alloc, name)? {
-            hypotheses.push(Advised {
-                hypothesis: verdict.hypothesis.copy(alloc)?,
-                threshold: thresholds.get(name).copied(),
-            })?;
+        let before = mentioned.push(alloc, verdict.hypothesis.bytes())?;
+        if !before {
+            hypotheses.push(hypothesis_of(alloc, &thresholds, &verdict.hypothesis)?)?;
         }
     }
     Ok(hypotheses)
