@@ -1,7 +1,7 @@
 -- That advised thresholds keep answers.
 use Rattle.std.proofs.Common.{◌≡◌, ℕ, zero, suc, ◌+◌, ◌*◌, ◌/◌, ◌<◌, ◌≤◌, ◌&&◌, nat_lt, nat_le, cond, min, Bool, true, false, Option, Some, None, List, [], ◌∷◌, length, get_or, map, filter, refl, sym, ap, ◌∙◌, subst, bytes_eq, arith}
 use Rattle.std.specs.List.{fold, reduce, All}
-use Rattle.std.proofs.Math.Nat.{le-div_iff_mul-le}
+use Rattle.std.proofs.Math.Nat.{le-div_iff_mul-le, mul-le-mul_right}
 use Rattle.std.proofs.lemmas.Bool.{leb-true, le-leb, ltb-true, ltb-false}
 use Rattle.std.proofs.lemmas.List.Elements.{All-head, All-tail, All-weaker}
 use Rattle.std.proofs.lemmas.Slice.Eq.{bytes_eq-Decides}
@@ -26,7 +26,7 @@ refused_above : (value ticks g n : ℕ) → g ≤ n → holds value ticks g ≡ 
 refused_above value ticks g n h refused false is = refl
 refused_above value ticks g n h refused true is =
     let now = holds_tells value ticks n is in
-    let less : g * ticks ≤ n * ticks = grind arith in
+    let less : g * ticks ≤ n * ticks = mul-le-mul_right ticks h in
     let was = tells_holds value ticks g (record { some_ticks = now.some_ticks; enough = omega (arith, less, now.enough) }) in
     cc
 

@@ -79,3 +79,11 @@ pub false_more : (vs : List Verdict) (i : ℕ) (d : Verdict) (name : List ℕ) �
 false_more vs i d name h e =
     one_more vs i d name h
     ∙ ap (λ (b : Bool). cond (b && bytes_eq name (get_or vs i d).hypothesis) (Some (least_with (rate (get_or vs i d)) (threshold_of (take i vs) name))) (threshold_of (take i vs) name)) e
+
+-- the new least threshold of a verdict's name
+pub lowered_at : (v : Verdict) (name : List ℕ) (find : List ℕ → Option ℕ) (least : ℕ) → least ≡ least_with (rate v) (find v.hypothesis) → cond (bytes_eq name v.hypothesis) (Some least) (find name) ≡ lowered v name (find name)
+lowered_at v name find least is = by (bytes_eq name v.hypothesis) refl
+  where
+    by : (b : Bool) → bytes_eq name v.hypothesis ≡ b → cond b (Some least) (find name) ≡ cond b (Some (least_with (rate v) (find name))) (find name)
+    by false e = refl
+    by true e = ap Some (is ∙ ap (λ (n : List ℕ). least_with (rate v) (find n)) (sym ((bytes_eq-Decides name v.hypothesis).0 e)))
