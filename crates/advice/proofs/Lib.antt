@@ -1,3 +1,5 @@
 pub mod Answers
 pub mod Lowered
 pub mod Mentioned
+pub mod Parts
+pub mod Passing

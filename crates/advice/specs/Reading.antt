@@ -1,7 +1,6 @@
 -- The verdicts of a report, or the place of its first fault.
 use Rattle.std.specs.Prelude.{ℕ, zero, suc, ◌+◌, ◌≡◌, ◌≢◌, if◌then◌else◌, Option, Some, None, Result, Ok, Err, MatchResult, List, [], ◌∷◌, ◌++◌, length}
 use Rattle.std.specs.Global.{Vec}
-use Rattle.std.specs.Result.{result_map}
 use Rattle.std.specs.Option.{option_to_list}
 use Rattle.advice.specs.Lines.{after, first_line, may_end, told_in}
 use Rattle.advice.specs.declared.due.Due.{Due}

@@ -1,12 +1,14 @@
 //! The lines of a report: which may stand behind which.
 
-ghost use Rattle.std.specs.Prelude.{◌≡◌, ◌<◌, ◌≤◌, ◌+◌, length, IfOk, IfSome};
+ghost use Rattle.std.specs.Prelude.{◌≡◌, ◌<◌, ◌≤◌, ◌+◌, length, position, IfOk, IfSome};
 ghost use Rattle.std.specs.Option.{option_map};
+ghost use Rattle.pn_text.specs.Bytes.{begins_with};
+ghost use Rattle.pn_text.specs.Lines.{is_lf};
 ghost use Rattle.advice.specs.Advice.{HasTicks};
 ghost use Rattle.advice.specs.Lines.{after, due_if, first_line, is_false, is_search, is_shown, is_true, is_untold, may_end, to_lf, to_lf_at, told, told_in, verdict_of};
 
 use crate::verdict::Verdict;
-use crate::words::{has_form, number_at, word_at};
+use crate::words::{has_form, number_at, says, word_at};
 use pn_types::{NoMemory, Text};
 use std::alloc::Global;
 
@@ -27,13 +29,18 @@ pub enum Due {
     Nodes(u64),
 }
 
+/// Whether the line begins with this text.
+fn begins(line: &[u8], text: &[u8]) -> bool
+    ensures { result ≡ begins_with text.now line.now }
+{
+    line.starts_with(text)
+}
+
 /// Whether the line tells of something that was refused or shown.
 fn is_shown(line: &[u8]) -> bool
     ensures { result ≡ is_shown line.now }
 {
-    line.starts_with(b"refused ")
-        || line.starts_with(b"histogram ")
-        || line.starts_with(b"bin ")
+    begins(line, b"refused ") || begins(line, b"histogram ") || begins(line, b"bin ")
 }
 
 /// Whether the line tells the number of nodes.
@@ -92,18 +99,25 @@ fn verdict_of(alloc: Global, line: &[u8]) -> Result<Option<Verdict>, NoMemory>
     }
 }
 
+/// Where the first LF stands.
+fn first_lf(bytes: &[u8]) -> Option<usize>
+    ensures { result ≡ position is_lf bytes.now }
+{
+    bytes.iter().position(|byte| *byte == b'\n')
+}
+
 /// The bytes up to the first LF.
 fn to_lf(bytes: &[u8]) -> Option<&[u8]>
-    ensures { option_map (λ line. line.now) result ≡ to_lf bytes.now }
+    ensures line { option_map (λ line. line.now) result ≡ to_lf bytes.now }
     ensures within { IfSome result (λ line. length line.now < length bytes.now) }
 {
-    let end = bytes.iter().position(|byte| *byte == b'\n')?;
+    let end = first_lf(bytes)?;
     Some(&bytes[..end])
 }
 
 /// So many bytes, if an LF stands behind them.
 fn to_lf_at(count: u64, bytes: &[u8]) -> Option<&[u8]>
-    ensures { option_map (λ line. line.now) result ≡ to_lf_at count bytes.now }
+    ensures line { option_map (λ line. line.now) result ≡ to_lf_at count bytes.now }
     ensures within { IfSome result (λ line. length line.now < length bytes.now) }
 {
     let end = count as usize;
@@ -124,7 +138,7 @@ impl Due {
 
     /// The first line of the bytes, without its LF, or None where that is missing.
     pub fn first_line(self, bytes: &[u8]) -> Option<&[u8]>
-        ensures { option_map (λ line. line.now) result ≡ first_line self bytes.now }
+        ensures line { option_map (λ line. line.now) result ≡ first_line self bytes.now }
         ensures within { IfSome result (λ line. length line.now < length bytes.now) }
     {
         match self {
@@ -138,7 +152,7 @@ impl Due {
         ensures { result ≡ after self line.now }
     {
         match self {
-            Due::Title => Due::Counts.only_if(line == b"paradyn report 1"),
+            Due::Title => Due::Counts.only_if(says(line, b"paradyn report 1")),
             Due::Counts => Due::Harts(number_at(1, line)).only_if(has_form(
                 b"harts NUMBER ticks NUMBER samples NUMBER skipped NUMBER",
                 line,
@@ -146,7 +160,7 @@ impl Due {
             Due::Harts(0) => {
                 Due::Output(number_at(1, line)).only_if(has_form(b"output NUMBER", line))
             }
-            Due::Harts(left) => Due::Harts(left - 1).only_if(line.starts_with(b"hart ")),
+            Due::Harts(left) => Due::Harts(left - 1).only_if(begins(line, b"hart ")),
             Due::Output(_) => Some(Due::Shown),
             Due::Shown if is_shown(line) => Some(Due::Shown),
             Due::Shown => Due::Nodes(number_at(2, line)).only_if(is_search(line)),

@@ -13,6 +13,13 @@ use pn_types::is_good_name;
 /// The greatest number of digits of a number.
 const MOST_DIGITS: usize = 20;
 
+/// Whether a word is this text.
+pub fn says(word: &[u8], text: &[u8]) -> bool
+    ensures { result ≡ bytes_eq word.now text.now }
+{
+    word == text
+}
+
 fn is_digit(byte: u8) -> bool
     ensures { result ≡ is_digit byte }
 {
@@ -78,14 +85,15 @@ fn is_name(word: &[u8]) -> bool
 }
 
 /// Whether the parts that are left are good names, and no more than this.
-fn are_names(mut most: usize, mut names: Pieces) -> bool
-    ensures { result ≡ are_names most names }
+fn are_names(most: usize, mut names: Pieces) -> bool
+    ensures { result ≡ are_names most names.entry }
 {
+    let mut left = most;
     while let Some(name) = names.next() {
-        if most == 0 || !is_good_name(name) {
+        if left == 0 || !is_good_name(name) {
             return false;
         }
-        most -= 1;
+        left -= 1;
     }
     true
 }
@@ -128,13 +136,13 @@ fn is_focus(word: &[u8]) -> bool
 fn is_as(form: &[u8], word: &[u8]) -> bool
     ensures { result ≡ is_as form.now word.now }
 {
-    if form == b"NUMBER" {
+    if says(form, b"NUMBER") {
         number(word).is_some()
-    } else if form == b"PARENT" {
-        word == b"none" || number(word).is_some()
-    } else if form == b"NAME" {
+    } else if says(form, b"PARENT") {
+        says(word, b"none") || number(word).is_some()
+    } else if says(form, b"NAME") {
         is_name(word)
-    } else if form == b"FOCUS" {
+    } else if says(form, b"FOCUS") {
         is_focus(word)
     } else {
         form == word
@@ -152,7 +160,7 @@ pub fn has_form(form: &[u8], line: &[u8]) -> bool
         let Some(word) = words.next() else {
             return false;
         };
-        if part == b"ANYTHING" {
+        if says(part, b"ANYTHING") {
             return true;
         }
         if !is_as(part, word) {
@@ -170,7 +178,10 @@ pub fn word_at(place: usize, line: &[u8]) -> &[u8]
     for _ in 0..place {
         words.next();
     }
-    words.next().unwrap_or(&[])
+    match words.next() {
+        Some(word) => word,
+        None => &[],
+    }
 }
 
 /// The number at a place of a line, or 0.
