@@ -3,3 +3,4 @@ pub mod Lowered
 pub mod Mentioned
 pub mod Parts
 pub mod Passing
+pub mod ReadLines

@@ -1,5 +1,5 @@
 -- The lines of a report: which may stand behind which.
-use Rattle.std.specs.Prelude.{ℕ, ◌-◌, ◌==◌, ◌&&◌, ◌||◌, not, nat_lt, if◌then◌else◌, bytes_eq, Bool, true, false, Option, Some, None, List, [], ◌∷◌, ◌++◌, codes, position, slice_get, take}
+use Rattle.std.specs.Prelude.{ℕ, ◌-◌, ◌==◌, ◌&&◌, ◌||◌, not, nat_lt, if◌then◌else◌, bytes_eq, Bool, true, false, Option, Some, None, List, [], ◌∷◌, codes, position, slice_get, take}
 use Rattle.std.specs.Option.{option_map, option_map_or}
 use Rattle.pn_text.specs.Bytes.{begins_with}
 use Rattle.pn_text.specs.Lines.{is_lf}
@@ -36,6 +36,9 @@ is_false line = has_form false_form line
 abbrev pub is_untold : List ℕ → Bool
 is_untold line = has_form waiting_form line || has_form barred_form line
 
+abbrev pub is_node : List ℕ → Bool
+is_node line = is_true line || is_false line || is_untold line
+
 -- the verdict that the line of a node tells
 abbrev pub told : Bool → List ℕ → Verdict
 told holds line = record { hypothesis = word_at 6 line; holds = holds; value = number_at 10 line; ticks = number_at 12 line }
@@ -66,7 +69,7 @@ after (Harts n) line =
     else due_if (begins_with (codes "hart ") line) (Harts (n - 1))
 after (Output n) line = Some Shown
 after Shown line = if is_shown line then Some Shown else due_if (is_search line) (Nodes (number_at 2 line))
-after (Nodes n) line = due_if (nat_lt 0 n && (is_true line || is_false line || is_untold line)) (Nodes (n - 1))
+after (Nodes n) line = due_if (nat_lt 0 n && is_node line) (Nodes (n - 1))
 
 -- a report may end here
 abbrev pub may_end : Due → Bool

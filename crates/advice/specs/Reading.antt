@@ -1,7 +1,7 @@
 -- The verdicts of a report, or the place of its first fault.
-use Rattle.std.specs.Prelude.{ℕ, zero, suc, ◌+◌, ◌≡◌, ◌≢◌, if◌then◌else◌, Option, Some, None, Result, Ok, Err, MatchResult, List, [], ◌∷◌, ◌++◌, length}
+use Rattle.std.specs.Prelude.{ℕ, zero, suc, ◌+◌, ◌≡◌, ◌≢◌, if◌then◌else◌, Option, Result, Ok, Err, MatchResult, List, [], ◌∷◌, ◌++◌, length}
 use Rattle.std.specs.Global.{Vec}
-use Rattle.std.specs.Option.{option_to_list}
+use Rattle.std.specs.Option.{option_and_then, option_map, option_map_or, option_to_list}
 use Rattle.advice.specs.Lines.{after, first_line, may_end, told_in}
 use Rattle.advice.specs.declared.due.Due.{Due}
 use Rattle.advice.specs.declared.due.Due.TheVariants.{Title}
@@ -14,18 +14,26 @@ abbrev pub onto : List Verdict → Result (List Verdict) ReportFault → Result 
 onto vs (Ok rest) = Ok (vs ++ rest)
 onto vs (Err fault) = Err fault
 
+-- a line that is as said: its length without the LF, the verdict that it tells, and what is due behind it
+pub record Step : Type 0 where
+  pub length : ℕ
+  pub told : Option Verdict
+  pub next : Due
+
+abbrev pub step_on : Due → List ℕ → Option Step
+step_on due line = option_map (λ next. record { length = length line; told = told_in due line; next = next }) (after due line)
+
+-- the first line of bytes
+abbrev pub step : Due → List ℕ → Option Step
+step due bytes = option_and_then (step_on due) (first_line due bytes)
+
 -- The verdicts of bytes that begin at a place of a report, where this is due; so many of the bytes belong to a line that was
--- read, and are passed. A line is at fault where it has no LF or isn't as said, and the end where it comes too early.
+-- read, and are passed. The fault is where a line begins that has no LF or isn't as said, or at the end that comes too early.
 abbrev pub verdicts_from : Due → ℕ → ℕ → List ℕ → Result (List Verdict) ReportFault
 verdicts_from due at passed [] = if may_end due then Ok [] else Err (BadReport at)
 verdicts_from due at (suc passed) (byte ∷ bytes) = verdicts_from due (at + 1) passed bytes
-verdicts_from due at zero (byte ∷ bytes) = elim (first_line due (byte ∷ bytes)) [
-  | None ↦ Err (BadReport at)
-  | Some line ↦ elim (after due line) [
-    | None ↦ Err (BadReport at)
-    | Some next ↦ onto (option_to_list (told_in due line)) (verdicts_from next (at + 1) (length line) bytes)
-  ]
-]
+verdicts_from due at zero (byte ∷ bytes) =
+    option_map_or (λ s. onto (option_to_list s.told) (verdicts_from s.next (at + 1) s.length bytes)) (step due (byte ∷ bytes)) (Err (BadReport at))
 
 -- the verdicts of a report in the order of their lines, or its first fault
 abbrev pub verdicts_of : List ℕ → Result (List Verdict) ReportFault

@@ -5,7 +5,7 @@ ghost use Rattle.std.specs.Option.{option_map};
 ghost use Rattle.pn_text.specs.Bytes.{begins_with};
 ghost use Rattle.pn_text.specs.Lines.{is_lf};
 ghost use Rattle.advice.specs.Advice.{HasTicks};
-ghost use Rattle.advice.specs.Lines.{after, due_if, first_line, is_false, is_search, is_shown, is_true, is_untold, may_end, to_lf, to_lf_at, told, told_in, verdict_of};
+ghost use Rattle.advice.specs.Lines.{after, due_if, first_line, is_false, is_node, is_search, is_shown, is_true, is_untold, may_end, to_lf, to_lf_at, told, told_in, verdict_of};
 
 use crate::verdict::Verdict;
 use crate::words::{has_form, number_at, says, word_at};
@@ -71,6 +71,13 @@ fn is_untold(line: &[u8]) -> bool
 {
     has_form(b"node NUMBER phase NAME parent PARENT NAME FOCUS waiting seen NUMBER of NUMBER", line)
         || has_form(b"node NUMBER phase NAME parent PARENT NAME FOCUS barred ANYTHING", line)
+}
+
+/// Whether the line is that of a node.
+fn is_node(line: &[u8]) -> bool
+    ensures { result ≡ is_node line.now }
+{
+    is_true(line) || is_false(line) || is_untold(line)
 }
 
 /// The verdict in the line of a node that has one.
@@ -165,8 +172,7 @@ impl Due {
             Due::Shown if is_shown(line) => Some(Due::Shown),
             Due::Shown => Due::Nodes(number_at(2, line)).only_if(is_search(line)),
             Due::Nodes(0) => None,
-            Due::Nodes(left) => Due::Nodes(left - 1)
-                .only_if(is_true(line) || is_false(line) || is_untold(line)),
+            Due::Nodes(left) => Due::Nodes(left - 1).only_if(is_node(line)),
         }
     }
 
