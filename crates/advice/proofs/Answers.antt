@@ -1,8 +1,7 @@
 -- That advised thresholds keep answers.
-use Rattle.std.proofs.Common.{◌≡◌, ℕ, zero, suc, ◌+◌, ◌*◌, ◌/◌, ◌<◌, ◌≤◌, ◌&&◌, nat_lt, nat_le, cond, min, Bool, true, false, Option, Some, None, List, [], ◌∷◌, length, get_or, map, filter, refl, sym, ap, ◌∙◌, subst, bytes_eq, arith}
+use Rattle.std.proofs.Common.{◌≡◌, ℕ, zero, suc, ◌*◌, ◌/◌, ◌<◌, ◌≤◌, ◌&&◌, cond, min, Bool, true, false, Some, List, [], ◌∷◌, length, get_or, map, filter, refl, sym, ap, ◌∙◌, subst, bytes_eq, arith}
 use Rattle.std.specs.List.{fold, reduce, All}
 use Rattle.std.proofs.Math.Nat.{le-div_iff_mul-le, mul-le-mul_right}
-use Rattle.std.proofs.lemmas.Bool.{leb-true, le-leb, ltb-true, ltb-false}
 use Rattle.std.proofs.lemmas.List.Elements.{All-head, All-tail, All-weaker}
 use Rattle.std.proofs.lemmas.Slice.Eq.{bytes_eq-Decides}
 use Rattle.w3_axes.specs.Testing.{Holds, holds}

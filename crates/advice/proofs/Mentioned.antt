@@ -1,5 +1,5 @@
 -- One more mention of a hypothesis.
-use Rattle.std.proofs.Common.{◌≡◌, ℕ, suc, ◌+◌, ◌<◌, cond, Bool, true, false, Option, is_some, List, [], ◌∷◌, ◌++◌, length, drop, get_or, map, refl, sym, ap, ◌∙◌, subst, append_assoc, add-one, drop-cons}
+use Rattle.std.proofs.Common.{◌≡◌, ℕ, suc, ◌+◌, ◌<◌, cond, Bool, true, false, Option, is_some, List, [], ◌∷◌, ◌++◌, length, drop, get_or, map, sym, ap, ◌∙◌, append_assoc, add-one, drop-cons}
 use Rattle.first_places.specs.Places.{first_place}
 use Rattle.advice.specs.Advice.{hypothesis_of, names_behind, threshold_of}
 use Rattle.advice.specs.declared.hypothesis.Hypothesis.{Hypothesis}

@@ -1,6 +1,6 @@
 -- The first part of a text.
-use Rattle.std.proofs.Common.{◌≡◌, ℕ, suc, ◌+◌, ◌<◌, ◌==◌, cond, Bool, true, false, Option, Some, None, List, [], ◌∷◌, length, take, drop, position, nat_lt, refl, sym, ap, ◌∙◌, arith, ◌≤◌, not, subst}
-use Rattle.std.specs.List.{onto_first, position_or_len, slice_split, before_first, after_first}
+use Rattle.std.proofs.Common.{◌≡◌, ℕ, ◌+◌, cond, Bool, true, false, Some, None, List, [], ◌∷◌, length, take, drop, position, nat_lt, refl, arith, ◌≤◌, not, subst}
+use Rattle.std.specs.List.{position_or_len, slice_split}
 use Rattle.std.proofs.lemmas.Bool.{ltb-true, ltb-false}
 use Rattle.std.proofs.lemmas.List.Splits.{slice_split_first}
 use Rattle.std.proofs.lemmas.List.Sums.{prefix_len-le-length}

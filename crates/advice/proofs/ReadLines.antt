@@ -1,11 +1,11 @@
 -- What is read from a line on.
-use Rattle.std.proofs.Common.{◌≡◌, ℕ, zero, suc, ◌+◌, ◌<◌, ◌≤◌, ◌&&◌, nat_lt, cond, Bool, true, false, Option, Some, None, Result, Ok, Err, List, [], ◌∷◌, ◌++◌, length, drop, refl, sym, ap, ◌∙◌, arith, append_assoc, add-one, IfSome}
+use Rattle.std.proofs.Common.{◌≡◌, ℕ, zero, suc, ◌+◌, ◌<◌, ◌≤◌, ◌&&◌, nat_lt, Bool, true, false, Option, Some, None, Result, Ok, Err, List, [], ◌∷◌, ◌++◌, length, drop, refl, sym, ap, ◌∙◌, arith, append_assoc, add-one, IfSome}
 use Rattle.std.specs.Option.{option_and_then, option_map_or, option_to_list}
 use Rattle.std.specs.List.{All}
 use Rattle.std.proofs.lemmas.List.Elements.{All-append, All-cons, All-nil}
 use Rattle.std.proofs.lemmas.Bool.{ltb-true}
 use Rattle.advice.specs.Advice.{HasTicks}
-use Rattle.advice.specs.Lines.{after, first_line, is_true, may_end, told_in, true_form}
+use Rattle.advice.specs.Lines.{after, first_line, is_true, told_in, true_form}
 use Rattle.advice.specs.Reading.{Step, onto, step, step_on, verdicts_from}
 use Rattle.advice.specs.Words.{has_form, number_at}
 use Rattle.advice.specs.declared.due.Due.{Due}

@@ -1,5 +1,5 @@
 -- The lines of a report: which may stand behind which.
-use Rattle.std.specs.Prelude.{ℕ, ◌-◌, ◌==◌, ◌&&◌, ◌||◌, not, nat_lt, if◌then◌else◌, bytes_eq, Bool, true, false, Option, Some, None, List, [], ◌∷◌, codes, position, slice_get, take}
+use Rattle.std.specs.Prelude.{ℕ, ◌-◌, ◌==◌, ◌&&◌, ◌||◌, nat_lt, if◌then◌else◌, bytes_eq, Bool, true, false, Option, Some, None, List, codes, position, slice_get, take}
 use Rattle.std.specs.Option.{option_map, option_map_or}
 use Rattle.pn_text.specs.Bytes.{begins_with}
 use Rattle.pn_text.specs.Lines.{is_lf}
@@ -9,7 +9,6 @@ use Rattle.advice.specs.declared.due.Due.TheVariants.{Title, Counts, Harts, Outp
 use Rattle.advice.specs.declared.verdict.Verdict.{Verdict}
 
 -- ---- forms
-
 
 abbrev pub true_form : List ℕ
 true_form = codes "node NUMBER phase NAME parent PARENT NAME FOCUS true value NUMBER ticks NUMBER from NUMBER to NUMBER"

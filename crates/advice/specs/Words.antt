@@ -1,5 +1,5 @@
 -- The words of a line, and what each may be.
-use Rattle.std.specs.Prelude.{ℕ, zero, suc, ◌==◌, ◌&&◌, ◌||◌, nat_le, if◌then◌else◌, is_some, bytes_eq, Bool, true, false, Option, Some, None, List, [], ◌∷◌, codes, length, slice_get}
+use Rattle.std.specs.Prelude.{ℕ, zero, suc, ◌==◌, ◌&&◌, ◌||◌, nat_le, if◌then◌else◌, is_some, bytes_eq, Bool, true, false, Option, None, List, [], ◌∷◌, codes, length, slice_get}
 use Rattle.std.specs.List.{slice_split}
 use Rattle.std.specs.Option.{option_and_then, unwrap_or}
 use Rattle.pn_text.specs.Lines.{is_none}

@@ -76,11 +76,11 @@ fn add_thresholds(
     Ok(())
 }
 
-/// All firsts, from the last hypothesis to the first, so that the first ends up in front.
+/// All firsts.
 fn add_firsts(out: &mut Vec<u8>, hypotheses: &[Hypothesis]) -> Result<(), NoMemory>
-    ensures { OnOk result (out.new.items ≡ out.old.items ++ flat_map first_line (reverse hypotheses.now)) }
+    ensures { OnOk result (out.new.items ≡ out.old.items ++ flat_map first_line hypotheses.now) }
 {
-    for one in hypotheses.iter().rev() {
+    for one in hypotheses {
         add_first(out, one)?;
     }
     Ok(())
@@ -92,10 +92,12 @@ pub fn advise(alloc: Global, verdicts: &[Verdict]) -> Result<Vec<u8>, NoMemory>
     requires { All HasTicks verdicts.now }
     ensures { IfOk result (λ text. text.items ≡ advice verdicts.now) }
 {
-    let hypotheses = hypotheses_of(alloc, verdicts)?;
+    let mut hypotheses = hypotheses_of(alloc, verdicts)?;
     let mut out = Vec::new(alloc);
     add_prunes(&mut out, hypotheses.as_slice())?;
     add_thresholds(alloc, &mut out, hypotheses.as_slice())?;
+    // Each goes before those that went first so far.
+    hypotheses.reverse();
     add_firsts(&mut out, hypotheses.as_slice())?;
     Ok(out)
 }

@@ -54,23 +54,33 @@ fn is_search(line: &[u8]) -> bool
 fn is_true(line: &[u8]) -> bool
     ensures { result ≡ is_true line.now }
 {
-    has_form(b"node NUMBER phase NAME parent PARENT NAME FOCUS true value NUMBER ticks NUMBER from NUMBER to NUMBER", line)
-        && number_at(12, line) > 0
+    has_form(
+        b"node NUMBER phase NAME parent PARENT NAME FOCUS true value NUMBER ticks NUMBER from NUMBER to NUMBER",
+        line,
+    ) && number_at(12, line) > 0
 }
 
 /// Whether the line is that of a node whose test was false.
 fn is_false(line: &[u8]) -> bool
     ensures { result ≡ is_false line.now }
 {
-    has_form(b"node NUMBER phase NAME parent PARENT NAME FOCUS false value NUMBER ticks NUMBER from NUMBER to NUMBER", line)
+    has_form(
+        b"node NUMBER phase NAME parent PARENT NAME FOCUS false value NUMBER ticks NUMBER from NUMBER to NUMBER",
+        line,
+    )
 }
 
 /// Whether the line is that of a node without a verdict.
 fn is_untold(line: &[u8]) -> bool
     ensures { result ≡ is_untold line.now }
 {
-    has_form(b"node NUMBER phase NAME parent PARENT NAME FOCUS waiting seen NUMBER of NUMBER", line)
-        || has_form(b"node NUMBER phase NAME parent PARENT NAME FOCUS barred ANYTHING", line)
+    has_form(
+        b"node NUMBER phase NAME parent PARENT NAME FOCUS waiting seen NUMBER of NUMBER",
+        line,
+    ) || has_form(
+        b"node NUMBER phase NAME parent PARENT NAME FOCUS barred ANYTHING",
+        line,
+    )
 }
 
 /// Whether the line is that of a node.

@@ -59,10 +59,7 @@ fn lower(
 }
 
 /// The threshold of each hypothesis that has a true verdict, by its name.
-fn thresholds(
-    alloc: Global,
-    verdicts: &[Verdict],
-) -> Result<IndexMap<Vec<u8>, u32>, NoMemory>
+fn thresholds(alloc: Global, verdicts: &[Verdict]) -> Result<IndexMap<Vec<u8>, u32>, NoMemory>
     requires { All HasTicks verdicts.now }
     ensures { IfOk result (λ thresholds. (name : List ℕ) → lookup (λ key. bytes_eq name key.items) thresholds.entries ≡ threshold_of verdicts.now name) }
 {

@@ -1,5 +1,4 @@
-use Rattle.std.proofs.Common.{◌≡◌, ◌<◌, ℕ, true, sym, ap, ◌∙◌, subst}
-use Rattle.advice.specs.Words.{number_at}
+use Rattle.std.proofs.Common.{◌<◌, ℕ, sym, ap, ◌∙◌, subst}
 use Rattle.advice.proofs.ReadLines.{true_ticks}
 use Rattle.advice.proofs.due.verdict_of.Goals as goal
 

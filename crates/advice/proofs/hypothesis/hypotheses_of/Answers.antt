@@ -1,4 +1,4 @@
-use Rattle.std.proofs.Common.{◌≡◌, ◌++◌, ◌∷◌, [], List, ℕ, ap, sym, subst, ◌∙◌, rules, true, false, is_some, map}
+use Rattle.std.proofs.Common.{◌≡◌, ◌++◌, ◌∷◌, [], List, ℕ, ap, sym, ◌∙◌, is_some}
 use Rattle.first_places.specs.Places.{first_place}
 use Rattle.advice.specs.Advice.{hypotheses_of, threshold_of}
 use Rattle.advice.proofs.Mentioned.{known, new_one}

@@ -1,11 +1,10 @@
-use Rattle.std.proofs.Common.{◌≡◌, ◌≤◌, ◌<◌, ◌+◌, ℕ, List, Option, Some, None, Err, drop, length, sym, ap, ◌∙◌, arith, length-drop, subst}
+use Rattle.std.proofs.Common.{◌≡◌, ◌<◌, ◌+◌, ℕ, List, Option, Some, None, drop, length, sym, ap, ◌∙◌, arith, length-drop, subst}
 use Rattle.std.specs.List.{All}
 use Rattle.std.specs.Option.{option_to_list}
 use Rattle.advice.specs.Advice.{HasTicks}
 use Rattle.std.proofs.lemmas.List.{take_rest, drop-drop}
 use Rattle.advice.specs.Lines.{after, first_line, told_in}
 use Rattle.advice.specs.Reading.{onto, verdicts_from, verdicts_of}
-use Rattle.advice.specs.declared.fault.ReportFault.TheVariants.{BadReport}
 use Rattle.advice.specs.declared.verdict.Verdict.{Verdict}
 use Rattle.advice.proofs.ReadLines.{cut_step, fault_step, line_step, onto_onto, ticks_onto}
 use Rattle.advice.proofs.reading.read_verdicts.Goals as goal
