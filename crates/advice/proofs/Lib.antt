@@ -4,3 +4,4 @@ pub mod Mentioned
 pub mod Parts
 pub mod Passing
 pub mod ReadLines
+pub mod Rows
