@@ -1,6 +1,6 @@
 //! The lines of directives.
 
-ghost use Rattle.std.specs.Prelude.{◌≡◌, ◌++◌, IfOk, OnOk, flat_map, reverse};
+ghost use Rattle.std.specs.Prelude.{◌≡◌, ◌++◌, IfOk, OnOk, flat_map};
 ghost use Rattle.std.specs.List.{All};
 ghost use Rattle.advice.specs.Advice.{HasTicks};
 ghost use Rattle.advice.specs.Directives.{advice, prune_line, threshold_line, first_line, directive};

@@ -1,6 +1,6 @@
 //! The lines of a report: which may stand behind which.
 
-ghost use Rattle.std.specs.Prelude.{◌≡◌, ◌<◌, ◌≤◌, ◌+◌, length, position, IfOk, IfSome};
+ghost use Rattle.std.specs.Prelude.{◌≡◌, ◌<◌, length, position, IfOk, IfSome};
 ghost use Rattle.std.specs.Option.{option_map};
 ghost use Rattle.pn_text.specs.Bytes.{begins_with};
 ghost use Rattle.pn_text.specs.Lines.{is_lf};

@@ -1,6 +1,6 @@
 //! The hypotheses that verdicts speak of, each with its threshold.
 
-ghost use Rattle.std.specs.Prelude.{◌≡◌, ◌<◌, List, ℕ, true, IfOk, OnOk, if◌then◌else◌, bytes_eq, Some};
+ghost use Rattle.std.specs.Prelude.{◌≡◌, ◌<◌, List, ℕ, IfOk, OnOk, bytes_eq};
 ghost use Rattle.std.specs.List.{All};
 ghost use Rattle.std.specs.Map.{lookup};
 ghost use Rattle.advice.specs.Advice.{hypotheses_of, rate, threshold_of, HasTicks};

@@ -1,8 +1,8 @@
 //! The words of a line, and what each may be.
 
-ghost use Rattle.std.specs.Prelude.{◌≡◌, ◌≤◌, bytes_eq, is_some, length};
+ghost use Rattle.std.specs.Prelude.{◌≡◌, ◌≤◌, bytes_eq, length};
 ghost use Rattle.std.specs.List.{list_all};
-ghost use Rattle.pn_text.specs.Bytes.{begins_name, is_letter, is_name_byte};
+ghost use Rattle.pn_text.specs.Bytes.{begins_name, is_name_byte};
 ghost use Rattle.pn_text.specs.Numbers.{decimal_from, is_digit};
 ghost use Rattle.pn_text.specs.Words.{is_name};
 ghost use Rattle.advice.specs.Words.{are_names, has_form, is_as, is_branch, is_focus, number_at, number_of, word_at};
