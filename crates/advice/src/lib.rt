@@ -1,0 +1,19 @@
+//! What the report of an earlier search advises for a next one.
+#![tactic(auto)]
+
+mod directive_lines;
+mod due;
+mod fault;
+mod hypothesis;
+mod laws;
+mod pieces;
+mod reading;
+mod verdict;
+mod words;
+
+pub use directive_lines::advise;
+pub use fault::ReportFault;
+pub use hypothesis::MAX_THRESHOLD;
+pub use laws::answers_stay;
+pub use reading::read_verdicts;
+pub use verdict::Verdict;
