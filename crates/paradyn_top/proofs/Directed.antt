@@ -9,8 +9,8 @@ use Rattle.mdl_ast.specs.declared.items.Item.TheVariants.{Include, Sync, Metric,
 use Rattle.mdl_ast.specs.declared.items.Hypothesis.{Hypothesis as TheHypothesis}
 use Rattle.mdl_check.specs.Spots.{is_hypothesis}
 use Rattle.mdl_parse.specs.Shipped.{shipped_conf}
-use Rattle.directives.specs.Hypotheses.{is_named, is_orphan}
-use Rattle.directives.specs.Acts.{acted, applied, at_line, changed, directed, expanded, expansion, go_on, kind_of, moved, pruned, put_first, settled, with_first, with_threshold, without_axis}
+use Rattle.directives.specs.Hypotheses.{is_named}
+use Rattle.directives.specs.Acts.{acted, applied, at_line, changed, directed, expanded, expansion, go_on, is_under, kind_of, moved, pruned, put_first, with_first, with_threshold, without_axis}
 use Rattle.directives.specs.declared.directive.Directive.{Directive}
 use Rattle.directives.specs.declared.directive.DirectiveAct.{DirectiveAct}
 use Rattle.directives.specs.declared.directive.DirectiveAct.TheVariants.{Prune, PruneAxis, Threshold, First}
@@ -101,10 +101,6 @@ all_changed : (name : List ℕ) (change : TheHypothesis → TheHypothesis) (item
 all_changed name change [] h = tt
 all_changed name change (item ∷ items) h = (changed_small name change item h.0, all_changed name change items h.1)
 
-settled_small : (n : ℕ) (items : List Item) → AreSmallItems items → AreSmallItems (settled n items)
-settled_small zero items h = h
-settled_small (suc n) items h = settled_small n (filter (λ item. not (is_orphan items item)) items) (all_filter HasSmall (λ item. not (is_orphan items item)) items h)
-
 front_small : (items : List Item) (place : ℕ) (o : Option Item) → slice_get items place ≡ o → AreSmallItems items → AreSmallItems (put_first items place o)
 front_small items place None e h = h
 front_small items place (Some item) e h =
@@ -119,8 +115,7 @@ moved_small items (Some place) h = front_small items place (slice_get items plac
 
 acted_small : (act : DirectiveAct) (items : List Item) → AreSmallItems items → AreSmallItems (acted act items)
 unfolding pruned with_first
-acted_small (Prune name) items h =
-    let rest = filter (λ item. not (is_named name item)) items in settled_small (length rest) rest (all_filter HasSmall (λ item. not (is_named name item)) items h)
+acted_small (Prune name) items h = all_filter HasSmall (λ item. not (is_under items (length items) name item)) items h
 acted_small (PruneAxis name axis) items h = all_changed name (without_axis axis) items h
 acted_small (Threshold name threshold) items h = all_changed name (with_threshold threshold) items h
 acted_small (First name) items h = moved_small items (position (is_named name) items) h
@@ -167,11 +162,6 @@ applied_small shipped items made ds h e = kept AreSmallItems acted_small ds (exp
 abbrev AreWithin : ℕ → List Item → Type 0
 AreWithin n items = length items ≤ n
 
-settled_few : (n : ℕ) (items : List Item) → length (settled n items) ≤ length items
-settled_few zero items = omega arith
-settled_few (suc n) items =
-    let rest = filter (λ item. not (is_orphan items item)) items in omega (arith, settled_few n rest, length-filter-le (λ item. not (is_orphan items item)) items)
-
 front_few : (items : List Item) (place : ℕ) (o : Option Item) → slice_get items place ≡ o → length (put_first items place o) ≤ length items
 front_few items place None e = omega arith
 front_few items place (Some item) e =
@@ -185,8 +175,7 @@ moved_few items (Some place) = front_few items place (slice_get items place) ref
 
 acted_few : (n : ℕ) (act : DirectiveAct) (items : List Item) → AreWithin n items → AreWithin n (acted act items)
 unfolding pruned with_first
-acted_few n (Prune name) items h =
-    let rest = filter (λ item. not (is_named name item)) items in omega (arith, h, settled_few (length rest) rest, length-filter-le (λ item. not (is_named name item)) items)
+acted_few n (Prune name) items h = omega (arith, h, length-filter-le (λ item. not (is_under items (length items) name item)) items)
 acted_few n (PruneAxis name axis) items h = omega (arith, h, length-map items (changed name (without_axis axis)))
 acted_few n (Threshold name threshold) items h = omega (arith, h, length-map items (changed name (with_threshold threshold)))
 acted_few n (First name) items h = omega (arith, h, moved_few items (position (is_named name) items))
