@@ -3,8 +3,8 @@
 #![tactic(auto)]
 
 use command_words::{
-    BlocksRequest, LiveRequest, PlanRequest, ReplayRequest, Request, RunRequest, StressRequest,
-    WordFault, log_name, read_request,
+    BlocksRequest, DirectRequest, LiveRequest, PlanRequest, ReplayRequest, Request, RunRequest,
+    StressRequest, VisiRequest, WordFault, log_name, read_request,
 };
 use pn_types::{NoMemory, Settings, Start};
 use std::alloc::Global;
@@ -97,6 +97,30 @@ fn blocks_text(alloc: Global, blocks: &BlocksRequest<'_>) -> Result<String, NoMe
     )
 }
 
+/// What `visi` is asked for.
+fn visi_text(alloc: Global, visi: &VisiRequest<'_>) -> Result<String, NoMemory> {
+    let settings = settings_text(alloc, visi.settings)?;
+    let program = visi.program;
+    let conf = visi.conf;
+    let seed = visi.seed;
+    let quantum = visi.quantum;
+    let views = visi.views;
+    let files = format!(in alloc; "visi [{program}] [{conf}]")?;
+    format!(in alloc; "{files} {settings} seed {seed} quantum {quantum} views {views}")
+}
+
+/// What `direct` is asked for.
+fn direct_text(alloc: Global, direct: &DirectRequest<'_>) -> Result<String, NoMemory> {
+    let settings = settings_text(alloc, direct.settings)?;
+    let program = direct.program;
+    let conf = direct.conf;
+    let directives = direct.directives;
+    let seed = direct.seed;
+    let quantum = direct.quantum;
+    let files = format!(in alloc; "direct [{program}] [{conf}] [{directives}]")?;
+    format!(in alloc; "{files} {settings} seed {seed} quantum {quantum}")
+}
+
 /// What words ask for.
 fn request_text(alloc: Global, words: &[String]) -> Result<String, NoMemory> {
     match read_request(alloc, words) {
@@ -109,6 +133,9 @@ fn request_text(alloc: Global, words: &[String]) -> Result<String, NoMemory> {
         Ok(Request::Relog(log)) => format!(in alloc; "relog [{log}]"),
         Ok(Request::Stress(stress)) => stress_text(alloc, stress),
         Ok(Request::Blocks(blocks)) => blocks_text(alloc, &blocks),
+        Ok(Request::Visi(visi)) => visi_text(alloc, &visi),
+        Ok(Request::Advise(report)) => format!(in alloc; "advise [{report}]"),
+        Ok(Request::Direct(direct)) => direct_text(alloc, &direct),
         Err(WordFault::Usage) => String::from_str(alloc, "usage"),
         Err(WordFault::NoMemory) => Err(NoMemory {}),
     }
