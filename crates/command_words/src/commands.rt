@@ -114,7 +114,11 @@ impl CommandName {
             CommandName::Visi => Form::new("visi", &["program", "conf"], &VISI_OPTIONS),
             CommandName::Advise => Form::new("advise", &["report"], &[]),
             CommandName::Direct => {
-                Form::new("direct", &["program", "conf", "directives"], &DIRECT_OPTIONS)
+                Form::new(
+                    "direct",
+                    &["program", "conf", "directives"],
+                    &DIRECT_OPTIONS,
+                )
             }
         }
     }

@@ -1,7 +1,7 @@
 -- Directives make no item with large statements, and not many items.
-use Rattle.std.proofs.Common.{◌≡◌, ℕ, zero, suc, ◌+◌, ◌*◌, ◌≤◌, Bool, true, false, cond, Option, Some, None, Result, Ok, Err, List, [], ◌∷◌, ◌++◌, length, take, drop, bytes_eq, map, flat_map, refl, sym, ap, subst, arith}
+use Rattle.std.proofs.Common.{◌≡◌, ℕ, zero, suc, ◌+◌, ◌*◌, ◌≤◌, Bool, true, false, cond, Option, Some, None, Result, Ok, List, [], ◌∷◌, length, take, drop, bytes_eq, map, flat_map, refl, ap, subst, arith}
 use Rattle.std.specs.Prelude.{not, position, slice_get}
-use Rattle.std.specs.List.{AllByRecursion, filter, insert, remove, position_or_len}
+use Rattle.std.specs.List.{AllByRecursion, filter, remove, position_or_len}
 use Rattle.std.proofs.lemmas.List.{length-append, length-map}
 use Rattle.mdl_ast.specs.Small.{HasSmall}
 use Rattle.mdl_ast.specs.declared.items.Item.{Item}

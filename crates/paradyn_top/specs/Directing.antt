@@ -28,7 +28,6 @@ use Rattle.paradyn_top.specs.Inputs.{AreInputs}
 use Rattle.paradyn_top.specs.Runs.{IsOpened}
 use Rattle.paradyn_top.specs.Sights.{Sight, IsContent}
 use Rattle.paradyn_top.specs.declared.directing.TheConstants.{DIRECTIVES_LIMIT}
-use Rattle.paradyn_top.specs.declared.finding.Found.{Found}
 use Rattle.paradyn_top.specs.declared.inputs.Inputs.{Inputs as Read}
 use Rattle.paradyn_top.specs.declared.texts.Texts.{Texts}
 
