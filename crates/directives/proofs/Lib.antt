@@ -1,0 +1,2 @@
+pub mod InView
+pub mod ReadOn

@@ -1,0 +1,13 @@
+//! Directives that change the hypotheses of a search before it starts.
+//!
+//! A text of directives is read, and then applied to a configuration that passed the check.
+#![tactic(auto)]
+
+mod directive;
+mod fault;
+mod reading;
+mod words;
+
+pub use directive::{Directive, DirectiveAct};
+pub use fault::{DirectiveFault, DirectiveKind};
+pub use reading::read_directives;
