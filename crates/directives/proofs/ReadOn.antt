@@ -50,24 +50,24 @@ chosen_below : {A : Type 0} (n : ℕ) (b : Bool) (p q : Read A) → Below n p �
 chosen_below n true p q h k = h
 chosen_below n false p q h k = k
 
+abbrev passed : Ahead → Read (Unit {0})
+passed a = Ok (tt, a)
+
 word_in : (test : Word → Bool) (spots : List Spot) (ending : Ending) → Below (length spots) (word_at test (of spots ending))
 word_in test [] ending = tt
-word_in test (spot ∷ spots) ending = by (test spot.word)
-  where
-    by : (b : Bool) → Below (length (spot ∷ spots)) (cond b (Ok (tt, behind (of (spot ∷ spots) ending))) (Err (stopped (of (spot ∷ spots) ending))))
-    by true = omega arith
-    by false = tt
+word_in test (spot ∷ spots) ending =
+    chosen_below (length (spot ∷ spots)) (test spot.word) (passed (of spots ending)) (Err (stopped (of (spot ∷ spots) ending))) (omega arith) tt
 
 word_below : (test : Word → Bool) (a : Ahead) → Below (length a.spots) (word_at test a)
 word_below test a = word_in test a.spots a.ending
 
+taken_one : {A : Type 0} (o : Option A) (spot : Spot) (spots : List Spot) (ending : Ending) → Below (length (spot ∷ spots)) (taken o (of (spot ∷ spots) ending))
+taken_one None spot spots ending = tt
+taken_one (Some x) spot spots ending = omega arith
+
 taken_in : {A : Type 0} (pick : Word → Option A) (spots : List Spot) (ending : Ending) → Below (length spots) (taken (option_and_then pick (first_word spots)) (of spots ending))
 taken_in pick [] ending = tt
-taken_in pick (spot ∷ spots) ending = by (pick spot.word)
-  where
-    by : (o : Option _) → Below (length (spot ∷ spots)) (taken o (of (spot ∷ spots) ending))
-    by None = tt
-    by (Some x) = omega arith
+taken_in pick (spot ∷ spots) ending = taken_one (pick spot.word) spot spots ending
 
 keyword_below : (text : List ℕ) (a : Ahead) → Below (length a.spots) (keyword_at text a)
 unfolding keyword_at
@@ -133,20 +133,19 @@ directive_shorter a d rest e = rw e at (directive_below a)
 -- ---- all directives
 
 -- there are no more than words, so any number that is as large does
-enough : (n m : ℕ) (a : Ahead) → length a.spots ≤ n → length a.spots ≤ m → directives_in n a ≡ directives_in m a
 enough_of : (n m : ℕ) (spots : List Spot) (ending : Ending) → length spots ≤ n → length spots ≤ m → directives_in n (of spots ending) ≡ directives_in m (of spots ending)
-enough n m a h k = enough_of n m a.spots a.ending h k
 enough_of zero zero spots ending h k = refl
 enough_of zero (suc m) [] ending h k = refl
 enough_of zero (suc m) (s ∷ ss) ending h k = absurd (omega arith)
 enough_of (suc n) zero [] ending h k = refl
 enough_of (suc n) zero (s ∷ ss) ending h k = absurd (omega arith)
 enough_of (suc n) (suc m) [] ending h k = refl
-enough_of (suc n) (suc m) (s ∷ ss) ending h k = by (directive_at (of (s ∷ ss) ending)) (directive_below (of (s ∷ ss) ending))
+enough_of (suc n) (suc m) (s ∷ ss) ending h k = by (directive_at (of (s ∷ ss) ending)) (directive_below (of (s ∷ ss) ending)) (λ a p q. enough_of n m a.spots a.ending p q)
   where
-    by : (r : Read Directive) → Below (length (s ∷ ss)) r → with_more (directives_in n) r ≡ with_more (directives_in m) r
-    by (Ok x) b = ap (onto x.0) (enough n m x.1 (omega arith) (omega arith))
-    by (Err e) b = refl
+    by : (r : Read Directive) → Below (length (s ∷ ss)) r → ((a : Ahead) → length a.spots ≤ n → length a.spots ≤ m → directives_in n a ≡ directives_in m a) →
+        with_more (directives_in n) r ≡ with_more (directives_in m) r
+    by (Ok x) b f = ap (onto x.0) (f x.1 (omega arith) (omega arith))
+    by (Err e) b f = refl
 
 -- what was read before goes in front of what is still read
 abbrev pub with_front : List Directive → Answer → Answer
@@ -168,7 +167,7 @@ step_in [] ending test t f = absurd cc
 step_in (s ∷ ss) ending test t f = by (directive_at (of (s ∷ ss) ending)) (directive_below (of (s ∷ ss) ending))
   where
     by : (r : Read Directive) → Below (length (s ∷ ss)) r → with_more (directives_in (length ss)) r ≡ with_more (λ (a : Ahead). directives_in (length a.spots) a) r
-    by (Ok x) b = ap (onto x.0) (enough (length ss) (length x.1.spots) x.1 (omega arith) (omega arith))
+    by (Ok x) b = ap (onto x.0) (enough_of (length ss) (length x.1.spots) x.1.spots x.1.ending (omega arith) (omega arith))
     by (Err e) b = refl
 
 pub front_more : (whole : Answer) (front next : List Directive) (a : Ahead) (d : Directive) (rest : Ahead) (test : Bool) →

@@ -6,7 +6,7 @@ use Rattle.directives.proofs.reading.read_directives.Goals as goal
 
 pub returns-in_err-directive-clause-fault : goal.returns-in_err-directive-clause-fault
 returns-in_err-directive-clause-fault c =
-    let p = err_from_is_err_and c.from_residual.result c.from_residual.ensures in
+    let p = err_from_is_err_and c.from_residual.result c.from_residual.ensures.1 in
     rw (p.1, p.2) (front_stops (directives_of c.args.text.now) c.directives.directives.items c.directives.words c.in_err-directive.field-0.0 c.is_empty.result
     c.is_empty.ensures c.directives-test.true c.directives.invariant c.in_err-directive.ensures)
 
