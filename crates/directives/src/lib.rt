@@ -3,11 +3,19 @@
 //! A text of directives is read, and then applied to a configuration that passed the check.
 #![tactic(auto)]
 
+mod applying;
+mod change;
+mod copies;
 mod directive;
+mod expansion;
 mod fault;
+mod front;
+mod hypotheses;
+mod prune;
 mod reading;
 mod words;
 
+pub use applying::apply;
 pub use directive::{Directive, DirectiveAct};
 pub use fault::{DirectiveFault, DirectiveKind};
 pub use reading::read_directives;
