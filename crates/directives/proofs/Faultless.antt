@@ -9,14 +9,12 @@ use Rattle.pn_types.specs.declared.focus.Focus.{Focus}
 use Rattle.mdl_ast.specs.declared.items.Item.{Item}
 use Rattle.mdl_ast.specs.declared.items.Item.TheVariants.{Include, Sync, Metric, Constraint, Hypothesis, Search, Phase, Wish}
 use Rattle.mdl_ast.specs.declared.metric.Constraint.{Constraint as TheConstraint}
-use Rattle.mdl_check.specs.Spots.{Entry}
-use Rattle.mdl_check.specs.Names.{name_in, stands, constraint_in, constraint_named, metric_name, number_from, metric_number, is_named as is_this}
+use Rattle.mdl_ast.specs.declared.items.Include.{Include as TheInclude}
+use Rattle.mdl_ast.specs.declared.items.Hypothesis.{Hypothesis as TheHypothesis}
+use Rattle.mdl_check.specs.Spots.{Entry, entry}
+use Rattle.mdl_check.specs.Names.{constraint_in, constraint_named, metric_name, number_from, metric_number}
 use Rattle.mdl_check.specs.Rules.{is_include, is_search, is_on, are_two_on, is_shown_by, is_repeated, is_unknown, is_wrong, is_misused, is_astray, tick_behind, last_tick, parent_place, parents_of, parent_at, leads_to, is_cyclic, fault_of, misuse}
-use Rattle.mdl_check.specs.Statements.{have}
 use Rattle.mdl_check.specs.Checking.{fault_from}
-use Rattle.mdl_check.specs.declared.names.Table.{Table}
-use Rattle.mdl_check.specs.declared.names.Table.TheVariants as table
-use Rattle.mdl_check.specs.declared.uses.Use.TheVariants as uses
 use Rattle.mdl_check.specs.declared.fault.CheckKind.{CheckKind}
 use Rattle.mdl_check.specs.declared.fault.CheckKind.TheVariants.{TwiceNamed, UnknownName, WrongKind, CyclicParent, BadFocus}
 
@@ -89,67 +87,30 @@ is_other item = true
 abbrev pub others : List Entry → List Entry
 others es = filter (λ e. is_other e.item) es
 
-module _ (q : Entry → Bool) (h : (e : Entry) → is_other e.item ≡ false → q e ≡ false) where
+pub or_same : {a b c d : Bool} → a ≡ c → b ≡ d → (a || b) ≡ (c || d)
+or_same {a} {b} {c} {d} e f = ap (λ (x : Bool). x || b) e ∙ ap (λ (x : Bool). c || x) f
+
+-- a test that passes no hypothesis and no include of hypotheses
+module _ (q : Entry → Bool)
+    (include : (l : ℕ) (x : TheInclude) (f : Option Focus) → x.metrics ≡ false → q (entry l (Include x) f) ≡ false)
+    (hypothesis : (l : ℕ) (x : TheHypothesis) (f : Option Focus) → q (entry l (Hypothesis x) f) ≡ false) where
+  passes_none : (l : ℕ) (item : Item) (f : Option Focus) → is_other item ≡ false → q (entry l item f) ≡ false
+  passes_none l (Include x) f e = include l x f e
+  passes_none l (Sync x) f e = absurd cc
+  passes_none l (Metric x) f e = absurd cc
+  passes_none l (Constraint x) f e = absurd cc
+  passes_none l (Hypothesis x) f e = hypothesis l x f
+  passes_none l (Search x) f e = absurd cc
+  passes_none l (Phase x) f e = absurd cc
+  passes_none l (Wish x) f e = absurd cc
+
   pub any_others : (es : List Entry) → list_any q es ≡ list_any q (others es)
   any_others [] = refl
   any_others (e ∷ es) = by (is_other e.item) refl (any_others es)
     where
       by : (b : Bool) → is_other e.item ≡ b → list_any q es ≡ list_any q (others es) → (q e || list_any q es) ≡ list_any q (cond b (e ∷ others es) (others es))
       by true p k = ap (λ (r : Bool). q e || r) k
-      by false p k = ap (λ (r : Bool). r || list_any q es) (h e p) ∙ k
-
-abbrev is_at : Table → List ℕ → Entry → Bool
-is_at t name e = is_this name (name_in t e.item)
-
-no_variable : (name : List ℕ) (item : Item) → is_other item ≡ false → is_this name (name_in table.Variables item) ≡ false
-no_variable name (Include i) e = refl
-no_variable name (Sync s) e = refl
-no_variable name (Metric m) e = absurd cc
-no_variable name (Constraint c) e = absurd cc
-no_variable name (Hypothesis h) e = refl
-no_variable name (Search s) e = refl
-no_variable name (Phase p) e = refl
-no_variable name (Wish w) e = refl
-
-no_phase : (name : List ℕ) (item : Item) → is_other item ≡ false → is_this name (name_in table.Phases item) ≡ false
-no_phase name (Include i) e = refl
-no_phase name (Sync s) e = refl
-no_phase name (Metric m) e = refl
-no_phase name (Constraint c) e = refl
-no_phase name (Hypothesis h) e = refl
-no_phase name (Search s) e = refl
-no_phase name (Phase p) e = absurd cc
-no_phase name (Wish w) e = refl
-
-no_search : (item : Item) → is_other item ≡ false → is_search item ≡ false
-no_search (Include i) e = refl
-no_search (Sync s) e = refl
-no_search (Metric m) e = refl
-no_search (Constraint c) e = refl
-no_search (Hypothesis h) e = refl
-no_search (Search s) e = absurd cc
-no_search (Phase p) e = refl
-no_search (Wish w) e = refl
-
-no_include : (metrics : Bool) → metrics ≡ true → (item : Item) → is_other item ≡ false → is_include metrics item ≡ false
-no_include metrics m (Include i) e = ap (λ (b : Bool). cond b i.metrics (not i.metrics)) m ∙ e
-no_include metrics m (Sync s) e = refl
-no_include metrics m (Metric n) e = refl
-no_include metrics m (Constraint c) e = refl
-no_include metrics m (Hypothesis h) e = refl
-no_include metrics m (Search s) e = refl
-no_include metrics m (Phase p) e = refl
-no_include metrics m (Wish w) e = refl
-
-no_shown : (metric : List ℕ) (focus : Option Focus) (item : Item) (other : Option Focus) → is_other item ≡ false → is_shown_by metric focus item other ≡ false
-no_shown metric focus (Include i) other e = refl
-no_shown metric focus (Sync s) other e = refl
-no_shown metric focus (Metric m) other e = refl
-no_shown metric focus (Constraint c) other e = refl
-no_shown metric focus (Hypothesis h) other e = refl
-no_shown metric focus (Search s) other e = refl
-no_shown metric focus (Phase p) other e = refl
-no_shown metric focus (Wish w) other e = absurd cc
+      by false p k = ap (λ (r : Bool). r || list_any q es) (passes_none e.line e.item e.focus p) ∙ k
 
 no_constraint : (name : List ℕ) (item : Item) → is_other item ≡ false → constraint_in name item ≡ None
 no_constraint name (Include i) e = refl
@@ -220,6 +181,10 @@ tick_of_others tick (e ∷ es) = by (is_other e.item) refl (tick_of_others (tick
 
 -- ---- an other item is judged among the others alone
 
+other_include : (m n : Bool) → m ≡ true → n ≡ false → cond m n (not n) ≡ false
+other_include true n e h = h
+other_include false n e h = absurd cc
+
 module _ (all before : List Entry) where
   named_alike : constraint_named all ≡ constraint_named (others all)
   named_alike = λ i name. constraint_of_others all name i
@@ -228,23 +193,19 @@ module _ (all before : List Entry) where
   two_alike path names = ap (λ (f : List ℕ → Option TheConstraint). nat_lt 1 (count_by (λ name. is_on path (f name)) names)) named_alike
 
   pub repeated_alike : (item : Item) (focus : Option Focus) → is_other item ≡ true → is_repeated all before item focus ≡ is_repeated (others all) (others before) item focus
-  repeated_alike (Include i) focus e = any_others (λ e. is_include i.metrics e.item) (λ x k. no_include i.metrics e x.item k) before
+  repeated_alike (Include i) focus e = any_others _ (λ l x f m. other_include i.metrics x.metrics e m) (λ l x f. refl) before
   repeated_alike (Sync s) focus e = refl
-  repeated_alike (Metric m) focus e =
-      ap (λ (b : Bool). b || are_two_on all (codes "/Code") m.constraints || are_two_on all (codes "/SyncObject") m.constraints) (any_others (is_at table.Variables m.name) (λ x k. no_variable m.name x.item k) before)
-      ∙ ap (λ (b : Bool). stands table.Variables m.name (others before) || b || are_two_on all (codes "/SyncObject") m.constraints) (two_alike (codes "/Code") m.constraints)
-      ∙ ap (λ (b : Bool). stands table.Variables m.name (others before) || are_two_on (others all) (codes "/Code") m.constraints || b) (two_alike (codes "/SyncObject") m.constraints)
-  repeated_alike (Constraint c) focus e = any_others (is_at table.Variables c.name) (λ x k. no_variable c.name x.item k) before
+  repeated_alike (Metric m) focus e = or_same (or_same (any_others _ (λ l x f m. refl) (λ l x f. refl) before) (two_alike (codes "/Code") m.constraints)) (two_alike (codes "/SyncObject") m.constraints)
+  repeated_alike (Constraint c) focus e = any_others _ (λ l x f m. refl) (λ l x f. refl) before
   repeated_alike (Hypothesis h) focus e = absurd cc
-  repeated_alike (Search s) focus e = any_others (λ e. is_search e.item) (λ x k. no_search x.item k) before
-  repeated_alike (Phase p) focus e = ap (λ (b : Bool). bytes_eq p.name (codes "global") || b) (any_others (is_at table.Phases p.name) (λ x k. no_phase p.name x.item k) before)
-  repeated_alike (Wish w) focus e =
-      ap (λ (b : Bool). (w.at == 0) && w.show && b) (any_others (λ e. is_shown_by w.metric focus e.item e.focus) (λ x k. no_shown w.metric focus x.item x.focus k) before)
+  repeated_alike (Search s) focus e = any_others _ (λ l x f m. refl) (λ l x f. refl) before
+  repeated_alike (Phase p) focus e = or_same refl (any_others _ (λ l x f m. refl) (λ l x f. refl) before)
+  repeated_alike (Wish w) focus e = ap (λ (b : Bool). ((w.at == 0) && w.show) && b) (any_others _ (λ l x f m. refl) (λ l x f. refl) before)
 
   pub unknown_alike : (item : Item) → is_other item ≡ true → is_unknown all item ≡ is_unknown (others all) item
   unknown_alike (Include i) e = refl
   unknown_alike (Sync s) e = refl
-  unknown_alike (Metric m) e = ap (λ (f : List ℕ → Option TheConstraint). list_any (λ name. not (is_some (f name))) m.constraints || have uses.OtherName (Some m.name) m.blocks) named_alike
+  unknown_alike (Metric m) e = or_same (ap (λ (f : List ℕ → Option TheConstraint). list_any (λ name. not (is_some (f name))) m.constraints) named_alike) refl
   unknown_alike (Constraint c) e = refl
   unknown_alike (Hypothesis h) e = absurd cc
   unknown_alike (Search s) e = refl
@@ -254,8 +215,7 @@ module _ (all before : List Entry) where
   pub wrong_alike : (item : Item) → is_other item ≡ true → is_wrong all before item ≡ is_wrong (others all) (others before) item
   wrong_alike (Include i) e = refl
   wrong_alike (Sync s) e = refl
-  wrong_alike (Metric m) e =
-      ap (λ (f : List ℕ → Option TheConstraint). have (misuse m.timer) (Some m.name) m.blocks || list_any (λ name. is_misused m.timer (f name)) m.constraints || have uses.ObjectValue None m.blocks || have uses.HighArgument None m.blocks) named_alike
+  wrong_alike (Metric m) e = or_same (or_same (or_same refl (ap (λ (f : List ℕ → Option TheConstraint). list_any (λ name. is_misused m.timer (f name)) m.constraints) named_alike)) refl) refl
   wrong_alike (Constraint c) e = refl
   wrong_alike (Hypothesis h) e = absurd cc
   wrong_alike (Search s) e = refl

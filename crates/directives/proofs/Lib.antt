@@ -5,3 +5,5 @@ pub mod Loops
 pub mod Fronting
 pub mod Stripped
 pub mod Faultless
+pub mod Cycles
+pub mod FineItems

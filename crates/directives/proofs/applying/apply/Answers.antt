@@ -1,3 +1,7 @@
+use Rattle.directives.proofs.FineItems.{fine_from, each_again, one_include}
+use Rattle.directives.proofs.Cycles.{forth, back, no_way_back}
+use Rattle.directives.proofs.Stripped.{Fine, hyps_append, repeated_is, parentless_is, place_is, count_hyps}
+use Rattle.directives.proofs.Faultless.{others_each}
 use Rattle.std.proofs.Common.{arith, ◌∙◌, ap, ap₂, sym, Ok, List}
 use Rattle.mdl_ast.specs.declared.items.Item.{Item}
 use Rattle.directives.specs.Acts.{applied, directed, expanded, kind_of, acted}
