@@ -7,3 +7,5 @@ pub mod Stripped
 pub mod Faultless
 pub mod Cycles
 pub mod FineItems
+pub mod Spread
+pub mod Kept

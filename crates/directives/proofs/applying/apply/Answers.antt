@@ -1,3 +1,5 @@
+use Rattle.directives.proofs.Spread.{spread_same, bare_spots, count_spots}
+use Rattle.directives.proofs.Kept.{settled_done}
 use Rattle.directives.proofs.FineItems.{fine_from, each_again, one_include}
 use Rattle.directives.proofs.Cycles.{forth, back, no_way_back}
 use Rattle.directives.proofs.Stripped.{Fine, hyps_append, repeated_is, parentless_is, place_is, count_hyps}
