@@ -42,7 +42,7 @@ leads_in new old f (suc n) a b l = (l.0, f b l.0 l.1, by l.2 (λ k. leads_in new
     by (inl e) g = inl e
     by (inr k) g = inr (g k)
 
-fine_part : (o : List Entry) (n : ℕ) (new old : List TheHypothesis) → Part new old → list_any (is_lost new) new ≡ false → Fine o n old → Fine o n new
+pub fine_part : (o : List Entry) (n : ℕ) (new old : List TheHypothesis) → Part new old → list_any (is_lost new) new ≡ false → Fine o n old → Fine o n new
 fine_part o n new old p lost f = record {
   once = λ name. omega (arith, p (named name), f.once name);
   metrics = none_in new old p (is_unmeasured o) f.metrics;
@@ -55,7 +55,7 @@ tally_all : {A : Type 0} (xs : List A) → tally (λ _. true) xs ≡ length xs
 tally_all [] = refl
 tally_all (x ∷ xs) = omega (arith, tally_all xs)
 
-part_few : (new old : List TheHypothesis) → Part new old → length new ≤ length old
+pub part_few : (new old : List TheHypothesis) → Part new old → length new ≤ length old
 part_few new old p = omega (arith, p (λ _. true), tally_all new, tally_all old)
 
 -- ---- prune
@@ -112,7 +112,7 @@ orphan_lost all (Search s) = refl
 orphan_lost all (Phase p) = refl
 orphan_lost all (Wish w) = refl
 
-orphans_lost : (items : List Item) → list_any (is_orphan items) items ≡ list_any (is_lost (stripped items)) (stripped items)
+pub orphans_lost : (items : List Item) → list_any (is_orphan items) items ≡ list_any (is_lost (stripped items)) (stripped items)
 orphans_lost items = ap (λ (t : Item → Bool). list_any t items) (λ i item. orphan_lost items item i) ∙ sym (any_stripped (is_lost (stripped items)) items)
 
 all_stay : {A : Type 0} (q : A → Bool) (xs : List A) → list_any q xs ≡ false → filter (λ x. not (q x)) xs ≡ xs
@@ -160,18 +160,18 @@ part_settled zero items q = omega arith
 part_settled (suc n) items q =
     omega (arith, part_settled n (round items) q, part_filter (λ item. not (is_orphan items item)) (λ h. not (is_lost (stripped items) h)) (λ x. ap not (orphan_lost items (Hypothesis x))) items q)
 
-part_pruned : (name : List ℕ) (items : List Item) → Part (stripped (pruned name items)) (stripped items)
+pub part_pruned : (name : List ℕ) (items : List Item) → Part (stripped (pruned name items)) (stripped items)
 unfolding pruned
 part_pruned name items q =
     let rest : List Item = filter (λ item. not (is_named name item)) items in
     omega (arith, part_settled (length rest) rest q, part_filter (λ item. not (is_named name item)) (λ h. not (named name h)) (λ x. refl) items q)
 
-pruned_done : (name : List ℕ) (items : List Item) → Homeless (pruned name items)
+pub pruned_done : (name : List ℕ) (items : List Item) → Homeless (pruned name items)
 unfolding pruned
 pruned_done name items = let rest : List Item = filter (λ item. not (is_named name item)) items in settled_done (length rest) rest (omega arith)
 
 -- lists in which as many pass pass alike
-same_any : (q : TheHypothesis → Bool) (new old : List TheHypothesis) → tally q new ≡ tally q old → list_any q new ≡ list_any q old
+pub same_any : (q : TheHypothesis → Bool) (new old : List TheHypothesis) → tally q new ≡ tally q old → list_any q new ≡ list_any q old
 same_any q new old e = by (list_any q new) (list_any q old) refl refl
   where
     by : (b c : Bool) → list_any q new ≡ b → list_any q old ≡ c → list_any q new ≡ list_any q old
@@ -217,7 +217,7 @@ module _ (name : List ℕ) (f : TheHypothesis → TheHypothesis) where
   change_any : (q : TheHypothesis → Bool) → ((h : TheHypothesis) → q (bare (f h)) ≡ q (bare h)) → (items : List Item) → list_any q (stripped (map (changed name f) items)) ≡ list_any q (stripped items)
   change_any q e items = same_any q (stripped (map (changed name f) items)) (stripped items) (change_tally q e items)
 
-  fine_changed : (o : List Entry) (n : ℕ) (items : List Item) → ((h : TheHypothesis) → (bare (f h)).name ≡ h.name) → ((h : TheHypothesis) → (bare (f h)).parent ≡ h.parent) → ((h : TheHypothesis) → (bare (f h)).metric ≡ h.metric) →
+  pub fine_changed : (o : List Entry) (n : ℕ) (items : List Item) → ((h : TheHypothesis) → (bare (f h)).name ≡ h.name) → ((h : TheHypothesis) → (bare (f h)).parent ≡ h.parent) → ((h : TheHypothesis) → (bare (f h)).metric ≡ h.metric) →
       ((h : TheHypothesis) → is_strange (bare h) ≡ false → is_strange (bare (f h)) ≡ false) → Fine o n (stripped items) → Fine o n (stripped (map (changed name f) items))
   fine_changed o n items en ep em ea fine =
       let new = map (changed name f) items in
@@ -235,5 +235,5 @@ module _ (name : List ℕ) (f : TheHypothesis → TheHypothesis) where
       missed None = refl
       missed (Some p) = ap not (change_any (named p) (λ h. ap (bytes_eq p) (en h)) items)
 
-  changed_few : (items : List Item) → length (stripped (map (changed name f) items)) ≤ length (stripped items)
+  pub changed_few : (items : List Item) → length (stripped (map (changed name f) items)) ≤ length (stripped items)
   changed_few items = omega (arith, change_tally (λ _. true) (λ h. refl) items, tally_all (stripped (map (changed name f) items)), tally_all (stripped items))

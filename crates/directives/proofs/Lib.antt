@@ -9,3 +9,4 @@ pub mod Cycles
 pub mod FineItems
 pub mod Spread
 pub mod Kept
+pub mod Acting

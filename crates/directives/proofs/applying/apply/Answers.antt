@@ -1,3 +1,4 @@
+use Rattle.directives.proofs.Acting.{fine_acted, few_acted, hidden_acted}
 use Rattle.directives.proofs.Spread.{spread_same, bare_spots, count_spots}
 use Rattle.directives.proofs.Kept.{settled_done}
 use Rattle.directives.proofs.FineItems.{fine_from, each_again, one_include}
