@@ -10,3 +10,4 @@ pub mod FineItems
 pub mod Spread
 pub mod Kept
 pub mod Acting
+pub mod Accepting

@@ -1,13 +1,7 @@
-use Rattle.directives.proofs.Acting.{fine_acted, few_acted, hidden_acted}
-use Rattle.directives.proofs.Spread.{spread_same, bare_spots, count_spots}
-use Rattle.directives.proofs.Kept.{settled_done}
-use Rattle.directives.proofs.FineItems.{fine_from, each_again, one_include}
-use Rattle.directives.proofs.Cycles.{forth, back, no_way_back}
-use Rattle.directives.proofs.Stripped.{Fine, hyps_append, repeated_is, parentless_is, place_is, count_hyps}
-use Rattle.directives.proofs.Faultless.{others_each}
 use Rattle.std.proofs.Common.{arith, ◌∙◌, ap, ap₂, sym, Ok, List}
 use Rattle.mdl_ast.specs.declared.items.Item.{Item}
 use Rattle.directives.specs.Acts.{applied, directed, expanded, kind_of, acted}
+use Rattle.directives.proofs.Accepting.{accepted_after, prefixes_after}
 use Rattle.directives.proofs.Loops.{directed_faulty, directed_more, directed_all}
 use Rattle.directives.proofs.applying.apply.Goals as goal
 
@@ -33,7 +27,9 @@ returns-clause-applied c =
     c.loop-directive.invariant (omega arith) ∙ ap (λ (l : List Item). Ok l) (sym c.from_vec.ensures)
 
 pub returns-clause-accepted : goal.returns-clause-accepted
-returns-clause-accepted c = ?
+returns-clause-accepted c =
+    accepted_after c.args.tree.now c.args.shipped.now.items c.args.conf.now.items c.args.directives.now c.from_vec.result c.requires (returns-clause-applied c)
 
 pub returns-clause-prefixes : goal.returns-clause-prefixes
-returns-clause-prefixes c = ?
+returns-clause-prefixes c =
+    prefixes_after c.args.tree.now c.args.shipped.now.items c.args.conf.now.items c.args.directives.now c.from_vec.result c.requires (returns-clause-applied c)
