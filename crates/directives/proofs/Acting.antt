@@ -72,7 +72,7 @@ found_item name xs (Some place) P h f = by (slice_get xs place) refl
     by None e = h
     by (Some item) e = f place item refl e
 
-tally_first : (name : List ℕ) (xs : List Item) (q : TheHypothesis → Bool) → tally q (stripped (with_first name xs)) ≡ tally q (stripped xs)
+pub tally_first : (name : List ℕ) (xs : List Item) (q : TheHypothesis → Bool) → tally q (stripped (with_first name xs)) ≡ tally q (stripped xs)
 unfolding with_first
 tally_first name xs q = found_item name xs (position (is_named name) xs) (λ new. tally q (stripped new) ≡ tally q (stripped xs)) refl
     (λ place item p h. tally_moved q xs (insert (remove xs place) (position_or_len is_hypothesis xs) item) item (moves xs place (position_or_len is_hypothesis xs) item h))

@@ -24,10 +24,10 @@ use Rattle.directives.proofs.Settling.{filter_all}
 abbrev pub Part : List TheHypothesis → List TheHypothesis → Type 0
 Part new old = (q : TheHypothesis → Bool) → tally q new ≤ tally q old
 
-none_in : (new old : List TheHypothesis) → Part new old → (q : TheHypothesis → Bool) → list_any q old ≡ false → list_any q new ≡ false
+pub none_in : (new old : List TheHypothesis) → Part new old → (q : TheHypothesis → Bool) → list_any q old ≡ false → list_any q new ≡ false
 none_in new old p q h = none_counted q new (omega (arith, p q, count_none q old h))
 
-some_in : (new old : List TheHypothesis) → Part new old → (q : TheHypothesis → Bool) → list_any q new ≡ true → list_any q old ≡ true
+pub some_in : (new old : List TheHypothesis) → Part new old → (q : TheHypothesis → Bool) → list_any q new ≡ true → list_any q old ≡ true
 some_in new old p q h = by (list_any q old) refl
   where
     by : (b : Bool) → list_any q old ≡ b → list_any q old ≡ true
@@ -85,7 +85,7 @@ module _ (p : Item → Bool) (q : TheHypothesis → Bool) (h : (x : TheHypothesi
   part_filter : (items : List Item) → Part (stripped (filter p items)) (stripped items)
   part_filter items r = omega (arith, ap (tally r) (strip_filter items), count_filter r q (stripped items))
 
-named_lift : (name : List ℕ) (item : Item) → is_named name item ≡ lift (named name) item
+pub named_lift : (name : List ℕ) (item : Item) → is_named name item ≡ lift (named name) item
 named_lift name (Include i) = refl
 named_lift name (Sync s) = refl
 named_lift name (Metric m) = refl
@@ -95,7 +95,7 @@ named_lift name (Search s) = refl
 named_lift name (Phase p) = refl
 named_lift name (Wish w) = refl
 
-stands_named : (name : List ℕ) (items : List Item) → stands name items ≡ list_any (named name) (stripped items)
+pub stands_named : (name : List ℕ) (items : List Item) → stands name items ≡ list_any (named name) (stripped items)
 stands_named name items = ap (λ (t : Item → Bool). list_any t items) (λ i item. named_lift name item i) ∙ sym (any_stripped (named name) items)
 
 lacks_misses : (items : List Item) (parent : Option (List ℕ)) → lacks items parent ≡ misses (stripped items) parent
@@ -199,22 +199,39 @@ module _ (name : List ℕ) (f : TheHypothesis → TheHypothesis) where
   change_tally q e (Phase p ∷ xs) = change_tally q e xs
   change_tally q e (Wish w ∷ xs) = change_tally q e xs
 
-  change_none : (q : TheHypothesis → Bool) → ((h : TheHypothesis) → q (bare h) ≡ false → q (bare (f h)) ≡ false) → (items : List Item) → list_any q (stripped items) ≡ false → list_any q (stripped (map (changed name f) items)) ≡ false
+  pub change_none : (q : TheHypothesis → Bool) → ((h : TheHypothesis) → bytes_eq name h.name ≡ true → q (bare h) ≡ false → q (bare (f h)) ≡ false) → (items : List Item) → list_any q (stripped items) ≡ false → list_any q (stripped (map (changed name f) items)) ≡ false
   change_none q e [] h = refl
   change_none q e (Include i ∷ xs) h = change_none q e xs h
   change_none q e (Sync s ∷ xs) h = change_none q e xs h
   change_none q e (Metric m ∷ xs) h = change_none q e xs h
   change_none q e (Constraint c ∷ xs) h = change_none q e xs h
-  change_none q e (Hypothesis x ∷ xs) h = let k = or_parts (q (bare x)) (list_any q (stripped xs)) h in by (bytes_eq name x.name) k.0 (change_none q e xs k.1)
+  change_none q e (Hypothesis x ∷ xs) h = let k = or_parts (q (bare x)) (list_any q (stripped xs)) h in by (bytes_eq name x.name) refl k.0 (change_none q e xs k.1)
     where
-      by : (b : Bool) → q (bare x) ≡ false → list_any q (stripped (map (changed name f) xs)) ≡ false → list_any q (strip (cond b (Hypothesis (f x)) (Hypothesis x)) ++ stripped (map (changed name f) xs)) ≡ false
-      by true k l = or_none (q (bare (f x))) (list_any q (stripped (map (changed name f) xs))) (e x k) l
-      by false k l = or_none (q (bare x)) (list_any q (stripped (map (changed name f) xs))) k l
+      by : (b : Bool) → bytes_eq name x.name ≡ b → q (bare x) ≡ false → list_any q (stripped (map (changed name f) xs)) ≡ false → list_any q (strip (cond b (Hypothesis (f x)) (Hypothesis x)) ++ stripped (map (changed name f) xs)) ≡ false
+      by true t k l = or_none (q (bare (f x))) (list_any q (stripped (map (changed name f) xs))) (e x t k) l
+      by false t k l = or_none (q (bare x)) (list_any q (stripped (map (changed name f) xs))) k l
   change_none q e (Search s ∷ xs) h = change_none q e xs h
   change_none q e (Phase p ∷ xs) h = change_none q e xs h
   change_none q e (Wish w ∷ xs) h = change_none q e xs h
 
-  change_any : (q : TheHypothesis → Bool) → ((h : TheHypothesis) → q (bare (f h)) ≡ q (bare h)) → (items : List Item) → list_any q (stripped (map (changed name f) items)) ≡ list_any q (stripped items)
+  -- what the change gives, and what no other hypothesis has
+  pub change_sets : (q : TheHypothesis → Bool) → ((h : TheHypothesis) → bytes_eq name h.name ≡ true → q (bare (f h)) ≡ false) → ((h : TheHypothesis) → bytes_eq name h.name ≡ false → q (bare h) ≡ false) → (items : List Item) →
+      list_any q (stripped (map (changed name f) items)) ≡ false
+  change_sets q e g [] = refl
+  change_sets q e g (Include i ∷ xs) = change_sets q e g xs
+  change_sets q e g (Sync s ∷ xs) = change_sets q e g xs
+  change_sets q e g (Metric m ∷ xs) = change_sets q e g xs
+  change_sets q e g (Constraint c ∷ xs) = change_sets q e g xs
+  change_sets q e g (Hypothesis x ∷ xs) = by (bytes_eq name x.name) refl (change_sets q e g xs)
+    where
+      by : (b : Bool) → bytes_eq name x.name ≡ b → list_any q (stripped (map (changed name f) xs)) ≡ false → list_any q (strip (cond b (Hypothesis (f x)) (Hypothesis x)) ++ stripped (map (changed name f) xs)) ≡ false
+      by true t l = or_none (q (bare (f x))) (list_any q (stripped (map (changed name f) xs))) (e x t) l
+      by false t l = or_none (q (bare x)) (list_any q (stripped (map (changed name f) xs))) (g x t) l
+  change_sets q e g (Search s ∷ xs) = change_sets q e g xs
+  change_sets q e g (Phase p ∷ xs) = change_sets q e g xs
+  change_sets q e g (Wish w ∷ xs) = change_sets q e g xs
+
+  pub change_any : (q : TheHypothesis → Bool) → ((h : TheHypothesis) → q (bare (f h)) ≡ q (bare h)) → (items : List Item) → list_any q (stripped (map (changed name f) items)) ≡ list_any q (stripped items)
   change_any q e items = same_any q (stripped (map (changed name f) items)) (stripped items) (change_tally q e items)
 
   pub fine_changed : (o : List Entry) (n : ℕ) (items : List Item) → ((h : TheHypothesis) → (bare (f h)).name ≡ h.name) → ((h : TheHypothesis) → (bare (f h)).parent ≡ h.parent) → ((h : TheHypothesis) → (bare (f h)).metric ≡ h.metric) →
@@ -224,9 +241,9 @@ module _ (name : List ℕ) (f : TheHypothesis → TheHypothesis) where
       let missing : misses (stripped new) ≡ misses (stripped items) = λ i parent. missed parent i in
       record {
         once = λ name. omega (arith, fine.once name, change_tally (named name) (λ h. ap (bytes_eq name) (en h)) items);
-        metrics = change_none (is_unmeasured o) (λ h k. ap (λ (m : List ℕ). not (is_some (metric_number o m))) (em h) ∙ k) items fine.metrics;
-        axes = change_none is_strange ea items fine.axes;
-        parents = ap (λ (m : Option (List ℕ) → Bool). list_any (λ h. m h.parent) (stripped new)) missing ∙ change_none (is_lost (stripped items)) (λ h k. ap (misses (stripped items)) (ep h) ∙ k) items fine.parents;
+        metrics = change_none (is_unmeasured o) (λ h t k. ap (λ (m : List ℕ). not (is_some (metric_number o m))) (em h) ∙ k) items fine.metrics;
+        axes = change_none is_strange (λ h t k. ea h k) items fine.axes;
+        parents = ap (λ (m : Option (List ℕ) → Bool). list_any (λ h. m h.parent) (stripped new)) missing ∙ change_none (is_lost (stripped items)) (λ h t k. ap (misses (stripped items)) (ep h) ∙ k) items fine.parents;
         acyclic = λ a l. fine.acyclic a (leads_in (stripped new) (stripped items)
             (λ b p h. sym (change_any (is_pair b p) (λ x. ap (λ (m : List ℕ). bytes_eq b m && has_parent p (bare (f x)).parent) (en x) ∙ ap (λ (m : Option (List ℕ)). bytes_eq b x.name && has_parent p m) (ep x)) items) ∙ h) n a a l);
       }

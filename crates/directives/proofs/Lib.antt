@@ -11,3 +11,4 @@ pub mod Spread
 pub mod Kept
 pub mod Acting
 pub mod Accepting
+pub mod Runs

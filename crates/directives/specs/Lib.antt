@@ -5,3 +5,4 @@ pub mod Hypotheses
 pub mod Acts
 pub mod Applying
 pub mod Names
+pub mod Laws
