@@ -21,7 +21,8 @@ use Rattle.directives.proofs.Stripped.{tally, strip, stripped, bare, Fine, items
 use Rattle.directives.proofs.Faultless.{Faultless, Each, each_from, each_to, is_other, others, others_each}
 use Rattle.directives.proofs.FineItems.{takes, one_include, fine_from, each_again}
 use Rattle.directives.proofs.Spread.{by_item, spots_by_item, spread_same, bare_spots, strip_spot, hyp_include, plain_same, expanded_plain, spot_include, fewer_includes, keep, count_spots, sync_spot}
-use Rattle.directives.proofs.Acting.{fine_acted, few_acted, hidden_acted}
+use Rattle.directives.proofs.Acting.{fine_acted, few_acted, hidden_acted, acted_alike}
+use Rattle.directives.specs.Rounds.{acted_in_rounds, go_on_in_rounds, directed_in_rounds}
 
 -- ---- entries and their places
 
@@ -166,6 +167,15 @@ ready_all shipped o n prefixes (d ∷ ds) items new r e = by (kind_of d.act item
     by None h f = f h
     by (Some kind) h f = absurd cc
 
+directed_alike : (shipped : List Item) (o : List Entry) (n : ℕ) (prefixes : List (List ℕ)) (ds : List Directive) (items : List Item) → Ready shipped o n prefixes items → directed ds items ≡ directed_in_rounds ds items
+unfolding directed directed_in_rounds
+directed_alike shipped o n prefixes [] items r = refl
+directed_alike shipped o n prefixes (d ∷ ds) items r = by (kind_of d.act items) (directed_alike shipped o n prefixes ds (acted d.act items) (ready_more shipped o n prefixes d.act items r))
+  where
+    by : (k : Option DirectiveKind) → directed ds (acted d.act items) ≡ directed_in_rounds ds (acted d.act items) → go_on (directed ds) d items k ≡ go_on_in_rounds (directed_in_rounds ds) d items k
+    by None h = h ∙ ap (directed_in_rounds ds) (sym (acted_alike o n d.act items r.fine))
+    by (Some kind) h = refl
+
 -- ---- what is made is accepted
 
 made : (t : Resources) (shipped new : List Item) (o : List Entry) (n : ℕ) (prefixes : List (List ℕ)) → Ready shipped o n prefixes new → HaveFoci t o → Each o [] o → IsAccepted t shipped new
@@ -197,3 +207,10 @@ prefixes_after t shipped items ds new a e =
     let es : List Entry = a.1.0 in
     let each = each_from es [] es a.1.2 in
     (ready_all shipped (others es) (length es) (prefixes_of shipped items) ds (expanded shipped items) new (ready_first t shipped items es a.1.1 each) e).begins
+
+pub rounds_applied : (t : Resources) (shipped items : List Item) (ds : List Directive) → IsAccepted t shipped items → applied shipped items ds ≡ directed_in_rounds ds (expanded shipped items)
+unfolding IsAccepted applied
+rounds_applied t shipped items ds a =
+    let es : List Entry = a.1.0 in
+    let each = each_from es [] es a.1.2 in
+    directed_alike shipped (others es) (length es) (prefixes_of shipped items) ds (expanded shipped items) (ready_first t shipped items es a.1.1 each)

@@ -10,14 +10,16 @@ use Rattle.mdl_ast.specs.declared.items.Hypothesis.{Hypothesis as TheHypothesis}
 use Rattle.mdl_check.specs.Spots.{Entry, is_hypothesis}
 use Rattle.mdl_check.specs.Rules.{is_axis}
 use Rattle.directives.specs.Hypotheses.{is_named, is_orphan}
-use Rattle.directives.specs.Acts.{settled, pruned, changed, without_axis, with_threshold, put_first, moved, with_first, acted}
+use Rattle.directives.specs.Rounds.{pruned_in_rounds, acted_in_rounds}
+use Rattle.directives.specs.Acts.{is_under, pruned, changed, without_axis, with_threshold, put_first, moved, with_first, acted}
 use Rattle.directives.specs.declared.directive.DirectiveAct.{DirectiveAct}
 use Rattle.directives.specs.declared.directive.DirectiveAct.TheVariants.{Prune, PruneAxis, Threshold, First}
 use Rattle.directives.proofs.Stripped.{tally, strip, stripped, bare, named, misses, is_lost, is_strange, Fine}
 use Rattle.directives.proofs.FineItems.{tally_append}
 use Rattle.directives.proofs.Cycles.{and_both}
 use Rattle.directives.proofs.Fronting.{found_at}
-use Rattle.directives.proofs.Kept.{Part, fine_part, part_few, part_pruned, pruned_done, orphans_lost, same_any, fine_changed, changed_few}
+use Rattle.directives.proofs.Kept.{Part, fine_part, part_few, part_pruned, rounds_done, Homeless, orphans_lost, same_any, fine_changed, changed_few}
+use Rattle.directives.proofs.Ancestry.{rounds_pruned}
 
 -- ---- an item in another place
 
@@ -103,8 +105,18 @@ axes_stay axis axes h = ap not (kept axes (yes (list_all is_axis axes) h))
         one true a rest p q = ap (λ (c : Bool). c && list_all is_axis rest) p ∙ q
         one false a rest p q = q
 
+-- names stand once and each has its parent, so rounds prune alike
+rounds_fine : (o : List Entry) (n : ℕ) (name : List ℕ) (items : List Item) → Fine o n (stripped items) → pruned_in_rounds name items ≡ pruned name items
+rounds_fine o n name items f = rounds_pruned name items f.once (orphans_lost items ∙ f.parents)
+
+pub acted_alike : (o : List Entry) (n : ℕ) (act : DirectiveAct) (items : List Item) → Fine o n (stripped items) → acted_in_rounds act items ≡ acted act items
+acted_alike o n (Prune name) items f = rounds_fine o n name items f
+acted_alike o n (PruneAxis name axis) items f = refl
+acted_alike o n (Threshold name threshold) items f = refl
+acted_alike o n (First name) items f = refl
+
 pub fine_acted : (o : List Entry) (n : ℕ) (act : DirectiveAct) (items : List Item) → Fine o n (stripped items) → Fine o n (stripped (acted act items))
-fine_acted o n (Prune name) items f = fine_part o n (stripped (pruned name items)) (stripped items) (part_pruned name items) (sym (orphans_lost (pruned name items)) ∙ pruned_done name items) f
+fine_acted o n (Prune name) items f = fine_part o n (stripped (pruned name items)) (stripped items) (part_pruned name items) (sym (orphans_lost (pruned name items)) ∙ subst Homeless (rounds_fine o n name items f) (rounds_done name items)) f
 fine_acted o n (PruneAxis name axis) items f = fine_changed name (without_axis axis) o n items (λ h. refl) (λ h. refl) (λ h. refl) (λ h k. axes_stay axis h.axes k) f
 fine_acted o n (Threshold name threshold) items f = fine_changed name (with_threshold threshold) o n items (λ h. refl) (λ h. refl) (λ h. refl) (λ h k. k) f
 fine_acted o n (First name) items f =
@@ -137,25 +149,19 @@ module _ {B : Type 0} (f : Item → List B) (hyp : (h : TheHypothesis) → f (Hy
   no_name name (Phase p) e = absurd cc
   no_name name (Wish w) e = absurd cc
 
-  no_orphan : (all : List Item) (x : Item) → not (is_orphan all x) ≡ false → f x ≡ []
-  no_orphan all (Include i) e = absurd cc
-  no_orphan all (Sync s) e = absurd cc
-  no_orphan all (Metric m) e = absurd cc
-  no_orphan all (Constraint c) e = absurd cc
-  no_orphan all (Hypothesis h) e = hyp h
-  no_orphan all (Search s) e = absurd cc
-  no_orphan all (Phase p) e = absurd cc
-  no_orphan all (Wish w) e = absurd cc
-
-  hidden_settled : (n : ℕ) (xs : List Item) → flat_map f (settled n xs) ≡ flat_map f xs
-  hidden_settled zero xs = refl
-  hidden_settled (suc n) xs = hidden_settled n (filter (λ item. not (is_orphan xs item)) xs) ∙ hidden_filter (λ item. not (is_orphan xs item)) (no_orphan xs) xs
+  not_under : (items : List Item) (n : ℕ) (name : List ℕ) (x : Item) → not (is_under items n name x) ≡ false → f x ≡ []
+  not_under items n name (Include i) e = absurd cc
+  not_under items n name (Sync s) e = absurd cc
+  not_under items n name (Metric m) e = absurd cc
+  not_under items n name (Constraint c) e = absurd cc
+  not_under items n name (Hypothesis h) e = hyp h
+  not_under items n name (Search s) e = absurd cc
+  not_under items n name (Phase p) e = absurd cc
+  not_under items n name (Wish w) e = absurd cc
 
   hidden_pruned : (name : List ℕ) (xs : List Item) → flat_map f (pruned name xs) ≡ flat_map f xs
   unfolding pruned
-  hidden_pruned name xs =
-      let rest : List Item = filter (λ item. not (is_named name item)) xs in
-      hidden_settled (length rest) rest ∙ hidden_filter (λ item. not (is_named name item)) (no_name name) xs
+  hidden_pruned name xs = hidden_filter (λ item. not (is_under xs (length xs) name item)) (not_under xs (length xs) name) xs
 
   hidden_change : (name : List ℕ) (change : TheHypothesis → TheHypothesis) (xs : List Item) → flat_map f (map (changed name change) xs) ≡ flat_map f xs
   hidden_change name change [] = refl

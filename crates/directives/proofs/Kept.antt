@@ -11,12 +11,13 @@ use Rattle.mdl_check.specs.Spots.{Entry, is_hypothesis}
 use Rattle.mdl_check.specs.Rules.{is_axis}
 use Rattle.mdl_check.specs.Names.{metric_number}
 use Rattle.directives.specs.Hypotheses.{is_named, stands, lacks, is_orphan}
-use Rattle.directives.specs.Acts.{settled, pruned, changed, without_axis, with_threshold, put_first, moved, with_first, acted}
+use Rattle.directives.specs.Rounds.{settled, pruned_in_rounds}
+use Rattle.directives.specs.Acts.{leads_up, is_under, pruned, changed, without_axis, with_threshold, put_first, moved, with_first, acted}
 use Rattle.directives.specs.declared.directive.DirectiveAct.{DirectiveAct}
 use Rattle.directives.specs.declared.directive.DirectiveAct.TheVariants.{Prune, PruneAxis, Threshold, First}
 use Rattle.directives.proofs.Stripped.{or_none, count_filter, count_none, none_counted, tally, strip, stripped, lift, bare, named, misses, is_lost, has_parent, is_pair, Leads, is_unmeasured, is_strange, Fine, any_stripped}
 use Rattle.directives.proofs.FineItems.{tally_append}
-use Rattle.directives.proofs.Settling.{filter_all}
+use Rattle.directives.proofs.Settling.{filter_few, round, still}
 
 -- ---- fewer hypotheses
 
@@ -115,17 +116,9 @@ orphan_lost all (Wish w) = refl
 pub orphans_lost : (items : List Item) → list_any (is_orphan items) items ≡ list_any (is_lost (stripped items)) (stripped items)
 orphans_lost items = ap (λ (t : Item → Bool). list_any t items) (λ i item. orphan_lost items item i) ∙ sym (any_stripped (is_lost (stripped items)) items)
 
-all_stay : {A : Type 0} (q : A → Bool) (xs : List A) → list_any q xs ≡ false → filter (λ x. not (q x)) xs ≡ xs
+pub all_stay : {A : Type 0} (q : A → Bool) (xs : List A) → list_any q xs ≡ false → filter (λ x. not (q x)) xs ≡ xs
 all_stay q [] h = refl
 all_stay q (x ∷ xs) h = let k = or_parts (q x) (list_any q xs) h in ap (λ (b : Bool). cond (not b) (x ∷ filter (λ x. not (q x)) xs) (filter (λ x. not (q x)) xs)) k.0 ∙ ap (λ (l : List _). x ∷ l) (all_stay q xs k.1)
-
-filter_few : {A : Type 0} (p : A → Bool) (xs : List A) → length (filter p xs) ≤ length xs
-filter_few p [] = omega arith
-filter_few p (x ∷ xs) = by (p x) (filter_few p xs)
-  where
-    by : (b : Bool) → length (filter p xs) ≤ length xs → length (cond b (x ∷ filter p xs) (filter p xs)) ≤ length (x ∷ xs)
-    by true h = omega arith
-    by false h = omega arith
 
 shorter : {A : Type 0} (q : A → Bool) (xs : List A) → list_any q xs ≡ true → length (filter (λ x. not (q x)) xs) < length xs
 shorter q [] h = absurd cc
@@ -136,14 +129,7 @@ shorter q (x ∷ xs) h = by (q x) h (filter_few (λ x. not (q x)) xs) (λ k. sho
     by true h f k = omega arith
     by false h f k = let g = k h in omega arith
 
-abbrev round : List Item → List Item
-round items = filter (λ item. not (is_orphan items item)) items
-
-still : (n : ℕ) (items : List Item) → round items ≡ items → settled n items ≡ items
-still zero items e = refl
-still (suc n) items e = ap (settled n) e ∙ still n items e
-
-abbrev Homeless : List Item → Type 0
+abbrev pub Homeless : List Item → Type 0
 Homeless items = list_any (is_orphan items) items ≡ false
 
 pub settled_done : (n : ℕ) (items : List Item) → length items ≤ n → Homeless (settled n items)
@@ -155,20 +141,14 @@ settled_done (suc n) items h = by (list_any (is_orphan items) items) refl (λ k.
     by true e f = let k = shorter (is_orphan items) items e in f (omega arith)
     by false e f = subst Homeless (sym (still (suc n) items (all_stay (is_orphan items) items e))) e
 
-part_settled : (n : ℕ) (items : List Item) → Part (stripped (settled n items)) (stripped items)
-part_settled zero items q = omega arith
-part_settled (suc n) items q =
-    omega (arith, part_settled n (round items) q, part_filter (λ item. not (is_orphan items item)) (λ h. not (is_lost (stripped items) h)) (λ x. ap not (orphan_lost items (Hypothesis x))) items q)
-
 pub part_pruned : (name : List ℕ) (items : List Item) → Part (stripped (pruned name items)) (stripped items)
 unfolding pruned
-part_pruned name items q =
-    let rest : List Item = filter (λ item. not (is_named name item)) items in
-    omega (arith, part_settled (length rest) rest q, part_filter (λ item. not (is_named name item)) (λ h. not (named name h)) (λ x. refl) items q)
+part_pruned name items =
+    part_filter (λ item. not (is_under items (length items) name item)) (λ h. not (bytes_eq name h.name || leads_up items (length items) name h.parent)) (λ x. refl) items
 
-pub pruned_done : (name : List ℕ) (items : List Item) → Homeless (pruned name items)
-unfolding pruned
-pruned_done name items = let rest : List Item = filter (λ item. not (is_named name item)) items in settled_done (length rest) rest (omega arith)
+pub rounds_done : (name : List ℕ) (items : List Item) → Homeless (pruned_in_rounds name items)
+unfolding pruned_in_rounds
+rounds_done name items = settled_done (length items) (filter (λ item. not (is_named name item)) items) (filter_few (λ item. not (is_named name item)) items)
 
 -- lists in which as many pass pass alike
 pub same_any : (q : TheHypothesis → Bool) (new old : List TheHypothesis) → tally q new ≡ tally q old → list_any q new ≡ list_any q old

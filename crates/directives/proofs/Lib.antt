@@ -9,6 +9,7 @@ pub mod Cycles
 pub mod FineItems
 pub mod Spread
 pub mod Kept
+pub mod Ancestry
 pub mod Acting
 pub mod Accepting
 pub mod Runs

@@ -6,7 +6,8 @@ use Rattle.directives.specs.declared.directive.Directive.{Directive}
 use Rattle.directives.specs.declared.fault.DirectiveKind.{DirectiveKind}
 use Rattle.directives.specs.declared.fault.DirectiveFault.{DirectiveFault}
 use Rattle.directives.specs.declared.fault.DirectiveFault.TheVariants.{At}
-use Rattle.directives.specs.Acts.{kind_of, acted, go_on, directed}
+use Rattle.directives.specs.Acts.{kind_of}
+use Rattle.directives.specs.Rounds.{acted_in_rounds, go_on_in_rounds, directed_in_rounds}
 
 -- ---- a change of each item, in its place
 
@@ -27,22 +28,22 @@ changed_more f all now i x new e h k n =
 abbrev Answer : Type 0
 Answer = Result (List Item) DirectiveFault
 
-directed_step : (whole : Answer) (ds : List Directive) (i : ℕ) (d : Directive) (items : List Item) → whole ≡ directed (drop i ds) items → i < length ds → d ≡ get_or ds i d →
-    whole ≡ go_on (directed (drop (i + 1) ds)) d items (kind_of d.act items)
-unfolding directed
+directed_step : (whole : Answer) (ds : List Directive) (i : ℕ) (d : Directive) (items : List Item) → whole ≡ directed_in_rounds (drop i ds) items → i < length ds → d ≡ get_or ds i d →
+    whole ≡ go_on_in_rounds (directed_in_rounds (drop (i + 1) ds)) d items (kind_of d.act items)
+unfolding directed_in_rounds
 directed_step whole ds i d items e h k =
     let next : suc i ≡ i + 1 = omega arith in
     let behind : drop i ds ≡ d ∷ drop (i + 1) ds = drop-cons ds i d h ∙ ap (λ (x : Directive). x ∷ drop (suc i) ds) (sym k) ∙ ap (λ (n : ℕ). d ∷ drop n ds) next in
-    e ∙ ap (λ (l : List Directive). directed l items) behind
+    e ∙ ap (λ (l : List Directive). directed_in_rounds l items) behind
 
-pub directed_faulty : (whole : Answer) (ds : List Directive) (i : ℕ) (d : Directive) (items : List Item) (kind : DirectiveKind) → whole ≡ directed (drop i ds) items → i < length ds → d ≡ get_or ds i d →
+pub directed_faulty : (whole : Answer) (ds : List Directive) (i : ℕ) (d : Directive) (items : List Item) (kind : DirectiveKind) → whole ≡ directed_in_rounds (drop i ds) items → i < length ds → d ≡ get_or ds i d →
     kind_of d.act items ≡ Some kind → whole ≡ Err (At d.line 0 kind)
-directed_faulty whole ds i d items kind e h k n = directed_step whole ds i d items e h k ∙ ap (go_on (directed (drop (i + 1) ds)) d items) n
+directed_faulty whole ds i d items kind e h k n = directed_step whole ds i d items e h k ∙ ap (go_on_in_rounds (directed_in_rounds (drop (i + 1) ds)) d items) n
 
-pub directed_more : (whole : Answer) (ds : List Directive) (i : ℕ) (d : Directive) (items next : List Item) → whole ≡ directed (drop i ds) items → i < length ds → d ≡ get_or ds i d →
-    kind_of d.act items ≡ None → next ≡ acted d.act items → whole ≡ directed (drop (i + 1) ds) next
+pub directed_more : (whole : Answer) (ds : List Directive) (i : ℕ) (d : Directive) (items next : List Item) → whole ≡ directed_in_rounds (drop i ds) items → i < length ds → d ≡ get_or ds i d →
+    kind_of d.act items ≡ None → next ≡ acted_in_rounds d.act items → whole ≡ directed_in_rounds (drop (i + 1) ds) next
 directed_more whole ds i d items next e h k n m =
-    directed_step whole ds i d items e h k ∙ ap (go_on (directed (drop (i + 1) ds)) d items) n ∙ ap (directed (drop (i + 1) ds)) (sym m)
+    directed_step whole ds i d items e h k ∙ ap (go_on_in_rounds (directed_in_rounds (drop (i + 1) ds)) d items) n ∙ ap (directed_in_rounds (drop (i + 1) ds)) (sym m)
 
 none_left : (ds : List Directive) (i : ℕ) → length ds ≤ i → drop i ds ≡ []
 none_left [] zero h = refl
@@ -50,6 +51,6 @@ none_left [] (suc i) h = refl
 none_left (d ∷ ds) zero h = absurd (omega arith)
 none_left (d ∷ ds) (suc i) h = none_left ds i (omega arith)
 
-pub directed_all : (whole : Answer) (ds : List Directive) (i : ℕ) (items : List Item) → whole ≡ directed (drop i ds) items → length ds ≤ i → whole ≡ Ok items
-unfolding directed
-directed_all whole ds i items e h = e ∙ ap (λ (l : List Directive). directed l items) (none_left ds i h)
+pub directed_all : (whole : Answer) (ds : List Directive) (i : ℕ) (items : List Item) → whole ≡ directed_in_rounds (drop i ds) items → length ds ≤ i → whole ≡ Ok items
+unfolding directed_in_rounds
+directed_all whole ds i items e h = e ∙ ap (λ (l : List Directive). directed_in_rounds l items) (none_left ds i h)

@@ -6,7 +6,7 @@ use Rattle.mdl_ast.specs.declared.items.Item.{Item}
 use Rattle.mdl_ast.specs.declared.items.Item.TheVariants.{Include, Sync, Metric, Constraint, Hypothesis, Search, Phase, Wish}
 use Rattle.mdl_ast.specs.declared.items.Hypothesis.{Hypothesis as TheHypothesis}
 use Rattle.directives.specs.Hypotheses.{is_named, stands, is_along, has_axis}
-use Rattle.directives.specs.Acts.{settled, settled_all, pruned, changed, without_axis, with_threshold, with_first, kind_of, acted, go_on, directed, expanded, applied}
+use Rattle.directives.specs.Acts.{pruned, changed, without_axis, with_threshold, with_first, kind_of, acted, go_on, directed, expanded, applied}
 use Rattle.directives.specs.Laws.{is_prune, is_axis_prune, threshold_behind, last_threshold, is_off, AxisIsGone, LastThresholdHolds}
 use Rattle.directives.specs.declared.directive.Directive.{Directive}
 use Rattle.directives.specs.declared.directive.DirectiveAct.{DirectiveAct}

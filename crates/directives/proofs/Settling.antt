@@ -7,7 +7,7 @@ use Rattle.mdl_ast.specs.declared.items.Item.{Item}
 use Rattle.mdl_ast.specs.declared.items.Item.TheVariants.{Include, Sync, Metric, Constraint, Hypothesis, Search, Phase, Wish}
 use Rattle.directives.specs.Hypotheses.{is_named, stands, lacks, is_orphan}
 use Rattle.directives.specs.Names.{names_of, names_in, is_missing, is_nameless}
-use Rattle.directives.specs.Acts.{settled}
+use Rattle.directives.specs.Rounds.{settled}
 
 -- ---- looking up a parent
 
@@ -70,10 +70,10 @@ filter_all p (x ∷ xs) e = by (p x) e (filter_few p xs) (filter_all p xs)
     by true e h f = ap (λ (l : List _). x ∷ l) (f (omega arith))
     by false e h f = absurd (omega arith)
 
-abbrev round : List Item → List Item
+abbrev pub round : List Item → List Item
 round items = filter (λ item. not (is_orphan items item)) items
 
-still : (n : ℕ) (items : List Item) → round items ≡ items → settled n items ≡ items
+pub still : (n : ℕ) (items : List Item) → round items ≡ items → settled n items ≡ items
 still zero items e = refl
 still (suc n) items e = ap (settled n) e ∙ still n items e
 

@@ -6,7 +6,7 @@ use Rattle.mdl_ast.specs.declared.items.Item.{Item}
 use Rattle.mdl_ast.specs.declared.items.Item.TheVariants.{Include, Sync, Metric, Constraint, Hypothesis, Search, Phase, Wish}
 use Rattle.mdl_ast.specs.declared.items.Hypothesis.{Hypothesis as TheHypothesis}
 use Rattle.mdl_check.specs.Spots.{is_hypothesis}
-use Rattle.directives.specs.Hypotheses.{is_named, stands, has_axis, is_orphan}
+use Rattle.directives.specs.Hypotheses.{is_named, stands, has_axis}
 use Rattle.directives.specs.declared.directive.Directive.{Directive}
 use Rattle.directives.specs.declared.directive.DirectiveAct.{DirectiveAct}
 use Rattle.directives.specs.declared.directive.DirectiveAct.TheVariants.{Prune, PruneAxis, Threshold, First}
@@ -32,17 +32,29 @@ expanded shipped items = flat_map (expansion shipped) items
 
 -- ---- prune
 
--- without the hypotheses whose parent doesn't stand; and so up to n times
-abbrev pub settled : ℕ → List Item → List Item
-settled zero items = items
-settled (suc n) items = settled n (filter (λ item. not (is_orphan items item)) items)
+abbrev pub parent_in : Item → Option (List ℕ)
+parent_in (Hypothesis h) = h.parent
+parent_in item = None
 
--- without the hypothesis, and then without all whose parent no longer stands
-abbrev pub settled_all : List Item → List Item
-settled_all items = settled (length items) items
+-- the parent of the hypothesis of this name
+abbrev pub parent_of : List Item → List ℕ → Option (List ℕ)
+parent_of [] name = None
+parent_of (item ∷ items) name = if is_named name item then parent_in item else parent_of items name
 
+-- the name is that of one of n ancestors, of which the first may be given
+abbrev pub leads_up : List Item → ℕ → List ℕ → Option (List ℕ) → Bool
+leads_up items zero name next = false
+leads_up items (suc n) name None = false
+leads_up items (suc n) name (Some next) = bytes_eq name next || leads_up items n name (parent_of items next)
+
+-- the hypothesis has this name, or one of its first n ancestors has
+abbrev pub is_under : List Item → ℕ → List ℕ → Item → Bool
+is_under items n name (Hypothesis h) = bytes_eq name h.name || leads_up items n name h.parent
+is_under items n name item = false
+
+-- without the hypothesis and all that have it as an ancestor; there are no more ancestors than items
 unfoldable pub pruned : List ℕ → List Item → List Item
-pruned name items = settled_all (filter (λ item. not (is_named name item)) items)
+pruned name items = filter (λ item. not (is_under items (length items) name item)) items
 
 -- ---- a change of a hypothesis
 

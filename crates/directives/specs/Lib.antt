@@ -3,6 +3,7 @@ pub mod Reading
 pub mod Gives
 pub mod Hypotheses
 pub mod Acts
+pub mod Rounds
 pub mod Applying
 pub mod Names
 pub mod Laws

@@ -2,7 +2,8 @@
 
 ghost use Rattle.std.specs.Prelude.{◌≡◌, Ok, IfOk, IfErr, OnOk};
 ghost use Rattle.mdl_check.specs.Checking.{prefixes_of};
-ghost use Rattle.directives.specs.Acts.{name_of, is_astray, kind_of, acted, applied};
+ghost use Rattle.directives.specs.Acts.{name_of, is_astray, kind_of, applied};
+ghost use Rattle.directives.specs.Rounds.{acted_in_rounds};
 ghost use Rattle.directives.specs.Applying.{IsAccepted};
 ghost use Rattle.directives.specs.Gives.{Stops};
 
@@ -55,7 +56,7 @@ fn kind_of(act: &DirectiveAct, items: &[Item]) -> Option<DirectiveKind>
 
 /// Does to the items what a directive says.
 fn act_on(alloc: Global, items: &mut Vec<Item>, act: &DirectiveAct) -> Result<(), NoMemory>
-    ensures { OnOk result (items.new.items ≡ acted act.now items.old.items) }
+    ensures { OnOk result (items.new.items ≡ acted_in_rounds act.now items.old.items) }
 {
     match act {
         DirectiveAct::Prune(name) => prune(alloc, items, name.bytes()),

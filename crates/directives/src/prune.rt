@@ -2,7 +2,7 @@
 
 ghost use Rattle.std.specs.Prelude.{◌≡◌, ◌++◌, not, filter, flat_map, length, IfOk, OnOk};
 ghost use Rattle.directives.specs.Hypotheses.{is_named, is_orphan};
-ghost use Rattle.directives.specs.Acts.{settled_all, pruned};
+ghost use Rattle.directives.specs.Rounds.{settled, pruned_in_rounds};
 ghost use Rattle.directives.specs.Names.{names_of, is_nameless, names_in};
 
 use crate::hypotheses::is_named;
@@ -60,11 +60,11 @@ fn drop_orphans(alloc: Global, items: &mut Vec<Item>) -> Result<(), NoMemory>
     Ok(())
 }
 
-/// Takes away the hypotheses whose parent doesn't stand, again and again, until each has its parent.
-fn settle(alloc: Global, items: &mut Vec<Item>) -> Result<(), NoMemory>
-    ensures { OnOk result (items.new.items ≡ settled_all items.old.items) }
+/// Takes away the hypotheses whose parent doesn't stand, again and again, until each has its parent or so many rounds are done.
+fn settle(alloc: Global, items: &mut Vec<Item>, most: usize) -> Result<(), NoMemory>
+    ensures { OnOk result (items.new.items ≡ settled most items.old.items) }
 {
-    for round in 0..items.len() {
+    for round in 0..most {
         let before = items.len();
         drop_orphans(alloc, items)?;
         if items.len() == before {
@@ -82,10 +82,11 @@ fn drop_named(items: &mut Vec<Item>, name: &[u8])
 }
 
 /// Takes away the hypothesis of this name, and all that have it as an ancestor.
-#[tactic(auto, unfolding(crate::specs::Acts::pruned))]
+#[tactic(auto, unfolding(crate::specs::Rounds::pruned_in_rounds))]
 pub(crate) fn prune(alloc: Global, items: &mut Vec<Item>, name: &[u8]) -> Result<(), NoMemory>
-    ensures { OnOk result (items.new.items ≡ pruned name.now items.old.items) }
+    ensures { OnOk result (items.new.items ≡ pruned_in_rounds name.now items.old.items) }
 {
+    let most = items.len();
     drop_named(items, name);
-    settle(alloc, items)
+    settle(alloc, items, most)
 }

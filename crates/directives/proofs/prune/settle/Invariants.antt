@@ -1,6 +1,6 @@
-use Rattle.std.proofs.Common.{◌≡◌, ◌-◌, length}
-use Rattle.directives.specs.Acts.{settled, settled_all}
+use Rattle.std.proofs.Common.{◌≡◌, ◌-◌}
+use Rattle.directives.specs.Rounds.{settled}
 use Rattle.directives.proofs.prune.settle.Given as goal
 
 abbrev pub invariant-loop-round : goal.invariant-loop-round
-invariant-loop-round l = settled_all l.fn.items.items ≡ settled (length l.fn.items.items - l.round) l.items.items
+invariant-loop-round l = settled l.most l.fn.items.items ≡ settled (l.most - l.round) l.items.items
