@@ -17,7 +17,7 @@ use Rattle.directives.specs.declared.fault.DirectiveKind.{DirectiveKind}
 use Rattle.directives.specs.declared.fault.DirectiveFault.{DirectiveFault}
 use Rattle.directives.specs.Acts.{expanded, kind_of, acted, go_on, directed, applied}
 use Rattle.directives.specs.Applying.{IsAccepted}
-use Rattle.directives.proofs.Stripped.{tally, strip, stripped, bare, Fine, items_of, hyps_of}
+use Rattle.directives.proofs.Stripped.{tally, strip, stripped, bare, named, is_lost, Fine, items_of, hyps_of}
 use Rattle.directives.proofs.Faultless.{Faultless, Each, each_from, each_to, is_other, others, others_each}
 use Rattle.directives.proofs.FineItems.{takes, one_include, fine_from, each_again}
 use Rattle.directives.proofs.Spread.{by_item, spots_by_item, spread_same, bare_spots, strip_spot, hyp_include, plain_same, expanded_plain, spot_include, fewer_includes, keep, count_spots, sync_spot}
@@ -214,3 +214,16 @@ rounds_applied t shipped items ds a =
     let es : List Entry = a.1.0 in
     let each = each_from es [] es a.1.2 in
     directed_alike shipped (others es) (length es) (prefixes_of shipped items) ds (expanded shipped items) (ready_first t shipped items es a.1.1 each)
+
+pub once_before : (t : Resources) (shipped items : List Item) → IsAccepted t shipped items → (name : List ℕ) → tally (named name) (stripped (expanded shipped items)) ≤ 1
+unfolding IsAccepted
+once_before t shipped items a =
+    let es : List Entry = a.1.0 in
+    (ready_first t shipped items es a.1.1 (each_from es [] es a.1.2)).fine.once
+
+pub homes_after : (t : Resources) (shipped items : List Item) (ds : List Directive) (new : List Item) → IsAccepted t shipped items → applied shipped items ds ≡ Ok new → list_any (is_lost (stripped new)) (stripped new) ≡ false
+unfolding IsAccepted applied
+homes_after t shipped items ds new a e =
+    let es : List Entry = a.1.0 in
+    let each = each_from es [] es a.1.2 in
+    (ready_all shipped (others es) (length es) (prefixes_of shipped items) ds (expanded shipped items) new (ready_first t shipped items es a.1.1 each) e).fine.parents

@@ -104,7 +104,7 @@ pair_named b p (Search s) e = e
 pair_named b p (Phase f) e = e
 pair_named b p (Wish w) e = e
 
-parent_of_pair : (p : List ℕ) (parent : Option (List ℕ)) → has_parent p parent ≡ true → parent ≡ Some p
+pub parent_of_pair : (p : List ℕ) (parent : Option (List ℕ)) → has_parent p parent ≡ true → parent ≡ Some p
 parent_of_pair p None h = absurd cc
 parent_of_pair p (Some own) h = ap Some (sym (same_name p own h))
 

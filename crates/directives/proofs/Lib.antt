@@ -13,3 +13,4 @@ pub mod Ancestry
 pub mod Acting
 pub mod Accepting
 pub mod Runs
+pub mod Gone

@@ -19,10 +19,10 @@ use Rattle.directives.proofs.Acting.{tally_first}
 
 -- ---- a test that no hypothesis passes
 
-none_pruned : (q : TheHypothesis → Bool) (name : List ℕ) (items : List Item) → list_any q (stripped items) ≡ false → list_any q (stripped (pruned name items)) ≡ false
+pub none_pruned : (q : TheHypothesis → Bool) (name : List ℕ) (items : List Item) → list_any q (stripped items) ≡ false → list_any q (stripped (pruned name items)) ≡ false
 none_pruned q name items h = none_in (stripped (pruned name items)) (stripped items) (part_pruned name items) q h
 
-none_first : (q : TheHypothesis → Bool) (name : List ℕ) (items : List Item) → list_any q (stripped items) ≡ false → list_any q (stripped (with_first name items)) ≡ false
+pub none_first : (q : TheHypothesis → Bool) (name : List ℕ) (items : List Item) → list_any q (stripped items) ≡ false → list_any q (stripped (with_first name items)) ≡ false
 none_first q name items h = none_in (stripped (with_first name items)) (stripped items) (λ r. omega (arith, tally_first name items r)) q h
 
 -- ---- axes
@@ -94,7 +94,7 @@ axis_acted name axis (First other) items e = absurd cc
 
 -- where one of the directives makes it so, and all keep it
 module _ (P : List Item → Type 0) (t : DirectiveAct → Bool) (makes : (act : DirectiveAct) (items : List Item) → t act ≡ true → P (acted act items)) (keeps : (act : DirectiveAct) (items : List Item) → P items → P (acted act items)) where
-  stays : (ds : List Directive) (items new : List Item) → P items → directed ds items ≡ Ok new → P new
+  pub stays : (ds : List Directive) (items new : List Item) → P items → directed ds items ≡ Ok new → P new
   unfolding directed
   stays [] items new h e = let same : items ≡ new = cc in subst P same h
   stays (d ∷ ds) items new h e = by (kind_of d.act items) e (λ k. stays ds (acted d.act items) new (keeps d.act items h) k)
