@@ -1,8 +1,6 @@
 -- The check accepts what directives make of items that it accepts.
-use Rattle.std.proofs.Common.{◌≡◌, ℕ, zero, suc, ◌+◌, ◌<◌, ◌≤◌, ◌||◌, not, cond, Bool, true, false, Option, Some, None, List, [], ◌∷◌, ◌++◌, length, map, flat_map, Result, Ok, Err, refl, sym, ap, ◌∙◌, subst, arith}
-use Rattle.std.specs.List.{list_any, filter}
-use Rattle.std.proofs.lemmas.List.{append-nil}
-use Rattle.pn_types.specs.declared.focus.Focus.{Focus}
+use Rattle.std.proofs.Common.{◌≡◌, ℕ, suc, ◌+◌, ◌≤◌, not, cond, Bool, true, false, Option, Some, None, List, [], ◌∷◌, ◌++◌, length, map, flat_map, Ok, refl, sym, ap, ◌∙◌, subst, arith}
+use Rattle.std.specs.List.{list_any}
 use Rattle.mdl_ast.specs.declared.items.Item.{Item}
 use Rattle.mdl_ast.specs.declared.items.Item.TheVariants.{Include, Sync, Metric, Constraint, Hypothesis, Search, Phase, Wish}
 use Rattle.mdl_ast.specs.declared.items.Hypothesis.{Hypothesis as TheHypothesis}
@@ -10,19 +8,18 @@ use Rattle.mdl_ast.specs.declared.items.Include.{Include as TheInclude}
 use Rattle.resource_tree.specs.Resources.{Resources}
 use Rattle.mdl_check.specs.Spots.{Spot, Entry, spot, entry, spots}
 use Rattle.mdl_check.specs.Rules.{is_include}
-use Rattle.mdl_check.specs.Checking.{HasFocus, HaveFoci, AreEntries, spot_of, first_fault, checked_of, prefixes_of}
+use Rattle.mdl_check.specs.Checking.{HasFocus, HaveFoci, AreEntries, spot_of, checked_of, prefixes_of}
 use Rattle.directives.specs.declared.directive.Directive.{Directive}
 use Rattle.directives.specs.declared.directive.DirectiveAct.{DirectiveAct}
 use Rattle.directives.specs.declared.fault.DirectiveKind.{DirectiveKind}
-use Rattle.directives.specs.declared.fault.DirectiveFault.{DirectiveFault}
 use Rattle.directives.specs.Acts.{expanded, kind_of, acted, go_on, directed, applied}
 use Rattle.directives.specs.Applying.{IsAccepted}
-use Rattle.directives.proofs.Stripped.{tally, strip, stripped, bare, named, is_lost, Fine, items_of, hyps_of}
-use Rattle.directives.proofs.Faultless.{Faultless, Each, each_from, each_to, is_other, others, others_each}
+use Rattle.directives.proofs.Stripped.{tally, strip, stripped, named, is_lost, Fine, hyps_of}
+use Rattle.directives.proofs.Faultless.{Each, each_from, each_to, is_other, others, others_each}
 use Rattle.directives.proofs.FineItems.{takes, one_include, fine_from, each_again}
 use Rattle.directives.proofs.Spread.{by_item, spots_by_item, spread_same, bare_spots, strip_spot, hyp_include, plain_same, expanded_plain, spot_include, fewer_includes, keep, count_spots, sync_spot}
 use Rattle.directives.proofs.Acting.{fine_acted, few_acted, hidden_acted, acted_alike}
-use Rattle.directives.specs.Rounds.{acted_in_rounds, go_on_in_rounds, directed_in_rounds}
+use Rattle.directives.specs.Rounds.{go_on_in_rounds, directed_in_rounds}
 
 -- ---- entries and their places
 
@@ -186,7 +183,7 @@ made t shipped new o n prefixes r foci each =
     let hyps : hyps_of all ≡ stripped new = hyps_at all ∙ ap (flat_map strip_spot) m.places ∙ bare_spots shipped new ∙ ap stripped (plain_same shipped new r.plain) in
     let fine : Fine (others all) n (hyps_of all) = subst (λ (l : List Entry). Fine l n (hyps_of all)) (sym m.among) (subst (Fine o n) (sym hyps) r.fine) in
     let spread : length all ≡ length (flat_map keep (spots shipped new)) + (length (flat_map strip_spot (spots shipped new)) + length (flat_map spot_include (spots shipped new))) =
-        sym (spots_length all) ∙ ap length m.places ∙ count_spots (spots shipped new) in
+    sym (spots_length all) ∙ ap length m.places ∙ count_spots (spots shipped new) in
     let few : length all ≤ n = omega (arith, r.few, spread, ap length r.kept, spots_length o, ap length (bare_spots shipped new), ap (λ (l : List Item). length (stripped l)) (plain_same shipped new r.plain)) in
     let single : tally takes all ≤ 1 = omega (arith, r.single, takes_at all, ap (λ (l : List Spot). length (flat_map spot_include l)) m.places) in
     let alone : Each (others all) [] (others all) = subst (λ (l : List Entry). Each l [] l) (sym m.among) each in

@@ -1,24 +1,22 @@
 -- Directives keep hypotheses fine, and change no other item.
-use Rattle.std.proofs.Common.{◌≡◌, ℕ, zero, suc, ◌+◌, ◌<◌, ◌≤◌, ◌||◌, ◌&&◌, not, cond, Bool, true, false, Option, Some, None, List, [], ◌∷◌, ◌++◌, length, map, flat_map, take, drop, bytes_eq, position, slice_get, refl, sym, ap, ◌∙◌, subst, arith}
+use Rattle.std.proofs.Common.{◌≡◌, ℕ, zero, suc, ◌+◌, ◌≤◌, ◌&&◌, not, cond, Bool, true, false, Option, Some, None, List, [], ◌∷◌, ◌++◌, length, map, flat_map, take, drop, bytes_eq, position, slice_get, refl, sym, ap, ◌∙◌, subst, arith}
 use Rattle.std.specs.List.{list_any, list_all, filter, insert, remove, position_or_len}
-use Rattle.std.proofs.lemmas.Bool.{or_parts}
-use Rattle.std.proofs.lemmas.List.{append_assoc, append-nil}
 use Rattle.std.proofs.lemmas.Grind.{flat_map-append}
 use Rattle.mdl_ast.specs.declared.items.Item.{Item}
 use Rattle.mdl_ast.specs.declared.items.Item.TheVariants.{Include, Sync, Metric, Constraint, Hypothesis, Search, Phase, Wish}
 use Rattle.mdl_ast.specs.declared.items.Hypothesis.{Hypothesis as TheHypothesis}
 use Rattle.mdl_check.specs.Spots.{Entry, is_hypothesis}
 use Rattle.mdl_check.specs.Rules.{is_axis}
-use Rattle.directives.specs.Hypotheses.{is_named, is_orphan}
+use Rattle.directives.specs.Hypotheses.{is_named}
 use Rattle.directives.specs.Rounds.{pruned_in_rounds, acted_in_rounds}
 use Rattle.directives.specs.Acts.{is_under, pruned, changed, without_axis, with_threshold, put_first, moved, with_first, acted}
 use Rattle.directives.specs.declared.directive.DirectiveAct.{DirectiveAct}
 use Rattle.directives.specs.declared.directive.DirectiveAct.TheVariants.{Prune, PruneAxis, Threshold, First}
-use Rattle.directives.proofs.Stripped.{tally, strip, stripped, bare, named, misses, is_lost, is_strange, Fine}
+use Rattle.directives.proofs.Stripped.{tally, strip, stripped, named, misses, is_lost, Fine}
 use Rattle.directives.proofs.FineItems.{tally_append}
 use Rattle.directives.proofs.Cycles.{and_both}
 use Rattle.directives.proofs.Fronting.{found_at}
-use Rattle.directives.proofs.Kept.{Part, fine_part, part_few, part_pruned, rounds_done, Homeless, orphans_lost, same_any, fine_changed, changed_few}
+use Rattle.directives.proofs.Kept.{fine_part, part_few, part_pruned, rounds_done, Homeless, orphans_lost, same_any, fine_changed, changed_few}
 use Rattle.directives.proofs.Ancestry.{rounds_pruned}
 
 -- ---- an item in another place
@@ -56,11 +54,20 @@ moves xs place front item h = record {
 
 tally_moved : (q : TheHypothesis → Bool) (old new : List Item) (item : Item) → Moves old new item → tally q (stripped new) ≡ tally q (stripped old)
 tally_moved q old new item m =
-    omega (arith, at m.left m.right, at m.before m.after, both m.before m.after, both m.left m.right,
-    ap (λ (l : List Item). tally q (stripped l)) m.from, ap (λ (l : List Item). tally q (stripped l)) m.rest, ap (λ (l : List Item). tally q (stripped l)) m.to)
+    omega (
+      arith,
+      at m.left m.right,
+      at m.before m.after,
+      both m.before m.after,
+      both m.left m.right,
+      ap (λ (l : List Item). tally q (stripped l)) m.from,
+      ap (λ (l : List Item). tally q (stripped l)) m.rest,
+      ap (λ (l : List Item). tally q (stripped l)) m.to,
+    )
   where
     both : (xs ys : List Item) → tally q (stripped (xs ++ ys)) ≡ tally q (stripped xs) + tally q (stripped ys)
     both xs ys = ap (tally q) (flat_map-append strip xs ys) ∙ tally_append q (stripped xs) (stripped ys)
+
     at : (xs ys : List Item) → tally q (stripped (xs ++ (item ∷ ys))) ≡ tally q (stripped xs) + (tally q (strip item) + tally q (stripped ys))
     at xs ys = ap (tally q) (flat_map-append strip xs (item ∷ ys)) ∙ tally_append q (stripped xs) (strip item ++ stripped ys) ∙ ap (λ (n : ℕ). tally q (stripped xs) + n) (tally_append q (strip item) (stripped ys))
 
@@ -97,6 +104,7 @@ axes_stay axis axes h = ap not (kept axes (yes (list_all is_axis axes) h))
     yes : (b : Bool) → not b ≡ false → b ≡ true
     yes true e = refl
     yes false e = absurd cc
+
     kept : (axes : List (List ℕ)) → list_all is_axis axes ≡ true → list_all is_axis (filter (λ other. not (bytes_eq axis other)) axes) ≡ true
     kept [] e = refl
     kept (a ∷ more) e = let k = and_both (is_axis a) (list_all is_axis more) e in one (not (bytes_eq axis a)) a (filter (λ other. not (bytes_eq axis other)) more) k.0 (kept more k.1)

@@ -1,19 +1,18 @@
 -- A prune in rounds takes away the hypothesis and those that have it as an ancestor.
-use Rattle.std.proofs.Common.{◌≡◌, ℕ, zero, suc, ◌+◌, ◌<◌, ◌≤◌, ◌||◌, ◌&&◌, not, cond, Bool, true, false, Option, Some, None, List, [], ◌∷◌, ◌++◌, length, bytes_eq, refl, sym, ap, ◌∙◌, subst, arith}
+use Rattle.std.proofs.Common.{◌≡◌, ℕ, zero, suc, ◌+◌, ◌≤◌, ◌||◌, ◌&&◌, not, cond, Bool, true, false, Option, Some, None, List, [], ◌∷◌, ◌++◌, length, bytes_eq, refl, sym, ap, ◌∙◌, arith}
 use Rattle.std.specs.List.{list_any, filter}
 use Rattle.std.proofs.lemmas.Bool.{or_parts}
 use Rattle.std.proofs.lemmas.List.{append_assoc}
 use Rattle.mdl_ast.specs.declared.items.Item.{Item}
 use Rattle.mdl_ast.specs.declared.items.Item.TheVariants.{Include, Sync, Metric, Constraint, Hypothesis, Search, Phase, Wish}
-use Rattle.mdl_ast.specs.declared.items.Hypothesis.{Hypothesis as TheHypothesis}
 use Rattle.directives.specs.Hypotheses.{is_named, stands, lacks, is_orphan}
 use Rattle.directives.specs.Acts.{parent_in, parent_of, leads_up, is_under, pruned}
 use Rattle.directives.specs.Rounds.{settled, pruned_in_rounds}
-use Rattle.directives.proofs.Stripped.{or_right, tally, none_counted, stripped, lift, bare, named, count_stripped}
+use Rattle.directives.proofs.Stripped.{tally, none_counted, stripped, lift, named, count_stripped}
 use Rattle.directives.proofs.FineItems.{tally_append}
-use Rattle.directives.proofs.Cycles.{same_name, name_itself}
+use Rattle.directives.proofs.Cycles.{same_name}
 use Rattle.directives.proofs.Kept.{named_lift, Homeless}
-use Rattle.directives.proofs.Settling.{same_filter, round}
+use Rattle.directives.proofs.Settling.{same_filter}
 
 -- ---- the parent of a name is that of its hypothesis
 
@@ -126,6 +125,7 @@ module _ (items : List Item) (k : ℕ) (name : List ℕ) where
             yes : (c : Bool) → not c ≡ false → c ≡ true
             yes true e = refl
             yes false e = absurd cc
+
             twice : (u : Bool) → not (not u && true) ≡ u
             twice true = refl
             twice false = refl

@@ -1,6 +1,6 @@
 -- A hypothesis that is its own ancestor, by places and by names.
-use Rattle.std.proofs.Common.{◌≡◌, ℕ, zero, suc, ◌+◌, ◌<◌, ◌≤◌, ◌||◌, ◌&&◌, ◌⊎◌, inl, inr, ◌==◌, not, cond, Bool, true, false, Option, Some, None, List, [], ◌∷◌, ◌++◌, length, map, position, bytes_eq, slice_get, eq-eqb, eqb-true, refl, sym, ap, ◌∙◌, subst, arith, length-append}
-use Rattle.std.specs.List.{list_any, list_all, filter, position_from}
+use Rattle.std.proofs.Common.{◌≡◌, ℕ, zero, suc, ◌+◌, ◌≤◌, ◌||◌, ◌&&◌, ◌⊎◌, inl, inr, ◌==◌, cond, Bool, true, false, Option, Some, None, List, [], ◌∷◌, ◌++◌, length, map, position, bytes_eq, slice_get, eq-eqb, eqb-true, refl, sym, ap, ◌∙◌, subst, arith, length-append}
+use Rattle.std.specs.List.{list_any, position_from}
 use Rattle.std.specs.Option.{option_and_then}
 use Rattle.std.proofs.lemmas.Bool.{or_parts}
 use Rattle.std.proofs.lemmas.Slice.Eq.{bytes_eq-Decides}
@@ -11,8 +11,8 @@ use Rattle.mdl_ast.specs.declared.items.Hypothesis.{Hypothesis as TheHypothesis}
 use Rattle.mdl_check.specs.Spots.{Entry}
 use Rattle.mdl_check.specs.Names.{hypothesis_place}
 use Rattle.mdl_check.specs.Rules.{parent_place, parents_of, parent_at, leads_to, is_cyclic}
-use Rattle.directives.proofs.Stripped.{or_right, tally, none_counted, lift, bare, named, has_parent, is_pair, Leads, hyps_of, is_at, place_is, any_hyps, count_hyps}
-use Rattle.directives.proofs.Faultless.{Faultless, Each, parent_is}
+use Rattle.directives.proofs.Stripped.{or_right, tally, none_counted, lift, bare, named, has_parent, is_pair, Leads, hyps_of, is_at, place_is, any_hyps}
+use Rattle.directives.proofs.Faultless.{Each, parent_is}
 
 pub same_name : (a b : List ℕ) → bytes_eq a b ≡ true → a ≡ b
 same_name a b h = (bytes_eq-Decides a b).0 h
@@ -144,6 +144,7 @@ forth all (suc n) a b i k once p q h =
         let there = some_place (is_at h.0) all (any_named h.0 l.0 all l.1) in
         let place : hypothesis_place all h.0 ≡ Some there.0 = place_is all h.0 ∙ there.1 in
         ap (way_of all n i) place ∙ or_right (there.0 == i) (leads_to (parents_of all) n i (parent_at (parents_of all) there.0)) (f there.0 place)
+
     by : (h.0 ≡ a) ⊎ Leads (hyps_of all) n a h.0 → ((r : ℕ) → hypothesis_place all h.0 ≡ Some r → Leads (hyps_of all) n a h.0 → leads_to (parents_of all) n i (parent_at (parents_of all) r) ≡ true) →
         way_of all n i (hypothesis_place all h.0) ≡ true
     by (inl e) f = ap (λ (x : List ℕ). way_of all n i (hypothesis_place all x)) e ∙ ap (way_of all n i) p ∙ ap (λ (c : Bool). c || leads_to (parents_of all) n i (parent_at (parents_of all) i)) (eq_itself i)
@@ -182,6 +183,7 @@ back all (suc n) i k e f g h p r q s t =
     one parent o =
         passes_at (is_pair h.name parent) all k f q
         (ap (lift (is_pair h.name parent)) s ∙ ap (λ (c : Bool). c && has_parent parent h.parent) (name_itself h.name) ∙ ap (has_parent parent) o ∙ name_itself parent)
+
     step : (parent : List ℕ) (m : ℕ) → h.parent ≡ Some parent → hypothesis_place all parent ≡ Some m → ((m == i) || leads_to (parents_of all) n i (parent_at (parents_of all) m)) ≡ true →
         ((m : ℕ) (x : Entry) (y : TheHypothesis) → slice_get all m ≡ Some x → x.item ≡ Hypothesis y → leads_to (parents_of all) n i (parent_at (parents_of all) m) ≡ true → Leads (hyps_of all) n g.name y.name) →
         Leads (hyps_of all) (suc n) g.name h.name
@@ -197,6 +199,7 @@ back all (suc n) i k e f g h p r q s t =
             let same : m ≡ i = eqb-true m i c in
             inl (sym name ∙ name_at all i x e y g (subst (λ (j : ℕ). slice_get all j ≡ Some x) same b) p d r)
         split false c w x y b d name = inr (subst (Leads (hyps_of all) n g.name) name (more m x y b d w))
+
     by : (parent : Option (List ℕ)) → h.parent ≡ parent → way_of all n i (option_and_then (hypothesis_place all) parent) ≡ true →
         ((m : ℕ) (x : Entry) (y : TheHypothesis) → slice_get all m ≡ Some x → x.item ≡ Hypothesis y → leads_to (parents_of all) n i (parent_at (parents_of all) m) ≡ true → Leads (hyps_of all) n g.name y.name) →
         Leads (hyps_of all) (suc n) g.name h.name

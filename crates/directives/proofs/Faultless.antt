@@ -1,6 +1,6 @@
 -- Items without a fault, one after another.
-use Rattle.std.proofs.Common.{◌≡◌, ℕ, zero, suc, ◌+◌, ◌<◌, ◌≤◌, ◌||◌, ◌&&◌, not, cond, Bool, true, false, Option, Some, None, List, [], ◌∷◌, ◌++◌, length, map, flat_map, fold, bytes_eq, is_some, slice_get, nat_lt, nat_le, ◌==◌, codes, refl, sym, ap, ◌∙◌, subst, arith}
-use Rattle.std.specs.List.{list_any, list_all, filter, count_by}
+use Rattle.std.proofs.Common.{◌≡◌, ℕ, zero, suc, ◌+◌, ◌||◌, ◌&&◌, not, cond, Bool, true, false, Option, Some, None, List, [], ◌∷◌, ◌++◌, length, fold, bytes_eq, is_some, slice_get, nat_lt, nat_le, ◌==◌, codes, refl, sym, ap, ◌∙◌, subst}
+use Rattle.std.specs.List.{list_any, filter, count_by}
 use Rattle.std.specs.Option.{option_and_then, option_map}
 use Rattle.std.proofs.lemmas.List.{append_assoc, append-nil}
 use Rattle.std.proofs.lemmas.List.Elements.{filter-append}
@@ -13,7 +13,7 @@ use Rattle.mdl_ast.specs.declared.items.Include.{Include as TheInclude}
 use Rattle.mdl_ast.specs.declared.items.Hypothesis.{Hypothesis as TheHypothesis}
 use Rattle.mdl_check.specs.Spots.{Entry, entry}
 use Rattle.mdl_check.specs.Names.{constraint_in, constraint_named, metric_name, number_from, metric_number}
-use Rattle.mdl_check.specs.Rules.{is_include, is_search, is_on, are_two_on, is_shown_by, is_repeated, is_unknown, is_wrong, is_misused, is_astray, tick_behind, last_tick, parent_place, parents_of, parent_at, leads_to, is_cyclic, fault_of, misuse}
+use Rattle.mdl_check.specs.Rules.{is_on, are_two_on, is_repeated, is_unknown, is_wrong, is_misused, is_astray, tick_behind, parent_place, parents_of, parent_at, leads_to, is_cyclic, fault_of}
 use Rattle.mdl_check.specs.Checking.{fault_from}
 use Rattle.mdl_check.specs.declared.fault.CheckKind.{CheckKind}
 use Rattle.mdl_check.specs.declared.fault.CheckKind.TheVariants.{TwiceNamed, UnknownName, WrongKind, CyclicParent, BadFocus}

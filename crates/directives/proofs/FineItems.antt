@@ -1,6 +1,6 @@
 -- Items are without a fault exactly where the others are by themselves, and the hypotheses are fine beside them.
-use Rattle.std.proofs.Common.{◌≡◌, ℕ, zero, suc, ◌+◌, ◌<◌, ◌≤◌, ◌||◌, ◌&&◌, ◌⊎◌, inl, inr, not, cond, Bool, true, false, Option, Some, None, List, [], ◌∷◌, ◌++◌, length, bytes_eq, is_some, slice_get, refl, sym, ap, ◌∙◌, subst, arith}
-use Rattle.std.specs.List.{list_any, list_all, filter}
+use Rattle.std.proofs.Common.{◌≡◌, ℕ, zero, suc, ◌+◌, ◌≤◌, ◌||◌, ◌⊎◌, inl, inr, not, cond, Bool, true, false, Option, Some, List, [], ◌∷◌, ◌++◌, length, is_some, slice_get, refl, sym, ap, ◌∙◌, subst, arith}
+use Rattle.std.specs.List.{list_any, list_all}
 use Rattle.std.proofs.lemmas.Bool.{or_parts}
 use Rattle.std.proofs.lemmas.List.{append_assoc, append-nil}
 use Rattle.mdl_ast.specs.declared.items.Item.{Item}
@@ -9,9 +9,9 @@ use Rattle.mdl_ast.specs.declared.items.Hypothesis.{Hypothesis as TheHypothesis}
 use Rattle.mdl_ast.specs.declared.items.Include.{Include as TheInclude}
 use Rattle.mdl_check.specs.Spots.{Entry}
 use Rattle.mdl_check.specs.Names.{metric_number}
-use Rattle.mdl_check.specs.Rules.{is_axis, is_include, is_repeated, is_unknown, is_wrong, is_astray, parent_place, parents_of, parent_at, leads_to, is_cyclic, is_orphan as is_parentless}
-use Rattle.directives.proofs.Stripped.{or_none, tally, none_counted, count_none, strip, lift, bare, named, misses, is_lost, is_pair, Leads, is_unmeasured, is_strange, Fine, hyps_of, is_at, any_one, count_one, repeated_is, parentless_is, any_hyps, count_hyps, hyps_append}
-use Rattle.directives.proofs.Faultless.{Faultless, Each, is_other, others, or_same, metric_of_others, element_at, no_cycle, other_among}
+use Rattle.mdl_check.specs.Rules.{is_axis, is_include, is_repeated, is_unknown, is_wrong, is_astray, parent_place, parents_of, is_cyclic, is_orphan as is_parentless}
+use Rattle.directives.proofs.Stripped.{or_none, tally, none_counted, count_none, lift, bare, named, is_lost, Leads, is_unmeasured, is_strange, Fine, hyps_of, is_at, any_one, repeated_is, parentless_is, any_hyps, count_hyps}
+use Rattle.directives.proofs.Faultless.{Faultless, Each, is_other, others, metric_of_others, element_at, no_cycle, other_among}
 use Rattle.directives.proofs.Cycles.{name_itself, lifted, passes_at, back, no_way_back, same_name, parents_length}
 
 abbrev weight : Bool → ℕ
@@ -193,6 +193,7 @@ each_again all n f few c before (e ∷ es) h g = by (is_other e.item) refl g (λ
   where
     by : (b : Bool) → is_other e.item ≡ b → Each (others all) (others before) (cond b (e ∷ others es) (others es)) → (Each (others all) (others (before ++ (e ∷ []))) (others es) → Each all (before ++ (e ∷ [])) es) → Each all before (e ∷ es)
     by true o g more = (other_among all before es e h o g.0, more (subst (λ (l : List Entry). Each (others all) l (others es)) (sym (others_after before e true o)) g.1))
-    by false o g more =
-        (fine_hidden all before es e h n e.item refl o f few c,
-         more (subst (λ (l : List Entry). Each (others all) l (others es)) (sym (others_after before e false o ∙ append-nil (others before))) g))
+    by false o g more = (
+      fine_hidden all before es e h n e.item refl o f few c,
+      more (subst (λ (l : List Entry). Each (others all) l (others es)) (sym (others_after before e false o ∙ append-nil (others before))) g),
+    )

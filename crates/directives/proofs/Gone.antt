@@ -1,5 +1,5 @@
 -- What was pruned is gone, with all that has it as an ancestor.
-use Rattle.std.proofs.Common.{◌≡◌, ℕ, zero, suc, ◌+◌, ◌<◌, ◌≤◌, ◌||◌, ◌&&◌, not, cond, Bool, true, false, Option, Some, None, List, [], ◌∷◌, length, bytes_eq, Result, Ok, Err, refl, sym, ap, ◌∙◌, subst, arith}
+use Rattle.std.proofs.Common.{◌≡◌, ℕ, zero, suc, ◌+◌, ◌≤◌, ◌||◌, ◌&&◌, not, cond, Bool, true, false, Option, Some, None, List, [], ◌∷◌, length, bytes_eq, Ok, refl, sym, ap, ◌∙◌, subst, arith}
 use Rattle.std.specs.List.{list_any, filter}
 use Rattle.std.proofs.lemmas.Bool.{or_parts}
 use Rattle.mdl_ast.specs.declared.items.Item.{Item}
@@ -13,8 +13,8 @@ use Rattle.directives.specs.Laws.{is_prune, is_parent, is_child, IsAncestor, Par
 use Rattle.directives.specs.declared.directive.Directive.{Directive}
 use Rattle.directives.specs.declared.directive.DirectiveAct.{DirectiveAct}
 use Rattle.directives.specs.declared.directive.DirectiveAct.TheVariants.{Prune, PruneAxis, Threshold, First}
-use Rattle.directives.proofs.Stripped.{or_none, none_counted, count_none, tally, strip, stripped, lift, bare, named, misses, is_lost, has_parent, is_pair, any_stripped}
-use Rattle.directives.proofs.Cycles.{same_name, and_both, parent_of_pair}
+use Rattle.directives.proofs.Stripped.{or_none, none_counted, tally, stripped, lift, named, misses, is_lost, has_parent, is_pair, any_stripped}
+use Rattle.directives.proofs.Cycles.{same_name, parent_of_pair}
 use Rattle.directives.proofs.Kept.{stands_named, change_none}
 use Rattle.directives.proofs.Runs.{none_pruned, none_first, stays, in_the_end}
 use Rattle.directives.proofs.Accepting.{once_before, homes_after}
@@ -144,6 +144,7 @@ pruned_is_gone t shipped items new ds name a e d = (gone, λ b up. by b up (stan
   where
     gone : stands name new ≡ false
     gone = stands_named name new ∙ in_the_end (Nobody (named name)) (is_prune name) (makes name) (keeps_named name) ds (expanded shipped items) new d (run t shipped items new ds a e)
+
     by : (b : List ℕ) → IsAncestor (expanded shipped items) name b → (c : Bool) → stands b new ≡ c → stands b new ≡ false
     by b up false s = s
     by b up true s = let g = sym (ancestor_stands t shipped items new ds a e name b up s) ∙ gone in absurd cc

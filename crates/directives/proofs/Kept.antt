@@ -1,22 +1,16 @@
 -- What directives keep.
-use Rattle.std.proofs.Common.{◌≡◌, ℕ, zero, suc, ◌+◌, ◌<◌, ◌≤◌, ◌||◌, ◌&&◌, ◌⊎◌, inl, inr, not, cond, Bool, true, false, Option, Some, None, List, [], ◌∷◌, ◌++◌, length, map, flat_map, take, drop, bytes_eq, position, slice_get, is_some, refl, sym, ap, ◌∙◌, subst, arith}
-use Rattle.std.specs.List.{list_any, list_all, filter, insert, remove, position_or_len}
+use Rattle.std.proofs.Common.{◌≡◌, ℕ, zero, suc, ◌+◌, ◌<◌, ◌≤◌, ◌||◌, ◌&&◌, ◌⊎◌, inl, inr, not, cond, Bool, true, false, Option, Some, None, List, [], ◌∷◌, ◌++◌, length, map, bytes_eq, is_some, refl, sym, ap, ◌∙◌, subst, arith}
+use Rattle.std.specs.List.{list_any, filter}
 use Rattle.std.proofs.lemmas.Bool.{or_parts}
-use Rattle.std.proofs.lemmas.List.{append_assoc, append-nil}
-use Rattle.std.proofs.lemmas.Grind.{flat_map-append}
 use Rattle.mdl_ast.specs.declared.items.Item.{Item}
 use Rattle.mdl_ast.specs.declared.items.Item.TheVariants.{Include, Sync, Metric, Constraint, Hypothesis, Search, Phase, Wish}
 use Rattle.mdl_ast.specs.declared.items.Hypothesis.{Hypothesis as TheHypothesis}
-use Rattle.mdl_check.specs.Spots.{Entry, is_hypothesis}
-use Rattle.mdl_check.specs.Rules.{is_axis}
+use Rattle.mdl_check.specs.Spots.{Entry}
 use Rattle.mdl_check.specs.Names.{metric_number}
 use Rattle.directives.specs.Hypotheses.{is_named, stands, lacks, is_orphan}
 use Rattle.directives.specs.Rounds.{settled, pruned_in_rounds}
-use Rattle.directives.specs.Acts.{leads_up, is_under, pruned, changed, without_axis, with_threshold, put_first, moved, with_first, acted}
-use Rattle.directives.specs.declared.directive.DirectiveAct.{DirectiveAct}
-use Rattle.directives.specs.declared.directive.DirectiveAct.TheVariants.{Prune, PruneAxis, Threshold, First}
+use Rattle.directives.specs.Acts.{leads_up, is_under, pruned, changed}
 use Rattle.directives.proofs.Stripped.{or_none, count_filter, count_none, none_counted, tally, strip, stripped, lift, bare, named, misses, is_lost, has_parent, is_pair, Leads, is_unmeasured, is_strange, Fine, any_stripped}
-use Rattle.directives.proofs.FineItems.{tally_append}
 use Rattle.directives.proofs.Settling.{filter_few, round, still}
 
 -- ---- fewer hypotheses

@@ -4,12 +4,10 @@ use Rattle.std.specs.Option.{option_and_then}
 use Rattle.std.proofs.lemmas.List.{append_assoc, append-nil}
 use Rattle.pn_text.specs.Words.{Word}
 use Rattle.pn_text.specs.Scans.{Ending}
-use Rattle.directives.specs.declared.fault.DirectiveKind.{DirectiveKind}
 use Rattle.directives.specs.declared.fault.DirectiveFault.{DirectiveFault}
 use Rattle.directives.specs.declared.fault.DirectiveFault.TheVariants.{NoMemory, At}
 use Rattle.directives.specs.declared.directive.Directive.{Directive}
-use Rattle.directives.specs.declared.directive.DirectiveAct.{DirectiveAct}
-use Rattle.directives.specs.Words.{Spot, Ahead, Read, ◌>>=◌, first_word, is_next, is_keyword, name_of, number_of, is_semicolon, behind, fault_in, stopped, word_at, taken, keyword_at, name_at, number_at, semicolon_at}
+use Rattle.directives.specs.Words.{Spot, Ahead, Read, ◌>>=◌, first_word, is_next, is_keyword, name_of, number_of, is_semicolon, fault_in, stopped, word_at, taken, keyword_at, name_at, number_at, semicolon_at}
 use Rattle.directives.specs.Gives.{Stops}
 use Rattle.directives.specs.Reading.{axis_at, prune_at, threshold_at, first_at, act_at, directive_at, end_of, onto, with_more, directives_in, directives_from}
 

@@ -1,20 +1,19 @@
 -- What holds at the end of directives.
-use Rattle.std.proofs.Common.{◌≡◌, ℕ, zero, suc, ◌+◌, ◌<◌, ◌≤◌, ◌==◌, ◌||◌, ◌&&◌, ◌⊎◌, inl, inr, not, cond, Bool, true, false, Option, Some, None, List, [], ◌∷◌, ◌++◌, length, map, bytes_eq, Result, Ok, Err, eq-eqb, refl, sym, ap, ◌∙◌, subst, arith}
-use Rattle.std.specs.List.{list_any, list_all, filter}
-use Rattle.std.proofs.lemmas.Bool.{or_parts}
+use Rattle.std.proofs.Common.{◌≡◌, ℕ, ◌==◌, ◌||◌, ◌&&◌, ◌⊎◌, inl, inr, not, cond, Bool, true, false, Option, Some, None, List, [], ◌∷◌, map, bytes_eq, Ok, eq-eqb, refl, sym, ap, ◌∙◌, subst, arith}
+use Rattle.std.specs.List.{list_any, filter}
 use Rattle.mdl_ast.specs.declared.items.Item.{Item}
 use Rattle.mdl_ast.specs.declared.items.Item.TheVariants.{Include, Sync, Metric, Constraint, Hypothesis, Search, Phase, Wish}
 use Rattle.mdl_ast.specs.declared.items.Hypothesis.{Hypothesis as TheHypothesis}
-use Rattle.directives.specs.Hypotheses.{is_named, stands, is_along, has_axis}
+use Rattle.directives.specs.Hypotheses.{is_along, has_axis}
 use Rattle.directives.specs.Acts.{pruned, changed, without_axis, with_threshold, with_first, kind_of, acted, go_on, directed, expanded, applied}
-use Rattle.directives.specs.Laws.{is_prune, is_axis_prune, threshold_behind, last_threshold, is_off, AxisIsGone, LastThresholdHolds}
+use Rattle.directives.specs.Laws.{is_axis_prune, threshold_behind, last_threshold, is_off, AxisIsGone, LastThresholdHolds}
 use Rattle.directives.specs.declared.directive.Directive.{Directive}
 use Rattle.directives.specs.declared.directive.DirectiveAct.{DirectiveAct}
 use Rattle.directives.specs.declared.directive.DirectiveAct.TheVariants.{Prune, PruneAxis, Threshold, First}
 use Rattle.directives.specs.declared.fault.DirectiveKind.{DirectiveKind}
-use Rattle.directives.proofs.Stripped.{or_none, any_filter, strip, stripped, lift, bare, named, any_stripped}
-use Rattle.directives.proofs.Cycles.{same_name, name_itself, and_both}
-use Rattle.directives.proofs.Kept.{Part, none_in, part_pruned, change_none, change_sets}
+use Rattle.directives.proofs.Stripped.{or_none, any_filter, stripped, lift, bare, any_stripped}
+use Rattle.directives.proofs.Cycles.{same_name, and_both}
+use Rattle.directives.proofs.Kept.{none_in, part_pruned, change_none, change_sets}
 use Rattle.directives.proofs.Acting.{tally_first}
 
 -- ---- a test that no hypothesis passes
@@ -164,6 +163,7 @@ threshold_step name before (Threshold other given) items h = by (bytes_eq name o
     kept : (before : Option ℕ) → bytes_eq name other ≡ false → On name before items → On name before (map (changed other (with_threshold given)) items)
     kept None e h = tt
     kept (Some n) e h = other_set name other n given items e h
+
     by : (b : Bool) → bytes_eq name other ≡ b → On name (cond b (Some given) before) (map (changed other (with_threshold given)) items)
     by true e = subst (λ (m : List ℕ). On name (Some given) (map (changed m (with_threshold given)) items)) (same_name name other e) (threshold_set name given items)
     by false e = kept before e h

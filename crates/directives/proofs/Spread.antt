@@ -1,13 +1,13 @@
 -- Items with those of their includes, before and after the shipped hypotheses take the place of theirs.
-use Rattle.std.proofs.Common.{◌≡◌, ℕ, zero, suc, ◌+◌, ◌<◌, ◌≤◌, not, cond, Bool, true, false, Option, Some, None, List, [], ◌∷◌, ◌++◌, length, map, flat_map, refl, sym, ap, ◌∙◌, subst, arith}
-use Rattle.std.specs.List.{list_any, filter}
-use Rattle.std.proofs.lemmas.List.{append_assoc, append-nil, length-append}
+use Rattle.std.proofs.Common.{◌≡◌, ℕ, ◌+◌, ◌≤◌, cond, Bool, true, false, List, [], ◌∷◌, ◌++◌, length, map, flat_map, refl, sym, ap, ◌∙◌, arith}
+use Rattle.std.specs.List.{filter}
+use Rattle.std.proofs.lemmas.List.{append-nil, length-append}
 use Rattle.std.proofs.lemmas.Grind.{flat_map-append}
 use Rattle.mdl_ast.specs.declared.items.Item.{Item}
 use Rattle.mdl_ast.specs.declared.items.Item.TheVariants.{Include, Sync, Metric, Constraint, Hypothesis, Search, Phase, Wish}
 use Rattle.mdl_ast.specs.declared.items.Hypothesis.{Hypothesis as TheHypothesis}
 use Rattle.mdl_ast.specs.declared.items.Include.{Include as TheInclude}
-use Rattle.mdl_check.specs.Spots.{Spot, spot, line_of, is_taken, included, spots_of, spots}
+use Rattle.mdl_check.specs.Spots.{Spot, spot, is_taken, spots_of, spots}
 use Rattle.mdl_check.specs.Checking.{sync_of}
 use Rattle.directives.specs.Acts.{at_line, expansion, expanded}
 use Rattle.directives.proofs.Stripped.{strip, stripped, bare}
@@ -210,9 +210,14 @@ fewer_of shipped (Wish w) = alone_few shipped (Wish w)
 fewer_items : (shipped items : List Item) → length (flat_map (by_item spot_include shipped) (expanded shipped items)) ≤ length (flat_map (by_item spot_include shipped) items)
 fewer_items shipped [] = omega arith
 fewer_items shipped (i ∷ items) =
-    omega (arith, ap length (flat_map-append (by_item spot_include shipped) (expansion shipped i) (expanded shipped items)),
-    length-append (flat_map (by_item spot_include shipped) (expansion shipped i)) (flat_map (by_item spot_include shipped) (expanded shipped items)),
-    length-append (by_item spot_include shipped i) (flat_map (by_item spot_include shipped) items), fewer_of shipped i, fewer_items shipped items)
+    omega (
+      arith,
+      ap length (flat_map-append (by_item spot_include shipped) (expansion shipped i) (expanded shipped items)),
+      length-append (flat_map (by_item spot_include shipped) (expansion shipped i)) (flat_map (by_item spot_include shipped) (expanded shipped items)),
+      length-append (by_item spot_include shipped i) (flat_map (by_item spot_include shipped) items),
+      fewer_of shipped i,
+      fewer_items shipped items,
+    )
 
 pub fewer_includes : (shipped items : List Item) → length (flat_map spot_include (spots shipped (expanded shipped items))) ≤ length (flat_map spot_include (spots shipped items))
 fewer_includes shipped items =

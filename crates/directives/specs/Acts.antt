@@ -1,9 +1,9 @@
 -- What a directive does to the items of a configuration.
-use Rattle.std.specs.Prelude.{◌≡◌, ℕ, zero, suc, ◌&&◌, ◌||◌, not, if◌then◌else◌, Bool, true, false, Option, Some, None, Result, Ok, Err, List, [], ◌∷◌, length, map, filter, flat_map, position, slice_get}
-use Rattle.std.specs.List.{list_any, insert, remove, position_or_len}
+use Rattle.std.specs.Prelude.{ℕ, zero, suc, ◌||◌, not, if◌then◌else◌, Bool, false, Option, Some, None, Result, Ok, Err, List, [], ◌∷◌, length, map, filter, flat_map, position, slice_get}
+use Rattle.std.specs.List.{insert, remove, position_or_len}
 use Rattle.std.specs.Str.{bytes_eq}
 use Rattle.mdl_ast.specs.declared.items.Item.{Item}
-use Rattle.mdl_ast.specs.declared.items.Item.TheVariants.{Include, Sync, Metric, Constraint, Hypothesis, Search, Phase, Wish}
+use Rattle.mdl_ast.specs.declared.items.Item.TheVariants.{Include, Hypothesis}
 use Rattle.mdl_ast.specs.declared.items.Hypothesis.{Hypothesis as TheHypothesis}
 use Rattle.mdl_check.specs.Spots.{is_hypothesis}
 use Rattle.directives.specs.Hypotheses.{is_named, stands, has_axis}

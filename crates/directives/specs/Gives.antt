@@ -2,10 +2,9 @@
 use Rattle.std.specs.Prelude.{◌≡◌, ℕ, Option, Some, None, Result, Ok, Err, List, [], ◌∷◌, map, length}
 use Rattle.pn_text.specs.Scans.{Scan, AreSpans}
 use Rattle.pn_text.specs.declared.token.Token.{Token}
-use Rattle.directives.specs.declared.fault.DirectiveKind.{DirectiveKind}
 use Rattle.directives.specs.declared.fault.DirectiveFault.{DirectiveFault}
 use Rattle.directives.specs.declared.fault.DirectiveFault.TheVariants.{NoMemory, At}
-use Rattle.directives.specs.Words.{Spot, Ahead, Read, token_spot}
+use Rattle.directives.specs.Words.{Ahead, Read, token_spot}
 
 -- it stops where reading stops, unless memory is wanting
 abbrev pub Stops : {A : Type 0} → DirectiveFault → Result A DirectiveFault → Type 0

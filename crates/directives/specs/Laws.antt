@@ -7,7 +7,7 @@ use Rattle.mdl_ast.specs.declared.items.Item.TheVariants.{Hypothesis}
 use Rattle.resource_tree.specs.Resources.{Resources}
 use Rattle.directives.specs.declared.directive.Directive.{Directive}
 use Rattle.directives.specs.declared.directive.DirectiveAct.{DirectiveAct}
-use Rattle.directives.specs.declared.directive.DirectiveAct.TheVariants.{Prune, PruneAxis, Threshold, First}
+use Rattle.directives.specs.declared.directive.DirectiveAct.TheVariants.{Prune, PruneAxis, Threshold}
 use Rattle.directives.specs.Hypotheses.{stands, has_axis}
 use Rattle.directives.specs.Acts.{expanded, applied}
 use Rattle.directives.specs.Applying.{IsAccepted}

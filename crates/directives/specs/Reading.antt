@@ -1,7 +1,7 @@
 -- The directives that a text spells, or its first fault.
 --
 --   directives = { "prune" NAME [ "axis" NAME ] ";" | "threshold" NAME NUMBER ";" | "first" NAME ";" } .
-use Rattle.std.specs.Prelude.{ℕ, zero, suc, Bool, List, [], ◌∷◌, length, is_none, codes, Option, Some, None, Result, Ok, Err, if◌then◌else◌}
+use Rattle.std.specs.Prelude.{ℕ, zero, suc, List, [], ◌∷◌, length, is_none, codes, Option, Some, None, Result, Ok, Err, if◌then◌else◌}
 use Rattle.directives.specs.declared.fault.DirectiveFault.{DirectiveFault}
 use Rattle.directives.specs.declared.directive.Directive.{Directive}
 use Rattle.directives.specs.declared.directive.DirectiveAct.{DirectiveAct}

@@ -9,12 +9,7 @@ use pn_types::NoMemory;
 use std::alloc::Global;
 
 /// Adds a copy of the shipped item at this line, if it is a hypothesis.
-fn add_at_line(
-    alloc: Global,
-    items: &mut Vec<Item>,
-    line: u32,
-    item: &Item,
-) -> Result<(), NoMemory>
+fn add_at_line(alloc: Global, items: &mut Vec<Item>, line: u32, item: &Item) -> Result<(), NoMemory>
     ensures { OnOk result (items.new.items ≡ items.old.items ++ at_line line item.now) }
 {
     if let Item::Hypothesis(hypothesis) = item {

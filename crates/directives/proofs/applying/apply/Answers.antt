@@ -1,6 +1,6 @@
-use Rattle.std.proofs.Common.{arith, ◌≡◌, ◌∙◌, ap, ap₂, sym, Ok, List}
+use Rattle.std.proofs.Common.{arith, ◌∙◌, ap, ap₂, sym, Ok, List}
 use Rattle.mdl_ast.specs.declared.items.Item.{Item}
-use Rattle.directives.specs.Acts.{applied, expanded, kind_of}
+use Rattle.directives.specs.Acts.{expanded, kind_of}
 use Rattle.directives.specs.Rounds.{directed_in_rounds}
 use Rattle.directives.proofs.Accepting.{accepted_after, prefixes_after, rounds_applied}
 use Rattle.directives.proofs.Loops.{directed_faulty, directed_more, directed_all}

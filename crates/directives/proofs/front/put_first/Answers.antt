@@ -1,4 +1,4 @@
-use Rattle.std.proofs.Common.{◌≡◌, ◌∙◌, ap, sym, arith, position, Some, None}
+use Rattle.std.proofs.Common.{◌≡◌, ◌∙◌, ap, sym, arith, position, Some}
 use Rattle.mdl_check.specs.Spots.{is_hypothesis}
 use Rattle.directives.specs.Hypotheses.{is_named}
 use Rattle.directives.proofs.Fronting.{front_of, put_in_front, none_named}
@@ -13,7 +13,7 @@ insert-requires c =
     let items = c.args.items.now.items in
     let found : position (is_named c.args.name.now) items ≡ Some c.in-Some.place = ap (position (is_named c.args.name.now)) (sym c.as_slice.ensures.value) ∙ sym c.place_of.ensures ∙ c.in-Some.is in
     let h = front_of c.args.name.now items c.in-Some.place c.first_place.result c.unwrap_or-front.result found
-        (c.first_place.ensures ∙ ap (position is_hypothesis) c.as_slice-2.ensures.value) c.unwrap_or-front.ensures in
+    (c.first_place.ensures ∙ ap (position is_hypothesis) c.as_slice-2.ensures.value) c.unwrap_or-front.ensures in
     omega (arith, h.1, h.2, c.remove-item.ensures.len)
 
 pub returns : goal.returns
@@ -21,6 +21,6 @@ returns c =
     let items = c.args.items.now.items in
     let found : position (is_named c.args.name.now) items ≡ Some c.in-Some.place = ap (position (is_named c.args.name.now)) (sym c.as_slice.ensures.value) ∙ sym c.place_of.ensures ∙ c.in-Some.is in
     let h = front_of c.args.name.now items c.in-Some.place c.first_place.result c.unwrap_or-front.result found
-        (c.first_place.ensures ∙ ap (position is_hypothesis) c.as_slice-2.ensures.value) c.unwrap_or-front.ensures in
+    (c.first_place.ensures ∙ ap (position is_hypothesis) c.as_slice-2.ensures.value) c.unwrap_or-front.ensures in
     put_in_front c.args.name.now items c.remove-item.new.self.items c.insert.new.self.items c.in-Some.place c.unwrap_or-front.result c.remove-item.result
     found h.0 h.2 c.remove-item.ensures.value c.remove-item.ensures.items c.in_ok-insert.ensures.items

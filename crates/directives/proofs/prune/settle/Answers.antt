@@ -1,6 +1,6 @@
 use Rattle.std.proofs.Common.{arith}
 use Rattle.directives.specs.Rounds.{settled}
-use Rattle.directives.proofs.Settling.{round_more, round_last, rounds_over}
+use Rattle.directives.proofs.Settling.{round_more, round_last}
 use Rattle.directives.proofs.prune.settle.Goals as goal
 
 pub returns-then-len-before : goal.returns-then-len-before

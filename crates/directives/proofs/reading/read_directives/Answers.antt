@@ -1,4 +1,3 @@
-use Rattle.std.proofs.Common.{sym, subst, ◌∙◌}
 use Rattle.std.proofs.lemmas.Result.{err_from_is_err_and}
 use Rattle.directives.specs.Reading.{directives_of}
 use Rattle.directives.proofs.ReadOn.{directive_shorter, front_more, front_stops, front_all, front_faulty}

@@ -1,6 +1,5 @@
 use Rattle.std.proofs.Common.{◌∙◌, ap}
-use Rattle.pn_text.specs.Scans.{Ending}
-use Rattle.directives.specs.Words.{Ahead, Spot, behind}
+use Rattle.directives.specs.Words.{behind}
 use Rattle.directives.proofs.InView.{advanced_stands, advanced_view}
 use Rattle.directives.proofs.words.Words.advance.Goals as goal
 
