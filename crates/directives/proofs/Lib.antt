@@ -14,3 +14,4 @@ pub mod Acting
 pub mod Accepting
 pub mod Runs
 pub mod Gone
+pub mod Spelled

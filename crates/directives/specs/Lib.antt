@@ -1,5 +1,6 @@
 pub mod Words
 pub mod Reading
+pub mod Spelling
 pub mod Gives
 pub mod Hypotheses
 pub mod Acts

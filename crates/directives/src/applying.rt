@@ -80,7 +80,7 @@ fn act_on(alloc: Global, items: &mut Vec<Item>, act: &DirectiveAct) -> Result<()
 /// - `threshold H N` sets its threshold;
 /// - `first H` puts it before the first hypothesis; the other items keep their order.
 ///
-/// The check accepts what is made, and the names of objects begin as they did.
+/// The check accepts what is made, and the names of objects begin as they did. The tree is named for this alone.
 ///
 /// `UnknownName` comes at the first directive whose name is no hypothesis that still stands, and `WrongKind` at the first
 /// whose axis isn't among those of its hypothesis; the line is that of the directive, and the column 0.

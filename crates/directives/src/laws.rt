@@ -1,6 +1,12 @@
-//! What holds of a configuration after directives. Laws.
+//! What holds of directives, and of a configuration after them. Laws.
 
+ghost use Rattle.directives.specs.Spelling.{ReadAsSpelled};
 ghost use Rattle.directives.specs.Laws.{PrunedIsGone, AxisIsGone, LastThresholdHolds};
+
+/// What is read of a text is what its words spell, all of them.
+pub fn read_as_spelled()
+    ensures { ReadAsSpelled }
+{}
 
 /// No hypothesis that was pruned stands any more, and none that had it as an ancestor.
 pub fn pruned_is_gone()

@@ -64,7 +64,7 @@ fn drop_orphans(alloc: Global, items: &mut Vec<Item>) -> Result<(), NoMemory>
 fn settle(alloc: Global, items: &mut Vec<Item>, most: usize) -> Result<(), NoMemory>
     ensures { OnOk result (items.new.items ≡ settled most items.old.items) }
 {
-    for round in 0..most {
+    for _round in 0..most {
         let before = items.len();
         drop_orphans(alloc, items)?;
         if items.len() == before {
