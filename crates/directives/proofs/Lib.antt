@@ -1,0 +1,17 @@
+pub mod InView
+pub mod ReadOn
+pub mod Settling
+pub mod Loops
+pub mod Fronting
+pub mod Stripped
+pub mod Faultless
+pub mod Cycles
+pub mod FineItems
+pub mod Spread
+pub mod Kept
+pub mod Ancestry
+pub mod Acting
+pub mod Accepting
+pub mod Runs
+pub mod Gone
+pub mod Spelled

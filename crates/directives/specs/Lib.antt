@@ -1,0 +1,10 @@
+pub mod Words
+pub mod Reading
+pub mod Spelling
+pub mod Gives
+pub mod Hypotheses
+pub mod Acts
+pub mod Rounds
+pub mod Applying
+pub mod Names
+pub mod Laws

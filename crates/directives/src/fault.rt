@@ -1,0 +1,78 @@
+//! What is wrong with directives.
+
+ghost use Rattle.std.specs.Prelude.{◌≡◌};
+ghost use Rattle.directives.specs.Words.{lex_fault};
+
+use pn_text::{LexFault, Place};
+use std::alloc::{AllocError, AllocFailed};
+
+/// What kind of fault it is.
+#[derive(Clone, Copy, Debug, PartialEq, Eq, Drop)]
+pub enum DirectiveKind {
+    /// No word begins with the byte, or none that goes on as the bytes behind it do.
+    BadByte,
+    /// The line or the text ends before the second quote of a string.
+    OpenString,
+    /// A number is above 2,147,483,647.
+    BigNumber,
+    /// The word can't stand here, or the text ends too early.
+    Unexpected,
+    /// No hypothesis of this name stands any more.
+    UnknownName,
+    /// The hypothesis isn't refined along an axis of this name.
+    WrongKind,
+}
+
+/// Why directives can't be used.
+#[derive(Clone, Copy, Debug, PartialEq, Eq, Drop)]
+pub enum DirectiveFault {
+    /// Memory is wanting.
+    NoMemory,
+    /// The first fault.
+    At {
+        /// The line of its first byte, or of its directive, from 1.
+        line: u32,
+        /// The column of its first byte, in bytes from 1, and 0 where a directive names what doesn't stand.
+        col: u32,
+        /// What it is.
+        kind: DirectiveKind,
+    },
+}
+
+impl From<AllocError> for DirectiveFault {
+    ghost use Rattle.std.specs.Prelude.{◌≡◌};
+    ghost use Rattle.directives.specs.declared.fault.DirectiveFault.TheVariants.{NoMemory};
+
+    ghost from_gives = { λ _ fault. fault ≡ NoMemory };
+
+    fn from(_fault: AllocError) -> DirectiveFault {
+        DirectiveFault::NoMemory
+    }
+}
+
+impl<T: Drop> From<AllocFailed<T>> for DirectiveFault {
+    ghost use Rattle.std.specs.Prelude.{◌≡◌};
+    ghost use Rattle.directives.specs.declared.fault.DirectiveFault.TheVariants.{NoMemory};
+
+    ghost from_gives = { λ _ fault. fault ≡ NoMemory };
+
+    fn from(_fault: AllocFailed<T>) -> DirectiveFault {
+        DirectiveFault::NoMemory
+    }
+}
+
+/// The fault of bytes that are no word.
+pub(crate) fn lex_fault(fault: LexFault) -> DirectiveFault
+    ensures { result ≡ lex_fault fault }
+{
+    let (place, kind): (Place, DirectiveKind) = match fault {
+        LexFault::BadByte(place) => (place, DirectiveKind::BadByte),
+        LexFault::OpenString(place) => (place, DirectiveKind::OpenString),
+        LexFault::BigNumber(place) => (place, DirectiveKind::BigNumber),
+    };
+    DirectiveFault::At {
+        line: place.line,
+        col: place.col,
+        kind,
+    }
+}

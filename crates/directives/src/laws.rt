@@ -1,0 +1,24 @@
+//! What holds of directives, and of a configuration after them. Laws.
+
+ghost use Rattle.directives.specs.Spelling.{ReadAsSpelled};
+ghost use Rattle.directives.specs.Laws.{PrunedIsGone, AxisIsGone, LastThresholdHolds};
+
+/// What is read of a text is what its words spell, all of them.
+pub fn read_as_spelled()
+    ensures { ReadAsSpelled }
+{}
+
+/// No hypothesis that was pruned stands any more, and none that had it as an ancestor.
+pub fn pruned_is_gone()
+    ensures { PrunedIsGone }
+{}
+
+/// A hypothesis isn't refined along an axis that was taken from it.
+pub fn axis_is_gone()
+    ensures { AxisIsGone }
+{}
+
+/// A hypothesis has the last threshold that was given to it.
+pub fn last_threshold_holds()
+    ensures { LastThresholdHolds }
+{}

@@ -1,0 +1,23 @@
+//! Directives that change the hypotheses of a search before it starts.
+//!
+//! A text of directives is read, and then applied to a configuration that passed the check.
+#![tactic(auto)]
+
+mod applying;
+mod change;
+mod copies;
+mod directive;
+mod expansion;
+mod fault;
+mod front;
+mod hypotheses;
+mod laws;
+mod prune;
+mod reading;
+mod words;
+
+pub use applying::apply;
+pub use directive::{Directive, DirectiveAct};
+pub use fault::{DirectiveFault, DirectiveKind};
+pub use laws::{axis_is_gone, last_threshold_holds, pruned_is_gone, read_as_spelled};
+pub use reading::read_directives;
