@@ -110,7 +110,9 @@ fn stream<R: Threads + Wait + Sync>(
     let (session, outlet) = ran?;
     let (views, readers) = part(alloc, seats?)?;
     let Outlet {
-        publisher, writer, ..
+        publisher,
+        writer,
+        ..
     } = outlet;
     dial.close(rt, writer, readers);
     let lists = gather(rt, alloc, publisher, views)?;

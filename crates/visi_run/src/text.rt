@@ -107,11 +107,7 @@ fn count_first(lists: &[Vec<Latest>]) -> usize
 }
 
 // The numbers of the views and of the samples.
-fn add_counts(
-    alloc: Global,
-    out: &mut Vec<u8>,
-    lists: &[Vec<Latest>],
-) -> Result<(), NoMemory>
+fn add_counts(alloc: Global, out: &mut Vec<u8>, lists: &[Vec<Latest>]) -> Result<(), NoMemory>
     ensures { OnOk result (out.new.items ≡ out.old.items ++ views_line (map (λ v. v.items) lists.now)) }
 {
     let views = lists.len();

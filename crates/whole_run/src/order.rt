@@ -113,11 +113,12 @@ impl Rounds {
         ensures taken { IfOk result (λ answer. IfSome answer (λ q. session.new.quanta ≡ session.old.quanta ++ q ∷ [])) }
         ensures whole { IfOk result (λ answer. IfNone answer (IsSeeded session.new.inputs self.new.seed self.new.turns session.new.quanta)) }
     {
-        session.laws();
         if session.quanta().len() >= MAX_QUANTA as usize {
+            session.laws();
             return Ok(None);
         }
         let Some(hart) = self.order.pick(&self.ready) else {
+            session.laws();
             return Ok(None);
         };
         let taken = session.quantum(0, hart.get(), self.turns)?;
