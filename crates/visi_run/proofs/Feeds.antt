@@ -95,8 +95,13 @@ pub tend_step : (i : Inputs) (h n : ℕ) (s : State) → IsStep s (tend i h n s)
 unfolding tend
 tend_step i h n s = by (is_due t.kept)
   where
+    a : State
     a = state_admitted i s
+
+    u : State
     u = state_turned h n a
+
+    t : State
     t = state_handed u
 
     idle : Idle s t
@@ -115,6 +120,7 @@ pub closed_step : (i : Inputs) (s : State) → IsStep s (closed i s)
 unfolding closed
 closed_step i s = by (nat_lt q.kept.last q.kept.time)
   where
+    q : State
     q = state_quiet s
 
     by : (b : Bool) → IsStep s (state_ended (cond b (state_last i q) q))

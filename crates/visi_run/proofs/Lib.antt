@@ -1,3 +1,3 @@
 pub mod Sampling
 pub mod Feeds
-pub mod Seats
+pub mod SeatLists

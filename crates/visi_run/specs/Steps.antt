@@ -31,10 +31,10 @@ pub record IsBehind (o : Outlet) (s : State) : Type 0 where
   pub step : IsStep before s
 
 -- a session just began, and this is its course
-pub record CanRun (c : ViewedCourse) (s : SessionData) (harts : ℕ) : Type 0 where
-  pub begun : s ≡ begun s.inputs
-  pub harts : harts ≡ s.inputs.settings.harts
-  pub few : harts ≤ MAX_HARTS
+pub record CanRun (c : ViewedCourse) (s : SessionData) (n : ℕ) : Type 0 where
+  pub new : s ≡ begun s.inputs
+  pub harts : n ≡ s.inputs.settings.harts
+  pub few : n ≤ MAX_HARTS
   pub turns : (1 ≤ c.turns) × (c.turns ≤ MAX_QUANTUM)
 
 -- it went along the whole list of the seed and is closed, and all its samples are published to the same views

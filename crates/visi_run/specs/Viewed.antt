@@ -15,7 +15,7 @@ abbrev pub shown_of : Inputs → List Quantum → List ShownPart
 shown_of i quanta = (parts_of i (closed i (work i quanta))).shown
 
 -- The text of the whole list of quanta in the order of a seed: each view was given its feed.
-pub record IsViewed (i : Inputs) (c : ViewedCourse) (text : List ℕ) : Type 0 where
+pub record IsViewed (i : Inputs) (c : ViewedCourse) (bytes : List ℕ) : Type 0 where
   pub quanta : List Quantum
   pub seeded : IsSeeded i c.seed c.turns quanta
-  pub text : text ≡ visi_text (shown_of i quanta) (replicate c.views (feed_of i quanta))
+  pub text : bytes ≡ visi_text (shown_of i quanta) (replicate c.views (feed_of i quanta))

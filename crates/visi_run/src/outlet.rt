@@ -1,6 +1,6 @@
 // Where a run is told of.
 
-ghost use Rattle.std.specs.Prelude.{◌≡◌, [], ◌∷◌, false, OnOk};
+ghost use Rattle.std.specs.Prelude.{◌≡◌, ◌≤◌, [], ◌∷◌, false, OnOk};
 ghost use Rattle.session.specs.Sessions.{begun, state_of};
 ghost use Rattle.visi_stream.specs.Readings.{first_reading};
 ghost use Rattle.visi_run.specs.Steps.{IsBehind, IsTold};
@@ -38,7 +38,26 @@ impl Outlet {
         }
     }
 
-    /// Tells of the session's last step: publishes its latest samples, if any were taken in it, offers what waits, and sets the gauge.
+    // Publishes the session's latest samples, if any were taken in its last step.
+    fn publish(&mut self, session: &Session) -> Result<(), NoMemory>
+        requires { IsBehind self.old (state_of session.now) }
+        ensures feed { OnOk result (self.new.publisher.items ≡ (state_of session.now).feed) }
+        ensures samples { OnOk result (self.new.samples ≡ (state_of session.now).kept.samples) }
+        ensures more { self.old.published ≤ self.new.published }
+        ensures same { (self.new.publisher.lines ≡ self.old.publisher.lines) × (self.new.writer ≡ self.old.writer) }
+    {
+        let samples = session.samples();
+        if samples == self.samples {
+            return Ok(());
+        }
+        let latest = session.latest();
+        self.publisher.publish(latest)?;
+        self.published = self.published.saturating_add(latest.len() as u64);
+        self.samples = samples;
+        Ok(())
+    }
+
+    /// Tells of the session's last step: publishes its samples, offers what waits, and sets the gauge.
     ///
     /// # Errors
     ///
@@ -53,16 +72,10 @@ impl Outlet {
         requires cell { self.old.writer.cell ≡ dial.now.cell }
         requires behind { IsBehind self.old (state_of session.now) }
         ensures feed { OnOk result (self.new.publisher.items ≡ (state_of session.now).feed) }
-        ensures told { ended ≡ false → OnOk result (IsTold self.new (state_of session.now)) }
+        ensures told { OnOk result (ended ≡ false → IsTold self.new (state_of session.now)) }
         ensures same { (self.new.publisher.lines ≡ self.old.publisher.lines) × (self.new.writer.cell ≡ self.old.writer.cell) }
     {
-        let samples = session.samples();
-        if samples != self.samples {
-            let latest = session.latest();
-            self.publisher.publish(latest)?;
-            self.published = self.published.saturating_add(latest.len() as u64);
-            self.samples = samples;
-        }
+        self.publish(session)?;
         self.publisher.offer(rt);
         let reading = Reading {
             published: self.published,

@@ -48,15 +48,15 @@ fn run<R: Wait>(
     rt: &R,
     alloc: Global,
     dial: &Gauge,
-    course: &ViewedCourse,
+    course: ViewedCourse,
     mut session: Session,
     harts: u32,
     mut outlet: Outlet,
 ) -> Result<(Session, Outlet), NoMemory>
-    requires can { CanRun course.now session harts }
+    requires can { CanRun course session harts }
     requires cell { outlet.writer.cell ≡ dial.now.cell }
     requires told { IsTold outlet (state_of session) }
-    ensures { IfOk result (λ r. HasRun session.inputs course.now outlet r.0 r.1) }
+    ensures { IfOk result (λ r. HasRun session.inputs course outlet r.0 r.1) }
 {
     let mut rounds = Rounds::begin(alloc, &session, harts, course.seed, course.turns)?;
     'run: for _ in rt.forever() {
@@ -78,18 +78,18 @@ fn run<R: Wait>(
 fn stream<R: Threads + Wait + Sync>(
     rt: &R,
     alloc: Global,
-    course: &ViewedCourse,
+    course: ViewedCourse,
     session: Session,
     harts: u32,
 ) -> Result<(Session, Vec<Vec<Latest>>), NoMemory>
     requires begun { session ≡ begun session.inputs }
     requires harts { harts ≡ session.inputs.settings.harts }
     requires few { harts ≤ MAX_HARTS }
-    requires turns { (1 ≤ course.now.turns) × (course.now.turns ≤ MAX_QUANTUM) }
-    requires views { (1 ≤ course.now.views) × (course.now.views ≤ 8) }
+    requires turns { (1 ≤ course.turns) × (course.turns ≤ MAX_QUANTUM) }
+    requires views { (1 ≤ course.views) × (course.views ≤ 8) }
     ensures inputs { IfOk result (λ r. (r.0.inputs ≡ session.inputs) × (r.0.closed ≡ true)) }
-    ensures seeded { IfOk result (λ r. IsSeeded session.inputs course.now.seed course.now.turns r.0.quanta) }
-    ensures count { IfOk result (λ r. length r.1.items ≡ course.now.views) }
+    ensures seeded { IfOk result (λ r. IsSeeded session.inputs course.seed course.turns r.0.quanta) }
+    ensures count { IfOk result (λ r. length r.1.items ≡ course.views) }
     ensures feed { IfOk result (λ r. AllByRecursion (λ xs. xs ≡ feed_of session.inputs r.0.quanta) (map (λ v. v.items) r.1.items)) }
 {
     let (publisher, views) = streams(alloc, course.views, ROOM)?;
@@ -99,8 +99,8 @@ fn stream<R: Threads + Wait + Sync>(
     let (ran, seats) = thread::join(
         rt,
         || -> Result<(Session, Outlet), NoMemory>
-            requires { CanRun course.now session harts × (outlet.writer.cell ≡ dial.cell) × IsTold outlet (state_of session) }
-            ensures { IfOk result (λ r. HasRun session.inputs course.now outlet r.0 r.1) }
+            requires { CanRun course session harts × (outlet.writer.cell ≡ dial.cell) × IsTold outlet (state_of session) }
+            ensures { IfOk result (λ r. HasRun session.inputs course outlet r.0 r.1) }
         { run(rt, alloc, &dial, course, session, harts, outlet) },
         || -> Result<Vec<Seat>, NoMemory>
             requires { AreSeatsOf dial.cell seats.items }
@@ -127,16 +127,16 @@ fn stream<R: Threads + Wait + Sync>(
 fn view_on<R: Threads + Wait + Sync>(
     rt: &R,
     alloc: Global,
-    course: &ViewedCourse,
+    course: ViewedCourse,
     session: Session,
     harts: u32,
 ) -> Result<Vec<u8>, NoMemory>
     requires begun { session ≡ begun session.inputs }
     requires harts { harts ≡ session.inputs.settings.harts }
     requires few { harts ≤ MAX_HARTS }
-    requires turns { (1 ≤ course.now.turns) × (course.now.turns ≤ MAX_QUANTUM) }
-    requires views { (1 ≤ course.now.views) × (course.now.views ≤ 8) }
-    ensures { IfOk result (λ text. IsViewed session.inputs course.now text.items) }
+    requires turns { (1 ≤ course.turns) × (course.turns ≤ MAX_QUANTUM) }
+    requires views { (1 ≤ course.views) × (course.views ≤ 8) }
+    ensures { IfOk result (λ text. IsViewed session.inputs course text.items) }
 {
     let (session, lists) = stream(rt, alloc, course, session, harts)?;
     let parts = session.parts()?;
@@ -164,7 +164,7 @@ pub fn view_run<R: Threads + Wait + Sync>(
 {
     let harts = inputs.settings.harts;
     let session = Session::new(alloc, inputs)?;
-    match view_on(rt, alloc, course, session, harts) {
+    match view_on(rt, alloc, *course, session, harts) {
         Ok(text) => Ok(text),
         Err(_) => Err(StartFault::NoMemory),
     }

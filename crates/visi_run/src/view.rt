@@ -27,7 +27,7 @@ pub fn follow<R: Wait>(rt: &R, dial: &Gauge, mut seat: Seat) -> Result<Seat, NoM
     requires { seat.reader.cell ≡ dial.now.cell }
     ensures { IfOk result (λ s. IsSameSeat seat s) }
 {
-    let mut nones = 0;
+    let mut nones = 0u32;
     'follow: for _ in rt.forever() {
         if seat.view.take(rt)?.is_some() {
             nones = 0;
@@ -38,8 +38,8 @@ pub fn follow<R: Wait>(rt: &R, dial: &Gauge, mut seat: Seat) -> Result<Seat, NoM
         if reading.ended && taken == reading.published {
             break;
         }
-        nones += 1;
-        if nones == PATIENCE {
+        nones = nones.saturating_add(1);
+        if nones >= PATIENCE {
             break;
         }
         thread::yield_now();

@@ -4,7 +4,7 @@ use Rattle.std.specs.Prelude.{slice_index_or}
 use Rattle.visi_stream.proofs.Glances.{each_at}
 use Rattle.visi_run.specs.declared.view.Seat.{Seat}
 use Rattle.visi_run.specs.Watching.{IsSameSeat}
-use Rattle.visi_run.proofs.Seats.{seats_same, cells_same, index_map}
+use Rattle.visi_run.proofs.SeatLists.{seats_same, cells_same, index_map}
 use Rattle.visi_run.proofs.seats.follow_all.Goals as goal
 
 pub map_vec-requires-after_bounds : goal.map_vec-requires-after_bounds

@@ -5,7 +5,7 @@ use Rattle.visi_stream.specs.Gauges.{AreOf, Reader}
 use Rattle.visi_stream.proofs.Desks.{each_append, snoc_map}
 use Rattle.visi_run.specs.declared.view.Seat.{Seat}
 use Rattle.visi_run.specs.Watching.{seat_lines, AreSeatsOf}
-use Rattle.visi_run.proofs.Seats.{each_front, each_last}
+use Rattle.visi_run.proofs.SeatLists.{each_front, each_last}
 use Rattle.visi_run.proofs.seats.pair.Goals as goal
 
 pub loop-view-preserved : goal.loop-view-preserved

@@ -1,12 +1,13 @@
 use Rattle.std.proofs.Common.{rules, ◌≡◌, ◌++◌, [], ◌∷◌, length, length-append, vec_len, sym, ap, ◌∙◌, subst, arith}
+use Rattle.std.proofs.lemmas.List.{map-id}
 use Rattle.std.proofs.lemmas.Iterator.Adapters.{YieldsList-from_vec}
 use Rattle.std.proofs.lemmas.Iterator.Consumers.{YieldsList-end}
 use Rattle.visi_stream.specs.Streams.{Watch}
 use Rattle.visi_stream.specs.Gauges.{AreOf, Reader}
-use Rattle.visi_stream.proofs.Desks.{each_append, snoc_map, map_same}
+use Rattle.visi_stream.proofs.Desks.{each_append, snoc_map}
 use Rattle.visi_run.specs.declared.view.Seat.{Seat}
 use Rattle.visi_run.specs.Watching.{AreSeatsOf}
-use Rattle.visi_run.proofs.Seats.{each_front, each_last}
+use Rattle.visi_run.proofs.SeatLists.{each_front, each_last}
 use Rattle.visi_run.proofs.seats.part.Goals as goal
 
 pub loop-seat-preserved : goal.loop-seat-preserved
@@ -31,5 +32,5 @@ returns-clause-cell c cell h =
     let gives = c.into_iter-seat-iterator.ensures.into_iter_gives in
     let count : vec_len c.args.seats ≡ length c.args.seats.items = search rules in
     let seen = YieldsList-end (YieldsList-from_vec c.args.seats.items gives.0 (gives.1 ∙ count)) c.loop-seat.yielded c.loop-seat.seat-iterator c.loop-seat.yielded_by c.next.result c.next.new.self c.in-None.is c.next.ensures.steps in
-    let whole : c.loop-seat.yielded ≡ c.args.seats.items = sym (map_same c.loop-seat.yielded) ∙ seen.0 in
+    let whole : c.loop-seat.yielded ≡ c.args.seats.items = sym (map-id c.loop-seat.yielded) ∙ seen.0 in
     c.loop-seat.invariant.readers cell (subst (AreSeatsOf cell) (sym whole) h)
