@@ -134,7 +134,7 @@ closed_step i s = by (nat_lt q.kept.last q.kept.time)
 open_state : (s : SessionData) → s.closed ≡ false → state_of s ≡ work s.inputs s.quanta
 open_state s e = ap (λ b. cond b (closed s.inputs (work s.inputs s.quanta)) (work s.inputs s.quanta)) e
 
-closed_state : (s : SessionData) → s.closed ≡ true → state_of s ≡ closed s.inputs (work s.inputs s.quanta)
+pub closed_state : (s : SessionData) → s.closed ≡ true → state_of s ≡ closed s.inputs (work s.inputs s.quanta)
 closed_state s e = ap (λ b. cond b (closed s.inputs (work s.inputs s.quanta)) (work s.inputs s.quanta)) e
 
 pub quantum_step : (s t : SessionData) (q : Quantum) → s.closed ≡ false → t.closed ≡ false → t.inputs ≡ s.inputs → t.quanta ≡ s.quanta ++ q ∷ [] → IsStep (state_of s) (state_of t)

@@ -1,10 +1,11 @@
 //! A run that is viewed.
 
-ghost use Rattle.std.specs.Prelude.{◌≡◌, ◌≤◌, true, length, map, IfErr, IfOk, None};
+ghost use Rattle.std.specs.Prelude.{◌≡◌, ◌≤◌, true, false, length, map, IfErr, IfOk, OnOk, None};
 ghost use Rattle.std.specs.List.{AllByRecursion};
 ghost use Rattle.session.specs.Given.{AreGiven};
 ghost use Rattle.session.specs.Sessions.{begun, IsStartFault, state_of};
 ghost use Rattle.session_spec.specs.Opening.{bad_pick};
+ghost use Rattle.whole_run.specs.Rounds.{StandAt};
 ghost use Rattle.whole_run.specs.Seeded.{IsSeeded};
 ghost use Rattle.visi_run.specs.Feed.{feed_of};
 ghost use Rattle.visi_run.specs.Steps.{CanRun, HasRun, IsTold};
@@ -39,6 +40,36 @@ pub struct ViewedCourse {
     pub views: u32,
 }
 
+/// Lets a session take the quanta that are left of the seed's, and tells of each.
+///
+/// # Errors
+///
+/// `NoMemory` where memory is wanting.
+fn take_all<R: Wait>(
+    rt: &R,
+    dial: &Gauge,
+    mut rounds: Rounds,
+    session: &mut Session,
+    outlet: &mut Outlet,
+) -> Result<(), NoMemory>
+    requires at { StandAt rounds session.old }
+    requires cell { outlet.old.writer.cell ≡ dial.now.cell }
+    requires told { IsTold outlet.old (state_of session.old) }
+    ensures inputs { session.new.inputs ≡ session.old.inputs }
+    ensures going { session.new.closed ≡ false }
+    ensures seeded { OnOk result (IsSeeded session.old.inputs rounds.seed rounds.turns session.new.quanta) }
+    ensures told { OnOk result (IsTold outlet.new (state_of session.new)) }
+    ensures same { (outlet.new.publisher.lines ≡ outlet.old.publisher.lines) × (outlet.new.writer.cell ≡ outlet.old.writer.cell) }
+{
+    'quanta: for _ in rt.forever() {
+        let Some(_) = rounds.next(session)? else {
+            return Ok(());
+        };
+        outlet.tell(rt, dial, session, false)?;
+    }
+    unreachable!()
+}
+
 /// Runs a session that just began to its end, and tells of each step.
 ///
 /// # Errors
@@ -58,13 +89,8 @@ fn run<R: Wait>(
     requires told { IsTold outlet (state_of session) }
     ensures { IfOk result (λ r. HasRun session.inputs course outlet r.0 r.1) }
 {
-    let mut rounds = Rounds::begin(alloc, &session, harts, course.seed, course.turns)?;
-    'run: for _ in rt.forever() {
-        if rounds.next(&mut session)?.is_none() {
-            break;
-        }
-        outlet.tell(rt, dial, &session, false)?;
-    }
+    let rounds = Rounds::begin(alloc, &session, harts, course.seed, course.turns)?;
+    take_all(rt, dial, rounds, &mut session, &mut outlet)?;
     session.close();
     outlet.tell(rt, dial, &session, true)?;
     Ok((session, outlet))

@@ -111,6 +111,7 @@ impl Rounds {
         ensures inputs { session.new.inputs ≡ session.old.inputs }
         ensures going { session.new.closed ≡ false }
         ensures taken { IfOk result (λ answer. IfSome answer (λ q. session.new.quanta ≡ session.old.quanta ++ q ∷ [])) }
+        ensures none { IfOk result (λ answer. IfNone answer (session.new ≡ session.old)) }
         ensures whole { IfOk result (λ answer. IfNone answer (IsSeeded session.new.inputs self.new.seed self.new.turns session.new.quanta)) }
     {
         if session.quanta().len() >= MAX_QUANTA as usize {
