@@ -1,7 +1,4 @@
-use Rattle.std.proofs.Common.{◌≡◌, ◌≤◌, ap, arith, subst, sym}
-use Rattle.pn_types.specs.declared.limits.TheConstants.{MAX_QUANTA}
-use Rattle.session_spec.specs.Inputs.{Inputs}
-use Rattle.whole_run.specs.Seeded.{IsSeeded}
+use Rattle.std.proofs.Common.{arith}
 use Rattle.whole_run.proofs.Ordered.{seeded_by, stand_full}
 use Rattle.whole_run.proofs.order.take_quanta.Goals as goal
 
