@@ -1,13 +1,13 @@
 -- What a quantum and the end add to the samples.
-use Rattle.std.proofs.Common.{◌≡◌, ◌≢◌, ◌∙◌, ℕ, ◌+◌, ◌≤◌, List, [], ◌∷◌, ◌++◌, refl, sym, ap, subst, arith}
+use Rattle.std.proofs.Common.{◌≡◌, ◌∙◌, ℕ, ◌+◌, ◌≤◌, [], ◌∷◌, ◌++◌, refl, sym, ap, subst, arith}
 use Rattle.std.specs.Prelude.{Bool, true, false, cond, nat_lt}
 use Rattle.quanta_log.specs.declared.quantum.Quantum.{Quantum}
 use Rattle.session_spec.specs.Inputs.{Inputs}
-use Rattle.session_spec.specs.States.{Kept, State}
+use Rattle.session_spec.specs.States.{State}
 use Rattle.session_spec.specs.Turns.{with_entries, with_hart, with_quiet}
 use Rattle.session_spec.specs.Due.{with_arms, with_frees, with_next, with_samples}
-use Rattle.session_spec.specs.Verdicts.{with_search_end, with_verdicts}
-use Rattle.session_spec.specs.Work.{closed, first_state, is_due, state_admitted, state_armed, state_done, state_ended, state_handed, state_judged, state_last, state_next, state_quiet, state_sampled, state_turned, state_worked, tend, tests_now, work}
+use Rattle.session_spec.specs.Verdicts.{with_search_end}
+use Rattle.session_spec.specs.Work.{closed, is_due, state_admitted, state_armed, state_done, state_ended, state_handed, state_judged, state_last, state_next, state_quiet, state_sampled, state_turned, tend, tests_now, work}
 use Rattle.session.specs.Sessions.{SessionData, begun, state_of}
 use Rattle.whole_run.proofs.Ordered.{work_push}
 use Rattle.visi_run.specs.Feed.{feed_of}

@@ -1,4 +1,4 @@
-use Rattle.std.proofs.Common.{◌≡◌, ◌∙◌, ap, subst, sym}
+use Rattle.std.proofs.Common.{◌∙◌, ap, subst, sym}
 use Rattle.session.specs.Sessions.{SessionData}
 use Rattle.session_spec.specs.Inputs.{Inputs}
 use Rattle.whole_run.specs.Seeded.{IsSeeded}

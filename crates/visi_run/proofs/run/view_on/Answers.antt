@@ -1,10 +1,9 @@
-use Rattle.std.proofs.Common.{◌≡◌, ◌∙◌, List, length, map, ap, subst, sym}
+use Rattle.std.proofs.Common.{◌≡◌, ◌∙◌, map, ap}
 use Rattle.std.proofs.lemmas.List.{length-map}
 use Rattle.std.proofs.lemmas.Result.{IfOk-weaker}
 use Rattle.std.specs.Prelude.{replicate}
 use Rattle.report.specs.declared.parts.ReportParts.{ReportParts}
 use Rattle.session_spec.specs.Inputs.{Inputs}
-use Rattle.session_spec.specs.States.{State}
 use Rattle.session.specs.Parts.{parts_of}
 use Rattle.visi_run.specs.Feed.{feed_of}
 use Rattle.visi_run.specs.Texts.{visi_text}

@@ -1,5 +1,4 @@
-use Rattle.std.proofs.Common.{rules, ◌≡◌, ◌++◌, [], ◌∷◌, length, length-append, sym, ap, ◌∙◌, subst, arith}
-use Rattle.atomic_table.specs.Seated.{TableId}
+use Rattle.std.proofs.Common.{◌≡◌, ◌++◌, [], ◌∷◌, length, length-append, sym, ap, ◌∙◌, subst, arith}
 use Rattle.visi_stream.specs.Streams.{Watch}
 use Rattle.visi_stream.specs.Gauges.{AreOf, Reader}
 use Rattle.visi_stream.proofs.Desks.{each_append, snoc_map}

@@ -1,4 +1,3 @@
-use Rattle.std.proofs.Common.{◌≡◌}
 use Rattle.visi_run.specs.Watching.{IsSameSeat}
 use Rattle.visi_run.proofs.view.follow.Given as goal
 

@@ -1,4 +1,4 @@
-use Rattle.std.proofs.Common.{◌≡◌, ◌∙◌, ◌≤◌, ap, arith, sym}
+use Rattle.std.proofs.Common.{◌∙◌, ap, arith, sym}
 use Rattle.visi_stream.specs.Readings.{last_of}
 use Rattle.visi_stream.specs.declared.dial.Reading.{Reading}
 use Rattle.visi_run.proofs.Feeds.{begun_feed}

@@ -1,4 +1,4 @@
-use Rattle.std.proofs.Common.{◌≡◌, ◌∙◌, ◌≤◌, ap, arith, sym}
+use Rattle.std.proofs.Common.{◌≡◌, ◌∙◌, ap, arith}
 use Rattle.visi_stream.specs.Gauges.{Writer}
 use Rattle.visi_stream.specs.Readings.{first_reading, last_of}
 use Rattle.visi_stream.specs.Streams.{Published}
