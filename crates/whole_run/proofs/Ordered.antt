@@ -16,6 +16,8 @@ use Rattle.session_spec.specs.States.{State}
 use Rattle.session_spec.specs.Work.{AreAllowed, Halted, closed, first_state, quantum_of, tend, work, work_from}
 use Rattle.session.specs.Sessions.{SessionData, state_of}
 use Rattle.whole_run.specs.Seeded.{AreInOrder, IsSeeded}
+use Rattle.whole_run.specs.Rounds.{StandAt, order_at}
+use Rattle.whole_run.specs.declared.order.Rounds.{Rounds}
 use Rattle.whole_run.proofs.Staying.{others_stay}
 
 -- ---- the harts that are runnable
@@ -104,10 +106,6 @@ leaves_ready may h n old new e out f = f ∙ (ap (filter (λ j. not (j == h))) e
 
 -- ---- one quantum more
 
-abbrev pub order_at : Order → List Quantum → Order
-order_at order [] = order
-order_at order (q ∷ quanta) = order_at (order_after order q.hart) quanta
-
 order_push : (order : Order) (quanta : List Quantum) (q : Quantum) → order_at order (quanta ++ q ∷ []) ≡ order_after (order_at order quanta) q.hart
 order_push order [] q = refl
 order_push order (p ∷ quanta) q = order_push (order_after order p.hart) quanta q
@@ -179,3 +177,47 @@ ends i seed turns count quanta order r a p = record { ordered = r.ordered; whole
 -- there are as many as there may be
 pub fills : (i : Inputs) (seed turns : ℕ) (quanta : List Quantum) (order : Order) → Running i seed turns MAX_QUANTA quanta order → AreAllowed i quanta → IsSeeded i seed turns quanta
 fills i seed turns quanta order r a = let number = r.number in record { ordered = r.ordered; whole = record { allowed = a; ended = λ h l. full i quanta h (omega arith) } }
+
+-- ---- rounds that stand at a session
+
+pub running : (r : Rounds) (s : SessionData) → StandAt r s → Running s.inputs r.seed r.turns (length s.quanta) s.quanta r.order
+running r s a = record { ordered = a.ordered; number = refl; order_is = a.order }
+
+pub next_of : (r : Rounds) (s : SessionData) (result o : Option ℕ) → StandAt r s → length s.quanta < MAX_QUANTA → result ≡ chosen r.order r.ready → result ≡ o → picked r.order (may_go s.inputs s.quanta) s.inputs.settings.harts ≡ o
+next_of r s result o a few p is = picks s.inputs s.quanta r.harts r.order r.ready result o a.harts (a.ready few) p is
+
+-- there are as many quanta as there may be
+pub stand_full : (r : Rounds) (s : SessionData) → StandAt r s → AreAllowed s.inputs s.quanta → MAX_QUANTA ≤ length s.quanta → IsSeeded s.inputs r.seed r.turns s.quanta
+stand_full r s a m l = record { ordered = a.ordered; whole = record { allowed = m; ended = λ h lt. full s.inputs s.quanta h l } }
+
+-- no hart is next
+pub stand_last : (r : Rounds) (s : SessionData) → StandAt r s → AreAllowed s.inputs s.quanta → picked r.order (may_go s.inputs s.quanta) s.inputs.settings.harts ≡ None → IsSeeded s.inputs r.seed r.turns s.quanta
+stand_last r s a m p = ends s.inputs r.seed r.turns (length s.quanta) s.quanta r.order (running r s a) m p
+
+-- a hart that is next takes its quantum
+pub never_none : (s : SessionData) (h : ℕ) (order : Order) → length s.quanta < MAX_QUANTA → picked order (may_go s.inputs s.quanta) s.inputs.settings.harts ≡ Some h → Halted s.inputs s.quanta h → ⊥
+never_none s h order few p halts = true≢false (sym (picked_may order (may_go s.inputs s.quanta) s.inputs.settings.harts h p).0 ∙ stuck s.inputs s.quanta h few halts)
+
+-- and the rounds stand at the session behind it
+pub stand_next : (r : Rounds) (s new : SessionData) (order : Order) (ready : List ℕ) (h : ℕ) (answer : Option Quantum) → StandAt r s → length s.quanta < MAX_QUANTA → picked r.order (may_go s.inputs s.quanta) s.inputs.settings.harts ≡ Some h
+    → new.closed ≡ false → new.inputs ≡ s.inputs → IfSome answer (λ q. new.quanta ≡ s.quanta ++ q ∷ []) → IfSome answer (λ q. q ≡ quantum_of s.inputs 0 h r.turns (state_of s).kept) → IfNone answer (Halted s.inputs s.quanta h)
+    → order_after r.order h ≡ order → (length new.quanta < MAX_QUANTA → ready ≡ ready_of (may_go new.inputs new.quanta) r.harts)
+    → StandAt (record { seed = r.seed; turns = r.turns; harts = r.harts; order = order; ready = ready }) new
+stand_next r s new order ready h answer a few p going same taken asked none is rest =
+    let more = takes s new r.seed r.turns (length s.quanta) h r.order answer a.going few (running r s a) p taken asked none in
+    record {
+      going = going;
+      harts = a.harts ∙ ap (λ (i : Inputs). i.settings.harts) (sym same);
+      few = a.few;
+      turns = a.turns;
+      ordered = subst (λ (i : Inputs). AreInOrder i r.turns (order_of_seed r.seed) (first_state i) new.quanta) (sym same) more.ordered;
+      order = sym is ∙ more.order_is;
+      ready = rest;
+    }
+
+pub seeded_by : (i j : Inputs) (seed other turns some : ℕ) (quanta : List Quantum) → i ≡ j → seed ≡ other → turns ≡ some → IsSeeded i seed turns quanta → IsSeeded j other some quanta
+seeded_by i j seed other turns some quanta same a b s = subst (λ (x : Inputs). IsSeeded x other some quanta) same (subst (λ n. IsSeeded i n some quanta) a (subst (λ n. IsSeeded i seed n quanta) b s))
+
+pub if_none : {A B : Type 0} (answer : Option Quantum) → (A → B) → IfNone answer A → IfNone answer B
+if_none None f a = f a
+if_none (Some q) f a = a

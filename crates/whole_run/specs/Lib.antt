@@ -1,3 +1,4 @@
 pub mod Seeded
+pub mod Rounds
 pub mod Recorded
 pub mod Replayed

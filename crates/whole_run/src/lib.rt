@@ -10,7 +10,7 @@ mod summed;
 
 pub use laws::{one_seeded, whole_quanta_fit};
 pub use misfit::{Misfit, ReplayFault};
-pub use order::take_quanta;
+pub use order::{Rounds, take_quanta};
 pub use recorded::{Course, Recorded, record_end, record_run};
 pub use replay::replay_run;
 pub use summed::run_parts;

@@ -1,13 +1,15 @@
 //! Harts take quanta in the order of a seed.
 
-ghost use Rattle.std.specs.Prelude.{◌≡◌, ◌<◌, ◌≤◌, ◌==◌, ◌||◌, false, length, OnOk};
+ghost use Rattle.std.specs.Prelude.{◌≡◌, ◌<◌, ◌≤◌, ◌==◌, ◌||◌, ◌++◌, ◌∷◌, [], false, length, IfNone, IfOk, IfSome, OnOk};
 ghost use Rattle.machine.specs.Turns.{is_runnable};
 ghost use Rattle.session.specs.Sessions.{begun};
 ghost use Rattle.session_spec.specs.Work.{work};
 ghost use Rattle.turn_order.specs.Orders.{ready_of};
+ghost use Rattle.whole_run.specs.Rounds.{StandAt};
 ghost use Rattle.whole_run.specs.Seeded.{IsSeeded};
 
 use pn_types::{HartNo, MAX_HARTS, MAX_QUANTA, MAX_QUANTUM, NoMemory};
+use quanta_log::Quantum;
 use session::Session;
 use std::alloc::Global;
 use turn_order::{Order, Ready};
@@ -54,6 +56,79 @@ fn refresh(session: &Session, harts: u32, hart: HartNo, ready: &mut Ready) -> Re
     Ok(())
 }
 
+/// The harts of a session as they take quanta of at most so many turns, in the order of a seed.
+#[derive(Drop)]
+pub struct Rounds {
+    seed: u32,
+    turns: u32,
+    harts: u32,
+    order: Order,
+    // Those that can take the next quantum.
+    ready: Ready,
+}
+
+impl Rounds {
+    /// Those of a session that just began.
+    ///
+    /// # Errors
+    ///
+    /// `NoMemory` where memory is wanting.
+    pub fn begin(
+        alloc: Global,
+        session: &Session,
+        harts: u32,
+        seed: u32,
+        turns: u32,
+    ) -> Result<Rounds, NoMemory>
+        requires begun { session.now ≡ begun session.now.inputs }
+        requires harts { harts ≡ session.now.inputs.settings.harts }
+        requires few { harts ≤ MAX_HARTS }
+        requires turns { (1 ≤ turns) × (turns ≤ MAX_QUANTUM) }
+        ensures at { IfOk result (λ rounds. StandAt rounds session.now) }
+        ensures same { IfOk result (λ rounds. (rounds.seed ≡ seed) × (rounds.turns ≡ turns)) }
+    {
+        let mut ready = Ready::new(alloc);
+        fill(session, harts, &mut ready)?;
+        Ok(Rounds {
+            seed,
+            turns,
+            harts,
+            order: Order::of_seed(seed),
+            ready,
+        })
+    }
+
+    /// Lets the next hart take its quantum. It answers that, and none where none can follow: then the session's quanta are the whole
+    /// list of the seed.
+    ///
+    /// # Errors
+    ///
+    /// `NoMemory` where memory is wanting. Then no round may follow.
+    pub fn next(&mut self, session: &mut Session) -> Result<Option<Quantum>, NoMemory>
+        requires { StandAt self.old session.old }
+        ensures at { OnOk result (StandAt self.new session.new) }
+        ensures same { (self.new.seed ≡ self.old.seed) × (self.new.turns ≡ self.old.turns) }
+        ensures inputs { session.new.inputs ≡ session.old.inputs }
+        ensures going { session.new.closed ≡ false }
+        ensures taken { IfOk result (λ answer. IfSome answer (λ q. session.new.quanta ≡ session.old.quanta ++ q ∷ [])) }
+        ensures none { IfOk result (λ answer. IfNone answer (session.new ≡ session.old)) }
+        ensures whole { IfOk result (λ answer. IfNone answer (IsSeeded session.new.inputs self.new.seed self.new.turns session.new.quanta)) }
+    {
+        if session.quanta().len() >= MAX_QUANTA as usize {
+            session.laws();
+            return Ok(None);
+        }
+        let Some(hart) = self.order.pick(&self.ready) else {
+            session.laws();
+            return Ok(None);
+        };
+        let taken = session.quantum(0, hart.get(), self.turns)?;
+        refresh(session, self.harts, hart, &mut self.ready)?;
+        self.order = self.order.after(hart);
+        Ok(taken)
+    }
+}
+
 /// Lets the harts of a session that just began take quanta of at most so many turns, in the order of a seed, until none can follow.
 ///
 /// # Errors
@@ -74,17 +149,11 @@ pub fn take_quanta(
     ensures going { session.new.closed ≡ false }
     ensures seeded { OnOk result (IsSeeded session.old.inputs seed turns session.new.quanta) }
 {
-    let mut order = Order::of_seed(seed);
-    let mut ready = Ready::new(alloc);
-    fill(session, harts, &mut ready)?;
+    let mut rounds = Rounds::begin(alloc, session, harts, seed, turns)?;
     'quanta: for _ in 0..MAX_QUANTA {
-        let Some(hart) = order.pick(&ready) else {
-            session.laws();
+        if rounds.next(session)?.is_none() {
             return Ok(());
-        };
-        session.quantum(0, hart.get(), turns)?;
-        refresh(session, harts, hart, &mut ready)?;
-        order = order.after(hart);
+        }
     }
     session.laws();
     Ok(())

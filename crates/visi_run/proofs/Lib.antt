@@ -1,0 +1,3 @@
+pub mod Sampling
+pub mod Feeds
+pub mod SeatLists

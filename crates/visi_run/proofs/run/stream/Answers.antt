@@ -1,0 +1,33 @@
+use Rattle.std.proofs.Common.{◌≡◌, ◌∙◌, List, length, map, ap, subst, sym}
+use Rattle.std.proofs.lemmas.List.{length-map}
+use Rattle.std.specs.List.{AllByRecursion}
+use Rattle.session_spec.specs.declared.data.Latest.{Latest}
+use Rattle.visi_stream.specs.Streams.{Watch}
+use Rattle.visi_stream.proofs.Desks.{same_length}
+use Rattle.visi_run.specs.declared.view.Seat.{Seat}
+use Rattle.visi_run.specs.Steps.{CanRun, HasRun}
+use Rattle.visi_run.specs.Watching.{AreSeatsOf, seat_lines}
+use Rattle.visi_run.proofs.run.stream.Goals as goal
+
+pub join-ran-requires-after_bounds : goal.join-ran-requires-after_bounds
+join-ran-requires-after_bounds g c κs within =
+    let d = c.in_ok-dial.ensures in
+    let o = c.new-outlet.ensures in
+    let can : CanRun c.args.course c.args.session c.args.harts = record { new = c.requires.begun; harts = c.requires.harts; few = c.requires.few; turns = c.requires.turns } in
+    ((can, o.same.1 ∙ d.writer.0, o.told), (c.in_ok-seats.ensures.cell c.in_ok-dial.dial.cell d.fresh.0, record { shared = c.type_bounds.sync-R.shared }))
+
+pub close-requires-clause-readers : goal.close-requires-clause-readers
+close-requires-clause-readers g c =
+    let second : (seat_lines c.in_ok-seats-2.field-0.items ≡ seat_lines c.in_ok-seats.seats.items) × AreSeatsOf c.in_ok-dial.dial.cell c.in_ok-seats-2.field-0.items = rw c.in_ok-seats-2.was at c.join-ran.ensures.second in
+    let line = λ (s : Seat). s.view.line in
+    let views = c.in_ok-publisher.views.items in (
+      c.in_ok-views.ensures.count ∙ same_length line line _ _ second.0 ∙ same_length line (λ (w : Watch). w.line) _ _ c.in_ok-seats.ensures.lines
+          ∙ (sym (length-map views (λ (w : Watch). w.line)) ∙ ap length c.in_ok-publisher.ensures.lines ∙ c.in_ok-publisher.ensures.count)
+          ∙ sym c.in_ok-dial.ensures.readers.0,
+      c.in_ok-views.ensures.cell c.in_ok-dial.dial.cell second.1,
+    )
+
+pub returns-clause-feed : goal.returns-clause-feed
+returns-clause-feed g c =
+    let first : HasRun c.args.session.inputs c.args.course c.new-outlet.result c.in_ok-session.session c.in_ok-session.outlet = rw c.in_ok-session.was at c.join-ran.ensures.first in
+    subst (λ (l : List Latest). AllByRecursion (λ (xs : List Latest). xs ≡ l) (map (λ v. v.items) c.in_ok-lists.lists.items)) first.feed c.in_ok-lists.ensures.whole

@@ -1,0 +1,21 @@
+-- What is left of a run that was viewed.
+use Rattle.std.specs.Prelude.{◌≡◌, ℕ, List, replicate}
+use Rattle.quanta_log.specs.declared.quantum.Quantum.{Quantum}
+use Rattle.report.specs.declared.parts.ShownPart.{ShownPart}
+use Rattle.session_spec.specs.Inputs.{Inputs}
+use Rattle.session_spec.specs.Work.{closed, work}
+use Rattle.session.specs.Parts.{parts_of}
+use Rattle.whole_run.specs.Seeded.{IsSeeded}
+use Rattle.visi_run.specs.Feed.{feed_of}
+use Rattle.visi_run.specs.Texts.{visi_text}
+use Rattle.visi_run.specs.declared.run.ViewedCourse.{ViewedCourse}
+
+-- what the report of these quanta shows
+abbrev pub shown_of : Inputs → List Quantum → List ShownPart
+shown_of i quanta = (parts_of i (closed i (work i quanta))).shown
+
+-- The text of the whole list of quanta in the order of a seed: each view was given its feed.
+pub record IsViewed (i : Inputs) (c : ViewedCourse) (bytes : List ℕ) : Type 0 where
+  pub quanta : List Quantum
+  pub seeded : IsSeeded i c.seed c.turns quanta
+  pub text : bytes ≡ visi_text (shown_of i quanta) (replicate c.views (feed_of i quanta))

@@ -1,0 +1,88 @@
+// Where a run is told of.
+
+ghost use Rattle.std.specs.Prelude.{◌≡◌, ◌≤◌, [], ◌∷◌, false, OnOk};
+ghost use Rattle.session.specs.Sessions.{begun, state_of};
+ghost use Rattle.visi_stream.specs.Readings.{first_reading};
+ghost use Rattle.visi_run.specs.Steps.{IsBehind, IsTold};
+
+use pn_types::NoMemory;
+use session::Session;
+use std::sync::Wait;
+use visi_stream::{Gauge, GaugeWriter, Publisher, Reading};
+
+/// Tells the views of a run: its samples by the publisher, and how far it is by the gauge.
+#[derive(Drop)]
+pub struct Outlet {
+    pub publisher: Publisher,
+    pub writer: GaugeWriter,
+    /// How many samples were published.
+    pub published: u64,
+    /// How many times the session had taken samples by then.
+    pub samples: u64,
+}
+
+impl Outlet {
+    /// That of a session that just began.
+    pub fn new(publisher: Publisher, writer: GaugeWriter, session: &Session) -> Outlet
+        requires begun { session.now ≡ begun session.now.inputs }
+        requires none { publisher.items ≡ [] }
+        requires first { writer.list ≡ first_reading ∷ [] }
+        ensures told { IsTold result (state_of session.now) }
+        ensures same { (result.publisher.lines ≡ publisher.lines) × (result.writer.cell ≡ writer.cell) }
+    {
+        Outlet {
+            publisher,
+            writer,
+            published: 0,
+            samples: session.samples(),
+        }
+    }
+
+    // Publishes the session's latest samples, if any were taken in its last step.
+    fn publish(&mut self, session: &Session) -> Result<(), NoMemory>
+        requires { IsBehind self.old (state_of session.now) }
+        ensures feed { OnOk result (self.new.publisher.items ≡ (state_of session.now).feed) }
+        ensures samples { OnOk result (self.new.samples ≡ (state_of session.now).kept.samples) }
+        ensures more { self.old.published ≤ self.new.published }
+        ensures same { (self.new.publisher.lines ≡ self.old.publisher.lines) × (self.new.writer ≡ self.old.writer) }
+    {
+        let samples = session.samples();
+        if samples == self.samples {
+            return Ok(());
+        }
+        let latest = session.latest();
+        self.publisher.publish(latest)?;
+        self.published = self.published.saturating_add(latest.len() as u64);
+        self.samples = samples;
+        Ok(())
+    }
+
+    /// Tells of the session's last step: publishes its samples, offers what waits, and sets the gauge.
+    ///
+    /// # Errors
+    ///
+    /// `NoMemory` where memory is wanting.
+    pub fn tell<R: Wait>(
+        &mut self,
+        rt: &R,
+        dial: &Gauge,
+        session: &Session,
+        ended: bool,
+    ) -> Result<(), NoMemory>
+        requires cell { self.old.writer.cell ≡ dial.now.cell }
+        requires behind { IsBehind self.old (state_of session.now) }
+        ensures feed { OnOk result (self.new.publisher.items ≡ (state_of session.now).feed) }
+        ensures told { OnOk result (ended ≡ false → IsTold self.new (state_of session.now)) }
+        ensures same { (self.new.publisher.lines ≡ self.old.publisher.lines) × (self.new.writer.cell ≡ self.old.writer.cell) }
+    {
+        self.publish(session)?;
+        self.publisher.offer(rt);
+        let reading = Reading {
+            published: self.published,
+            ticks: session.time(),
+            ended,
+        };
+        dial.set(rt, &mut self.writer, reading);
+        Ok(())
+    }
+}

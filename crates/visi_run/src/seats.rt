@@ -1,0 +1,100 @@
+// The seats of all views.
+
+ghost use Rattle.std.specs.Prelude.{◌≡◌, Ok, length, map, IfOk};
+ghost use Rattle.atomic_table.specs.Seated.{TableId};
+ghost use Rattle.visi_stream.specs.Streams.{watch_lines};
+ghost use Rattle.visi_stream.specs.Gauges.{AreOf};
+ghost use Rattle.visi_run.specs.Watching.{IsSameSeat, seat_lines, AreSeatsOf};
+
+use crate::view::{Seat, follow};
+use pn_types::NoMemory;
+use std::alloc::Global;
+use std::sync::Wait;
+use std::thread;
+use std::thread::Threads;
+use visi_stream::{Gauge, GaugeReader, View};
+
+/// Each view follows the run in a thread, if there is one to be had.
+///
+/// # Errors
+///
+/// `NoMemory` where memory is wanting, also to one view alone.
+pub fn follow_all<R: Threads + Wait + Sync>(
+    rt: &R,
+    alloc: Global,
+    dial: &Gauge,
+    seats: Vec<Seat>,
+) -> Result<Vec<Seat>, NoMemory>
+    requires { AreSeatsOf dial.now.cell seats.items }
+    ensures lines { IfOk result (λ v. seat_lines v.items ≡ seat_lines seats.items) }
+    ensures cell { IfOk result (λ v. AreSeatsOf dial.now.cell v.items) }
+{
+    let results = thread::map_vec(
+        rt,
+        seats,
+        &|seat: Seat| -> Result<Seat, NoMemory>
+            requires { seat.reader.cell ≡ dial.now.cell }
+            ensures { IfOk result (λ s. IsSameSeat seat s) }
+        { follow(rt, dial, seat) },
+    )?;
+    let seats = all_seats(alloc, results)?;
+    Ok(seats)
+}
+
+// All seats, if no view was without memory.
+fn all_seats(alloc: Global, results: Vec<Result<Seat, NoMemory>>) -> Result<Vec<Seat>, NoMemory>
+    ensures { IfOk result (λ seats. results.items ≡ map (λ seat. Ok seat) seats.items) }
+{
+    let mut seats = Vec::with_capacity(alloc, results.len())?;
+    for answer in results {
+        match answer {
+            Ok(seat) => seats.push_reserved(seat),
+            Err(error) => return Err(error),
+        }
+    }
+    Ok(seats)
+}
+
+/// Each view gets a reader of the gauge.
+///
+/// # Errors
+///
+/// `NoMemory` where memory is wanting.
+pub fn pair(
+    alloc: Global,
+    views: Vec<View>,
+    mut readers: Vec<GaugeReader>,
+) -> Result<Vec<Seat>, NoMemory>
+    requires { length views.items ≡ length readers.items }
+    ensures lines { IfOk result (λ v. seat_lines v.items ≡ watch_lines views.items) }
+    ensures cell { IfOk result (λ v. (cell : TableId) → AreOf cell readers.items → AreSeatsOf cell v.items) }
+{
+    let mut seats = Vec::with_capacity(alloc, views.len())?;
+    for view in views {
+        let Some(reader) = readers.pop() else {
+            unreachable!();
+        };
+        seats.push_reserved(Seat { view, reader });
+    }
+    Ok(seats)
+}
+
+/// The views and the readers of all seats.
+///
+/// # Errors
+///
+/// `NoMemory` where memory is wanting.
+pub fn part(alloc: Global, seats: Vec<Seat>) -> Result<(Vec<View>, Vec<GaugeReader>), NoMemory>
+    ensures lines { IfOk result (λ r. watch_lines r.0.items ≡ seat_lines seats.items) }
+    ensures count { IfOk result (λ r. length r.1.items ≡ length seats.items) }
+    ensures cell { IfOk result (λ r. (cell : TableId) → AreSeatsOf cell seats.items → AreOf cell r.1.items) }
+{
+    let mut views = Vec::with_capacity(alloc, seats.len())?;
+    let mut readers = Vec::with_capacity(alloc, seats.len())?;
+    for seat in seats {
+        let Seat { view, reader } = seat;
+        views.push_reserved(view);
+        readers.push_reserved(reader);
+    }
+    Ok((views, readers))
+}
