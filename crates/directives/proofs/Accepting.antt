@@ -242,3 +242,21 @@ homes_after t shipped items ds new a e =
     let es : List Entry = a.1.0 in
     let each = each_from es [] es a.1.2 in
     (ready_all shipped (others es) (length es) (prefixes_of shipped items) ds (expanded shipped items) new (ready_first t shipped items es a.1.1 each) e).fine.parents
+
+pub few_after : (t : Resources) (shipped items : List Item) (ds : List Directive) (new : List Item) → IsAccepted t shipped items → applied shipped items ds ≡ Ok new → length (spots shipped new) ≤ length (spots shipped items)
+unfolding IsAccepted applied
+few_after t shipped items ds new a e =
+    let es : List Entry = a.1.0 in
+    let each = each_from es [] es a.1.2 in
+    let r = ready_all shipped (others es) (length es) (prefixes_of shipped items) ds (expanded shipped items) new (ready_first t shipped items es a.1.1 each) e in
+    omega (
+      arith,
+      r.few,
+      count_spots (spots shipped new),
+      ap length r.kept,
+      spots_length (others es),
+      ap length (bare_spots shipped new),
+      ap (λ (l : List Item). length (stripped l)) (plain_same shipped new r.plain),
+      ap length a.1.1.places_are,
+      spots_length es,
+    )

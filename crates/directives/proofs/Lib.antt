@@ -16,3 +16,4 @@ pub mod Runs
 pub mod Gone
 pub mod Spelled
 pub mod Staying
+pub mod Small
