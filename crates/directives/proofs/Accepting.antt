@@ -8,7 +8,7 @@ use Rattle.mdl_ast.specs.declared.items.Include.{Include as TheInclude}
 use Rattle.resource_tree.specs.Resources.{Resources}
 use Rattle.mdl_check.specs.Spots.{Spot, Entry, spot, entry, spots}
 use Rattle.mdl_check.specs.Rules.{is_include}
-use Rattle.mdl_check.specs.Checking.{HasFocus, HaveFoci, AreEntries, spot_of, checked_of, prefixes_of}
+use Rattle.mdl_check.specs.Checking.{first_fault, HasFocus, HaveFoci, AreEntries, spot_of, checked_of, prefixes_of}
 use Rattle.directives.specs.declared.directive.Directive.{Directive}
 use Rattle.directives.specs.declared.directive.DirectiveAct.{DirectiveAct}
 use Rattle.directives.specs.declared.fault.DirectiveKind.{DirectiveKind}
@@ -175,8 +175,15 @@ directed_alike shipped o n prefixes (d ∷ ds) items r = by (kind_of d.act items
 
 -- ---- what is made is accepted
 
-made : (t : Resources) (shipped new : List Item) (o : List Entry) (n : ℕ) (prefixes : List (List ℕ)) → Ready shipped o n prefixes new → HaveFoci t o → Each o [] o → IsAccepted t shipped new
-unfolding IsAccepted
+-- the entries of what is made: without a fault, with the same others
+pub record Made (t : Resources) (shipped new : List Item) (o : List Entry) : Type 0 where
+  pub entries : List Entry
+  pub places : AreEntries t (spots shipped new) entries
+  pub faultless : first_fault entries ≡ None
+  pub among : others entries ≡ o
+  pub plain : expanded shipped new ≡ new
+
+made : (t : Resources) (shipped new : List Item) (o : List Entry) (n : ℕ) (prefixes : List (List ℕ)) → Ready shipped o n prefixes new → HaveFoci t o → Each o [] o → Made t shipped new o
 made t shipped new o n prefixes r foci each =
     let m = entered t (spots shipped new) o (sym r.kept) foci in
     let all : List Entry = m.entries in
@@ -187,16 +194,27 @@ made t shipped new o n prefixes r foci each =
     let few : length all ≤ n = omega (arith, r.few, spread, ap length r.kept, spots_length o, ap length (bare_spots shipped new), ap (λ (l : List Item). length (stripped l)) (plain_same shipped new r.plain)) in
     let single : tally takes all ≤ 1 = omega (arith, r.single, takes_at all, ap (λ (l : List Spot). length (flat_map spot_include l)) m.places) in
     let alone : Each (others all) [] (others all) = subst (λ (l : List Entry). Each l [] l) (sym m.among) each in
-    (checked_of all, (all, record { places_are = m.places; foci = m.foci }, each_to all [] all (each_again all n fine few single [] all refl alone), refl))
+    record {
+      entries = all;
+      places = record { places_are = m.places; foci = m.foci };
+      faultless = each_to all [] all (each_again all n fine few single [] all refl alone);
+      among = m.among;
+      plain = plain_same shipped new r.plain;
+    }
 
-pub accepted_after : (t : Resources) (shipped items : List Item) (ds : List Directive) (new : List Item) → IsAccepted t shipped items → applied shipped items ds ≡ Ok new → IsAccepted t shipped new
-unfolding IsAccepted applied
-accepted_after t shipped items ds new a e =
-    let es : List Entry = a.1.0 in
-    let entries = a.1.1 in
-    let each = each_from es [] es a.1.2 in
+pub made_after : (t : Resources) (shipped items : List Item) (ds : List Directive) (new : List Item) (es : List Entry) → AreEntries t (spots shipped items) es → first_fault es ≡ None → applied shipped items ds ≡ Ok new →
+    Made t shipped new (others es)
+unfolding applied
+made_after t shipped items ds new es entries none e =
+    let each = each_from es [] es none in
     let ready = ready_all shipped (others es) (length es) (prefixes_of shipped items) ds (expanded shipped items) new (ready_first t shipped items es entries each) e in
     made t shipped new (others es) (length es) (prefixes_of shipped items) ready (foci_of_others t es entries.foci) (others_each es [] es refl each)
+
+pub accepted_after : (t : Resources) (shipped items : List Item) (ds : List Directive) (new : List Item) → IsAccepted t shipped items → applied shipped items ds ≡ Ok new → IsAccepted t shipped new
+unfolding IsAccepted
+accepted_after t shipped items ds new a e =
+    let m = made_after t shipped items ds new a.1.0 a.1.1 a.1.2 e in
+    (checked_of m.entries, (m.entries, m.places, m.faultless, refl))
 
 pub prefixes_after : (t : Resources) (shipped items : List Item) (ds : List Directive) (new : List Item) → IsAccepted t shipped items → applied shipped items ds ≡ Ok new → prefixes_of shipped new ≡ prefixes_of shipped items
 unfolding IsAccepted applied
@@ -224,3 +242,21 @@ homes_after t shipped items ds new a e =
     let es : List Entry = a.1.0 in
     let each = each_from es [] es a.1.2 in
     (ready_all shipped (others es) (length es) (prefixes_of shipped items) ds (expanded shipped items) new (ready_first t shipped items es a.1.1 each) e).fine.parents
+
+pub few_after : (t : Resources) (shipped items : List Item) (ds : List Directive) (new : List Item) → IsAccepted t shipped items → applied shipped items ds ≡ Ok new → length (spots shipped new) ≤ length (spots shipped items)
+unfolding IsAccepted applied
+few_after t shipped items ds new a e =
+    let es : List Entry = a.1.0 in
+    let each = each_from es [] es a.1.2 in
+    let r = ready_all shipped (others es) (length es) (prefixes_of shipped items) ds (expanded shipped items) new (ready_first t shipped items es a.1.1 each) e in
+    omega (
+      arith,
+      r.few,
+      count_spots (spots shipped new),
+      ap length r.kept,
+      spots_length (others es),
+      ap length (bare_spots shipped new),
+      ap (λ (l : List Item). length (stripped l)) (plain_same shipped new r.plain),
+      ap length a.1.1.places_are,
+      spots_length es,
+    )

@@ -15,3 +15,5 @@ pub mod Accepting
 pub mod Runs
 pub mod Gone
 pub mod Spelled
+pub mod Staying
+pub mod Small

@@ -1,9 +1,12 @@
 -- What holds of a configuration after directives.
-use Rattle.std.specs.Prelude.{◌≡◌, ℕ, ◌==◌, ◌&&◌, not, if◌then◌else◌, Bool, true, false, Option, Some, None, Ok, List, [], ◌∷◌}
+use Rattle.std.specs.Prelude.{◌≡◌, ℕ, ◌==◌, ◌&&◌, not, if◌then◌else◌, Bool, true, false, Option, Some, None, Ok, List, [], ◌∷◌, flat_map}
 use Rattle.std.specs.List.{list_any}
 use Rattle.std.specs.Str.{bytes_eq}
 use Rattle.mdl_ast.specs.declared.items.Item.{Item}
 use Rattle.mdl_ast.specs.declared.items.Item.TheVariants.{Hypothesis}
+use Rattle.mdl_ast.specs.declared.items.Hypothesis.{Hypothesis as TheHypothesis}
+use Rattle.mdl_check.specs.declared.checked.Checked.{Checked}
+use Rattle.mdl_check.specs.Checking.{IsAnswer}
 use Rattle.resource_tree.specs.Resources.{Resources}
 use Rattle.directives.specs.declared.directive.Directive.{Directive}
 use Rattle.directives.specs.declared.directive.DirectiveAct.{DirectiveAct}
@@ -72,3 +75,18 @@ is_off name threshold item = false
 abbrev pub LastThresholdHolds : Type 0
 LastThresholdHolds = (shipped items made : List Item) (directives : List Directive) (name : List ℕ) (threshold : ℕ) → applied shipped items directives ≡ Ok made →
     last_threshold name None directives ≡ Some threshold → list_any (is_off name threshold) made ≡ false
+
+-- ---- the other items
+
+abbrev pub hypothesis_in : Item → List TheHypothesis
+hypothesis_in (Hypothesis h) = h ∷ []
+hypothesis_in item = []
+
+-- the hypotheses of a configuration that the check accepts are those with the shipped ones in the place of their include
+abbrev pub SameHypotheses : Type 0
+SameHypotheses = (t : Resources) (shipped items : List Item) (checked : Checked) → IsAnswer t shipped items (Ok checked) → checked.hypotheses ≡ flat_map hypothesis_in (expanded shipped items)
+
+-- what the check makes of the configuration differs in the hypotheses alone
+abbrev pub OthersStay : Type 0
+OthersStay = (t : Resources) (shipped items made : List Item) (directives : List Directive) (before after : Checked) → IsAnswer t shipped items (Ok before) →
+    applied shipped items directives ≡ Ok made → IsAnswer t shipped made (Ok after) → after ≡ record before { hypotheses = flat_map hypothesis_in made }

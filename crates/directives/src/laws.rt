@@ -1,7 +1,9 @@
 //! What holds of directives, and of a configuration after them. Laws.
 
 ghost use Rattle.directives.specs.Spelling.{ReadAsSpelled};
-ghost use Rattle.directives.specs.Laws.{PrunedIsGone, AxisIsGone, LastThresholdHolds};
+ghost use Rattle.directives.specs.Laws.{PrunedIsGone, AxisIsGone, LastThresholdHolds, SameHypotheses, OthersStay};
+
+use mdl_check::one_answer;
 
 /// What is read of a text is what its words spell, all of them.
 pub fn read_as_spelled()
@@ -22,3 +24,15 @@ pub fn axis_is_gone()
 pub fn last_threshold_holds()
     ensures { LastThresholdHolds }
 {}
+
+/// The check finds the hypotheses that `apply` begins with.
+pub fn same_hypotheses()
+    ensures { SameHypotheses }
+{}
+
+/// What the check makes of the configuration differs in its hypotheses alone.
+pub fn others_stay()
+    ensures { OthersStay }
+{
+    one_answer();
+}

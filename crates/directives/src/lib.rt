@@ -19,5 +19,8 @@ mod words;
 pub use applying::apply;
 pub use directive::{Directive, DirectiveAct};
 pub use fault::{DirectiveFault, DirectiveKind};
-pub use laws::{axis_is_gone, last_threshold_holds, pruned_is_gone, read_as_spelled};
+pub use laws::{
+    axis_is_gone, last_threshold_holds, others_stay, pruned_is_gone, read_as_spelled,
+    same_hypotheses,
+};
 pub use reading::read_directives;

@@ -2,7 +2,8 @@ use Rattle.std.proofs.Common.{arith, ◌∙◌, ap, ap₂, sym, Ok, List}
 use Rattle.mdl_ast.specs.declared.items.Item.{Item}
 use Rattle.directives.specs.Acts.{expanded, kind_of}
 use Rattle.directives.specs.Rounds.{directed_in_rounds}
-use Rattle.directives.proofs.Accepting.{accepted_after, prefixes_after, rounds_applied}
+use Rattle.directives.proofs.Accepting.{accepted_after, prefixes_after, few_after, rounds_applied}
+use Rattle.directives.proofs.Small.{small_after}
 use Rattle.directives.proofs.Loops.{directed_faulty, directed_more, directed_all}
 use Rattle.directives.proofs.applying.apply.Goals as goal
 
@@ -39,3 +40,10 @@ returns-clause-accepted c =
 pub returns-clause-prefixes : goal.returns-clause-prefixes
 returns-clause-prefixes c =
     prefixes_after c.args.tree.now c.args.shipped.now.items c.args.conf.now.items c.args.directives.now c.from_vec.result c.requires (returns-clause-applied c)
+
+pub returns-clause-few : goal.returns-clause-few
+returns-clause-few c =
+    few_after c.args.tree.now c.args.shipped.now.items c.args.conf.now.items c.args.directives.now c.from_vec.result c.requires (returns-clause-applied c)
+
+pub returns-clause-small : goal.returns-clause-small
+returns-clause-small c s = small_after c.args.shipped.now.items c.args.conf.now.items c.args.directives.now c.from_vec.result s (returns-clause-applied c)
