@@ -2,7 +2,7 @@ use Rattle.std.proofs.Common.{◌≡◌, ◌∙◌, ap, sym}
 use Rattle.directives.specs.Acts.{applied}
 use Rattle.mdl_ast.specs.declared.items.Conf.{Conf}
 use Rattle.mdl_parse.specs.Shipped.{shipped_conf}
-use Rattle.paradyn_top.proofs.Directed.{applied_few, applied_small}
+use Rattle.paradyn_top.proofs.Directed.{applied_few}
 use Rattle.paradyn_top.proofs.directing.directed.Goals as goal
 
 pub returns-in-Ok-clause-few : goal.returns-in-Ok-clause-few
@@ -13,4 +13,4 @@ returns-in-Ok-clause-few c =
     applied_few c.args.conf.now.items made c.args.directives.now c.requires.few (sym shipped ∙ c.in-Ok.ensures.applied)
 
 pub returns-in-Ok-clause-small : goal.returns-in-Ok-clause-small
-returns-in-Ok-clause-small c = applied_small c.in_ok-shipped.shipped.items c.args.conf.now.items c.in-Ok.made.items c.args.directives.now c.requires.small c.in-Ok.ensures.applied
+returns-in-Ok-clause-small c = c.in-Ok.ensures.small c.requires.small
