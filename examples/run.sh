@@ -18,6 +18,18 @@ check_search() {
   shift
   "$paradyn" run "$name.elf" search.conf "$@" >"$made" && cmp "$made" "${name}_search.report" || failed=1
 }
+check_advice() {
+  name=$1
+  shift
+  "$paradyn" run "$name.elf" narrow.conf "$@" >"$made" && cmp "$made" "${name}_narrow.report" || failed=1
+  "$paradyn" advise "${name}_narrow.report" >"$made" && cmp "$made" "$name.directives" || failed=1
+  "$paradyn" direct "$name.elf" narrow.conf "$name.directives" "$@" >"$made" && cmp "$made" "${name}_directed.report" || failed=1
+}
+check_views() {
+  name=$1
+  shift
+  "$paradyn" visi "$name.elf" "$name.conf" "$@" >"$made" && cmp "$made" "$name.views" || failed=1
+}
 check_blocks() {
   name=$1
   shift
@@ -34,6 +46,8 @@ check rounds --harts 4 --quantum 25 --width 5000
 check_search tickets --harts 4 --width 5000
 check_search rounds --harts 4 --quantum 25 --width 1000
 check_blocks crc
+check_views tickets --harts 4 --width 10000
+check_advice tickets --harts 4 --width 5000
 check_plan tickets sync_wait /SyncObject/lock_tickets
 [ "$failed" = 0 ] && echo "all examples print what they should"
 exit "$failed"
