@@ -1,0 +1,39 @@
+-- The hypotheses that a search under directives tests. A node of the search has one of them by its number, is judged at its threshold,
+-- and is refined along its axes.
+use Rattle.std.specs.Prelude.{◌≡◌, ◌≢◌, ℕ, true, false, Some, None, Ok, List, slice_get}
+use Rattle.std.specs.List.{list_any}
+use Rattle.std.specs.Str.{bytes_eq}
+use Rattle.directives.specs.Acts.{applied, expanded}
+use Rattle.directives.specs.Applying.{IsAccepted}
+use Rattle.directives.specs.Laws.{IsAncestor, is_axis_prune, is_prune, last_threshold}
+use Rattle.directives.specs.declared.directive.Directive.{Directive}
+use Rattle.mdl_ast.specs.declared.items.Hypothesis.{Hypothesis}
+use Rattle.mdl_ast.specs.declared.items.Item.{Item}
+use Rattle.mdl_check.specs.Checking.{IsAnswer}
+use Rattle.mdl_check.specs.declared.checked.Checked.{Checked}
+use Rattle.resource_tree.specs.Resources.{Resources}
+
+-- what the check says of what directives made of a configuration that it accepts
+pub record IsDirected (t : Resources) (shipped items : List Item) (directives : List Directive) (searched : Checked) : Type 0 where
+  pub accepted : IsAccepted t shipped items
+  pub made : List Item
+  pub applied : applied shipped items directives ≡ Ok made
+  pub checked : IsAnswer t shipped made (Ok searched)
+
+-- none of them was pruned, or had one that was as an ancestor
+abbrev pub NoneIsPruned : List Item → List Item → List Directive → Hypothesis → Type 0
+NoneIsPruned shipped items directives h = (pruned : List ℕ) → list_any (λ d. is_prune pruned d.act) directives ≡ true →
+    (h.name ≢ pruned) × (IsAncestor (expanded shipped items) pruned h.name → ⊥)
+
+-- it isn't refined along an axis that was taken from it
+abbrev pub NoAxisIsPruned : List Directive → Hypothesis → Type 0
+NoAxisIsPruned directives h = (axis : List ℕ) → list_any (λ d. is_axis_prune h.name axis d.act) directives ≡ true → list_any (bytes_eq axis) h.axes ≡ false
+
+-- it has the last threshold that was given to it
+abbrev pub HasThreshold : List Directive → Hypothesis → Type 0
+HasThreshold directives h = (threshold : ℕ) → last_threshold h.name None directives ≡ Some threshold → h.threshold ≡ threshold
+
+abbrev pub HypothesesAreDirected : Type 0
+HypothesesAreDirected = (t : Resources) (shipped items : List Item) (directives : List Directive) (checked : Checked) → IsDirected t shipped items directives checked →
+    (number : ℕ) (h : Hypothesis) → slice_get checked.hypotheses number ≡ Some h →
+    NoneIsPruned shipped items directives h × NoAxisIsPruned directives h × HasThreshold directives h

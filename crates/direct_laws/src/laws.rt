@@ -1,0 +1,16 @@
+//! What holds of the hypotheses of a search under directives.
+
+ghost use Rattle.direct_laws.specs.Searched.{HypothesesAreDirected};
+
+use directives::{axis_is_gone, last_threshold_holds, others_stay, pruned_is_gone};
+
+/// The hypotheses that are tested are those of the configuration that directives made: none that was pruned, or that had one as an
+/// ancestor; none is refined along an axis that was taken from it; and each has the last threshold that was given to it.
+pub fn hypotheses_are_directed()
+    ensures { HypothesesAreDirected }
+{
+    others_stay();
+    pruned_is_gone();
+    axis_is_gone();
+    last_threshold_holds();
+}

@@ -1,0 +1,6 @@
+//! What a search under directives tests. Laws.
+#![tactic(auto)]
+
+mod laws;
+
+pub use laws::hypotheses_are_directed;
