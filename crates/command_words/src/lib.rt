@@ -1,6 +1,7 @@
 //! The words of the command line: which command they are, and what they ask for.
 #![tactic(auto)]
 
+mod asking;
 mod builders;
 mod commands;
 mod forms;
@@ -14,11 +15,12 @@ mod values;
 mod walking;
 mod word_kind;
 
+pub use asking::{begin_threaded, read_request};
 pub use commands::CommandName;
 pub use logging::log_name;
 pub use matching::WordFault;
 pub use numbers::MAX_VIEWS;
 pub use requests::{
     BlocksRequest, DirectRequest, LiveRequest, PlanRequest, ReplayRequest, Request, RunRequest,
-    StressRequest, VisiRequest, begin_threaded, read_request,
+    StressRequest, VisiRequest,
 };

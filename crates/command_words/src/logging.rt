@@ -1,9 +1,9 @@
 ghost use Rattle.std.specs.Prelude.{◌≡◌, map, option_map, string_bytes};
 ghost use Rattle.command_words.specs.Logs.{log_of};
 
+use crate::asking::request_from;
 use crate::commands::CommandName;
 use crate::given::{FormValues, Given};
-use crate::requests::request_from;
 use crate::walking::values_of;
 
 /// The name that the words of the command line give for the log. None exactly where they are no command or have no

@@ -1,7 +1,7 @@
 use Rattle.std.proofs.Common.{sym, ap, ◌∙◌, rules}
 use Rattle.command_words.specs.Commands.{command_named}
 use Rattle.command_words.proofs.Reading.{request_reads}
-use Rattle.command_words.proofs.requests.read_request.Goals as goal
+use Rattle.command_words.proofs.asking.read_request.Goals as goal
 
 pub returns-in-Some-request_from-clause-request : goal.returns-in-Some-request_from-clause-request
 returns-in-Some-request_from-clause-request c =

@@ -1,6 +1,6 @@
 use Rattle.std.proofs.Common.{◌∙◌}
 use Rattle.command_words.proofs.SettingsGiven.{all_told, last_untold, start_untold}
-use Rattle.command_words.proofs.requests.settings.Goals as goal
+use Rattle.command_words.proofs.asking.settings.Goals as goal
 
 pub returns-in_err-instruments-clause-settings : goal.returns-in_err-instruments-clause-settings
 returns-in_err-instruments-clause-settings g c =

@@ -1,0 +1,260 @@
+//! From words to what they ask for.
+
+ghost use Rattle.std.specs.Prelude.{◌≡◌, ◌≤◌, MatchResult, IfOk, IfSome, Some, None, map, option_map, string_bytes};
+ghost use Rattle.command_words.specs.Asked.{asked};
+ghost use Rattle.command_words.specs.Numbers.{number_between, number_given};
+ghost use Rattle.command_words.specs.Requests.{place_in, settings_of, start_given, start_named, run_request, live_request, plan_request, stress_request, blocks_request, visi_request, direct_request, request_from, request_of, begins_threaded, HasRanges};
+ghost use Rattle.command_words.specs.Walked.{option_seen};
+ghost use Rattle.pn_types.specs.Settings.{AreInRange};
+
+use crate::commands::CommandName;
+use crate::given::Given;
+use crate::matching::{WordFault, matches};
+use crate::numbers::{
+    BINS, BUDGET, HARTS, INSTRUMENTS, NumberOption, QUANTUM, SEED, VIEWS, WIDTH, WORKERS,
+};
+use crate::requests::{
+    BlocksRequest, DirectRequest, LiveRequest, PlanRequest, ReplayRequest, Request, RunRequest,
+    StressRequest, VisiRequest,
+};
+use pn_text::number;
+use pn_types::{Settings, Start};
+use std::alloc::Global;
+
+/// A positional word.
+fn place<'a, G: Given<'a>>(given: &G, name: &str) -> &'a str
+    ensures { result.now ≡ place_in (G.given given.now) name.now }
+{
+    given.value(name).unwrap_or("")
+}
+
+/// A number of 1 to 10 digits in a range.
+#[tactic(auto, using(crate::proofs::Ranges::number_is_at_most))]
+fn number_between(text: &str, least: u64, most: u64) -> Option<u64>
+    ensures number { result ≡ number_between least most text.now }
+    ensures range { IfSome result (λ n. (least ≤ n) × (n ≤ most)) }
+{
+    let number = number(text.as_bytes(), most)?;
+    if least <= number { Some(number) } else { None }
+}
+
+/// The number that an option gives, and else its default.
+fn number_given<'a, 'n, G: Given<'a>>(given: &G, option: NumberOption<'n>) -> Option<u64>
+    ensures number { result ≡ number_given (G.given given.now) (option_seen option.entry) }
+    ensures range { IfSome result (λ n. (option.entry.least ≤ n) × (n ≤ option.entry.most)) }
+{
+    match given.value(option.name) {
+        Some(text) => number_between(text, option.least, option.most),
+        None => Some(option.default),
+    }
+}
+
+/// The start of this name.
+fn start_named(text: &str) -> Option<Start>
+    ensures { result ≡ start_named text.now }
+{
+    if text == "cold" {
+        return Some(Start::Cold);
+    }
+    if text == "warm" {
+        return Some(Start::Warm);
+    }
+    None
+}
+
+/// The start that is given, and else warm.
+fn start_given<'a, G: Given<'a>>(given: &G) -> Option<Start>
+    ensures { result ≡ start_given (G.given given.now) }
+{
+    match given.value("start") {
+        Some(text) => start_named(text),
+        None => Some(Start::Warm),
+    }
+}
+
+fn settings<'a, G: Given<'a>>(given: &G) -> Option<Settings>
+    ensures settings { result ≡ settings_of (G.given given.now) }
+    ensures ranges { IfSome result AreInRange }
+{
+    let harts = number_given(given, HARTS)?;
+    let budget = number_given(given, BUDGET)?;
+    let bins = number_given(given, BINS)?;
+    let width = number_given(given, WIDTH)?;
+    let instruments = number_given(given, INSTRUMENTS)?;
+    let start = start_given(given)?;
+    Some(Settings {
+        harts: harts as u32,
+        budget,
+        bins: bins as u32,
+        width,
+        start,
+        instruments: instruments as u32,
+    })
+}
+
+fn run_request<'a, G: Given<'a>>(given: &G) -> Option<Request<'a>>
+    ensures request { option_map asked result ≡ run_request (G.given given.now) }
+    ensures ranges { IfSome result (λ request. HasRanges (asked request)) }
+{
+    let settings = settings(given)?;
+    let seed = number_given(given, SEED)?;
+    let quantum = number_given(given, QUANTUM)?;
+    Some(Request::Run(RunRequest {
+        program: place(given, "program"),
+        conf: place(given, "conf"),
+        settings,
+        seed: seed as u32,
+        quantum: quantum as u32,
+        log: given.value("log"),
+    }))
+}
+
+fn live_request<'a, G: Given<'a>>(given: &G) -> Option<Request<'a>>
+    ensures request { option_map asked result ≡ live_request (G.given given.now) }
+    ensures ranges { IfSome result (λ request. HasRanges (asked request)) }
+{
+    let settings = settings(given)?;
+    let quantum = number_given(given, QUANTUM)?;
+    let workers = number_given(given, WORKERS)?;
+    Some(Request::Live(LiveRequest {
+        program: place(given, "program"),
+        conf: place(given, "conf"),
+        settings,
+        workers: workers as u32,
+        quantum: quantum as u32,
+        log: given.value("log"),
+    }))
+}
+
+fn plan_request<'a, G: Given<'a>>(given: &G) -> Option<Request<'a>>
+    ensures request { option_map asked result ≡ plan_request (G.given given.now) }
+    ensures ranges { IfSome result (λ request. HasRanges (asked request)) }
+{
+    let harts = number_given(given, HARTS)?;
+    Some(Request::Plan(PlanRequest {
+        program: place(given, "program"),
+        conf: place(given, "conf"),
+        metric: place(given, "metric"),
+        focus: place(given, "focus"),
+        harts: harts as u32,
+    }))
+}
+
+fn stress_request<'a, G: Given<'a>>(given: &G) -> Option<Request<'a>>
+    ensures request { option_map asked result ≡ stress_request (G.given given.now) }
+    ensures ranges { IfSome result (λ request. HasRanges (asked request)) }
+{
+    let procs = number_between(place(given, "procs"), 1, 200)?;
+    let seed = number_between(place(given, "seed"), 0, 4_294_967_295)?;
+    Some(Request::Stress(StressRequest {
+        procs: procs as u32,
+        seed: seed as u32,
+    }))
+}
+
+fn blocks_request<'a, G: Given<'a>>(given: &G) -> Option<Request<'a>>
+    ensures request { option_map asked result ≡ blocks_request (G.given given.now) }
+    ensures ranges { IfSome result (λ request. HasRanges (asked request)) }
+{
+    let harts = number_given(given, HARTS)?;
+    let budget = number_given(given, BUDGET)?;
+    let seed = number_given(given, SEED)?;
+    let quantum = number_given(given, QUANTUM)?;
+    Some(Request::Blocks(BlocksRequest {
+        program: place(given, "program"),
+        harts: harts as u32,
+        budget,
+        seed: seed as u32,
+        quantum: quantum as u32,
+    }))
+}
+
+fn visi_request<'a, G: Given<'a>>(given: &G) -> Option<Request<'a>>
+    ensures request { option_map asked result ≡ visi_request (G.given given.now) }
+    ensures ranges { IfSome result (λ request. HasRanges (asked request)) }
+{
+    let settings = settings(given)?;
+    let seed = number_given(given, SEED)?;
+    let quantum = number_given(given, QUANTUM)?;
+    let views = number_given(given, VIEWS)?;
+    Some(Request::Visi(VisiRequest {
+        program: place(given, "program"),
+        conf: place(given, "conf"),
+        settings,
+        seed: seed as u32,
+        quantum: quantum as u32,
+        views: views as u32,
+    }))
+}
+
+fn direct_request<'a, G: Given<'a>>(given: &G) -> Option<Request<'a>>
+    ensures request { option_map asked result ≡ direct_request (G.given given.now) }
+    ensures ranges { IfSome result (λ request. HasRanges (asked request)) }
+{
+    let settings = settings(given)?;
+    let seed = number_given(given, SEED)?;
+    let quantum = number_given(given, QUANTUM)?;
+    Some(Request::Direct(DirectRequest {
+        program: place(given, "program"),
+        conf: place(given, "conf"),
+        directives: place(given, "directives"),
+        settings,
+        seed: seed as u32,
+        quantum: quantum as u32,
+    }))
+}
+
+pub fn request_from<'a, G: Given<'a>>(name: CommandName, given: &G) -> Option<Request<'a>>
+    ensures request { option_map asked result ≡ request_from name (G.given given.now) }
+    ensures ranges { IfSome result (λ request. HasRanges (asked request)) }
+{
+    match name {
+        CommandName::Run => run_request(given),
+        CommandName::Live => live_request(given),
+        CommandName::Replay => Some(Request::Replay(ReplayRequest {
+            program: place(given, "program"),
+            conf: place(given, "conf"),
+            log: place(given, "record"),
+        })),
+        CommandName::Asm => Some(Request::Asm(place(given, "text"))),
+        CommandName::Points => Some(Request::Points(place(given, "program"))),
+        CommandName::Plan => plan_request(given),
+        CommandName::Stress => stress_request(given),
+        CommandName::Relog => Some(Request::Relog(place(given, "record"))),
+        CommandName::Blocks => blocks_request(given),
+        CommandName::Visi => visi_request(given),
+        CommandName::Advise => Some(Request::Advise(place(given, "report"))),
+        CommandName::Direct => direct_request(given),
+    }
+}
+
+/// The words begin with that of a command that begins threads: `live` or `visi`.
+pub fn begin_threaded(words: &[String]) -> bool
+    ensures { result ≡ begins_threaded (map string_bytes words.now) }
+{
+    match words.first() {
+        Some(first) => "live" == first.as_str() || "visi" == first.as_str(),
+        None => false,
+    }
+}
+
+/// What the words ask for: those of the command line without the program's name. `Usage` exactly where they are no
+/// command: the first names none, the others aren't the positional words and options of that command, or a number is
+/// out of its range.
+pub fn read_request<'a>(alloc: Global, words: &'a [String]) -> Result<Request<'a>, WordFault>
+    ensures request { MatchResult result (λ request. request_of (map string_bytes words.entry.now) ≡ Some (asked request))
+        (λ fault. fault ≡ WordFault.Usage → request_of (map string_bytes words.entry.now) ≡ None) }
+    ensures ranges { IfOk result (λ request. HasRanges (asked request)) }
+{
+    let Some(first) = words.first() else {
+        return Err(WordFault::Usage);
+    };
+    let Some(name) = CommandName::of_word(first.as_str()) else {
+        return Err(WordFault::Usage);
+    };
+    let matches = matches(alloc, name, words)?;
+    match request_from(name, &matches) {
+        Some(request) => Ok(request),
+        None => Err(WordFault::Usage),
+    }
+}
