@@ -1,6 +1,6 @@
 -- The hypotheses that a search under directives tests. A node of the search has one of them by its number, is judged at its threshold,
--- and is refined along its axes.
-use Rattle.std.specs.Prelude.{◌≡◌, ◌≢◌, ℕ, true, false, Some, None, Ok, List, slice_get}
+-- and is refined along its axes; a report has the nodes with their names.
+use Rattle.std.specs.Prelude.{◌≡◌, ◌≢◌, ℕ, true, false, Some, None, Ok, List, [], slice_get}
 use Rattle.std.specs.List.{list_any}
 use Rattle.std.specs.Str.{bytes_eq}
 use Rattle.directives.specs.Acts.{applied, expanded}
@@ -11,7 +11,14 @@ use Rattle.mdl_ast.specs.declared.items.Hypothesis.{Hypothesis}
 use Rattle.mdl_ast.specs.declared.items.Item.{Item}
 use Rattle.mdl_check.specs.Checking.{IsAnswer}
 use Rattle.mdl_check.specs.declared.checked.Checked.{Checked}
+use Rattle.pn_types.specs.Texts.{axis_text}
+use Rattle.pn_types.specs.declared.focus.Axis.{Axis}
+use Rattle.pn_types.specs.declared.focus.Focus.{Focus}
 use Rattle.resource_tree.specs.Resources.{Resources}
+use Rattle.session.specs.Parts.{node_part}
+use Rattle.session_spec.specs.Inputs.{Inputs}
+use Rattle.w3_axes.specs.Refining.{finer_on, names_axis}
+use Rattle.w3_search.specs.declared.node.Node.{Node}
 
 -- what the check says of what directives made of a configuration that it accepts
 pub record IsDirected (t : Resources) (shipped items : List Item) (directives : List Directive) (searched : Checked) : Type 0 where
@@ -37,3 +44,16 @@ abbrev pub HypothesesAreDirected : Type 0
 HypothesesAreDirected = (t : Resources) (shipped items : List Item) (directives : List Directive) (checked : Checked) → IsDirected t shipped items directives checked →
     (number : ℕ) (h : Hypothesis) → slice_get checked.hypotheses number ≡ Some h →
     NoneIsPruned shipped items directives h × NoAxisIsPruned directives h × HasThreshold directives h
+
+-- A node of a hypothesis has no children along an axis that was taken from the hypothesis: no foci just below are wanted there.
+abbrev pub NoNodeGoesAlong : Type 0
+NoNodeGoesAlong = (t : Resources) (shipped items : List Item) (directives : List Directive) (checked : Checked) → IsDirected t shipped items directives checked →
+    (number : ℕ) (h : Hypothesis) → slice_get checked.hypotheses number ≡ Some h →
+    (axis : Axis) → list_any (λ d. is_axis_prune h.name (axis_text axis) d.act) directives ≡ true → (focus : Focus) → finer_on t focus (names_axis h.axes axis) axis ≡ []
+
+-- ---- the report
+
+-- No node of a report on these inputs is of a hypothesis that was pruned.
+abbrev pub NoNodeIsPruned : Type 0
+NoNodeIsPruned = (i : Inputs) (shipped items : List Item) (directives : List Directive) → IsDirected i.tree shipped items directives i.checked →
+    (pruned : List ℕ) → pruned ≢ [] → list_any (λ d. is_prune pruned d.act) directives ≡ true → (n : Node) → (node_part i n).hypothesis ≢ pruned

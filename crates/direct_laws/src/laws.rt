@@ -1,6 +1,6 @@
 //! What holds of the hypotheses of a search under directives.
 
-ghost use Rattle.direct_laws.specs.Searched.{HypothesesAreDirected};
+ghost use Rattle.direct_laws.specs.Searched.{HypothesesAreDirected, NoNodeGoesAlong, NoNodeIsPruned};
 
 use directives::{axis_is_gone, last_threshold_holds, others_stay, pruned_is_gone};
 
@@ -13,4 +13,18 @@ pub fn hypotheses_are_directed()
     pruned_is_gone();
     axis_is_gone();
     last_threshold_holds();
+}
+
+/// No node of a report is of a hypothesis that was pruned.
+pub fn no_node_is_pruned()
+    ensures { NoNodeIsPruned }
+{
+    hypotheses_are_directed();
+}
+
+/// No node of the search differs from its parent along an axis that was taken from its hypothesis.
+pub fn no_node_goes_along()
+    ensures { NoNodeGoesAlong }
+{
+    hypotheses_are_directed();
 }

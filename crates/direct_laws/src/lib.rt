@@ -3,4 +3,4 @@
 
 mod laws;
 
-pub use laws::hypotheses_are_directed;
+pub use laws::{hypotheses_are_directed, no_node_goes_along, no_node_is_pruned};
