@@ -5,13 +5,13 @@ use Rattle.std.proofs.lemmas.Iterator.Adapters.{position_from-zero}
 use Rattle.first_places.specs.Places.{first_place}
 use Rattle.first_places.specs.Entries.{noted, AreFirst, IsNoted}
 
-module _ {K : Type 0} (now : K → List ℕ) where
+module _ {K V : Type 0} (now : K → List ℕ) where
   -- an entry put last
-  pub last_entry : (es : List (K × ℕ)) (key : K) (place : ℕ) → IsNoted now (now key) place es (es ++ (key, place) ∷ [])
-  last_entry [] key place name = refl
-  last_entry (e ∷ es) key place name = by (bytes_eq name (now e.0)) _ _ (last_entry es key place name)
+  pub last_entry : (es : List (K × V)) (key : K) (value : V) → IsNoted now (now key) value es (es ++ (key, value) ∷ [])
+  last_entry [] key value name = refl
+  last_entry (e ∷ es) key value name = by (bytes_eq name (now e.0)) _ _ (last_entry es key value name)
     where
-      by : (b : Bool) (o p : Option ℕ) → o ≡ noted p (now key) place name → cond b (Some e.1) o ≡ noted (cond b (Some e.1) p) (now key) place name
+      by : (b : Bool) (o p : Option V) → o ≡ noted p (now key) value name → cond b (Some e.1) o ≡ noted (cond b (Some e.1) p) (now key) value name
       by true o p h = refl
       by false o p h = h
 

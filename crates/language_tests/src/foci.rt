@@ -75,7 +75,7 @@ fn print_written_in(rt: &impl Print, alloc: Global, tree: &Tree, text: &str) -> 
 
 /// The same for a copy of the tree.
 fn print_copied(rt: &impl Print, alloc: Global, tree: &Tree, text: &str) -> io::Result<()> {
-    let copy = tree.copy()?;
+    let copy = tree.copy(alloc)?;
     print_written_in(rt, alloc, &copy, text)
 }
 

@@ -5,8 +5,8 @@ use Rattle.std.proofs.lemmas.Bool.{false≢true}
 use Rattle.pn_types.specs.declared.code.Point.{Point}
 use Rattle.mdl_plan.specs.Indexes.{AreByProcedure, gathered}
 use Rattle.mdl_plan.specs.Sparse.{AddsPlaces}
-use Rattle.mdl_plan.specs.Tables.{HavePlaces, IsOver, has_numbers, is_some_number, numbers_if}
-use Rattle.mdl_plan.specs.declared.table.Table.{Table}
+use Rattle.mdl_plan.specs.ChosenPieces.{HavePlaces, IsOver, has_numbers, is_some_number, numbers_if}
+use Rattle.mdl_plan.specs.declared.chosen_pieces.ChosenPieces.{ChosenPieces}
 use Rattle.mdl_plan.proofs.GatheredPoints.{filter_gathered}
 use Rattle.mdl_plan.proofs.Limits.{ascend_from}
 
@@ -19,7 +19,7 @@ some_wanted true lists q e = e
 some_wanted false lists q e = absurd (false≢true e)
 
 -- what follows of each list with a number follows where a piece is chosen
-by_kind : (t : Table) (p : Point) (C : Type 0)
+by_kind : (t : ChosenPieces) (p : Point) (C : Type 0)
     → (is_some_number (get_or t.entry p.proc_no []) ≡ true → C) → (is_some_number (get_or t.after p.proc_no []) ≡ true → C)
     → (is_some_number (get_or t.ret p.proc_no []) ≡ true → C) → (is_some_number (get_or t.call p.proc_no []) ≡ true → C)
     → has_numbers t p ≡ true → C
@@ -37,7 +37,7 @@ by_kind t p C at_entry at_after at_ret at_call e =
     ]
 
 -- the places that are added for each kind hold those of all points at which a piece is chosen
-pub all_added : (t : Table) (by_proc : List (List ℕ)) (none entry after ret call : List ℕ)
+pub all_added : (t : ChosenPieces) (by_proc : List (List ℕ)) (none entry after ret call : List ℕ)
     → AddsPlaces t.entry by_proc none entry → AddsPlaces t.after by_proc entry after → AddsPlaces t.ret by_proc after ret → AddsPlaces t.call by_proc ret call
     → (p : Point) (i : ℕ) → has_numbers t p ≡ true → list_any (λ j. j == i) (get_or by_proc p.proc_no []) ≡ true → list_any (λ j. j == i) call ≡ true
 all_added t by_proc none entry after ret call a b c d p i chosen there =
@@ -49,7 +49,7 @@ all_added t by_proc none entry after ret call a b c d p i chosen there =
     chosen
 
 -- at no other points a piece is chosen
-pub all_reached : (t : Table) (points : List Point) (by_proc : List (List ℕ)) (places : List ℕ) → AreByProcedure points by_proc → IsOver (length by_proc) t → HavePlaces t by_proc places
+pub all_reached : (t : ChosenPieces) (points : List Point) (by_proc : List (List ℕ)) (places : List ℕ) → AreByProcedure points by_proc → IsOver (length by_proc) t → HavePlaces t by_proc places
     → filter (has_numbers t) (gathered points places) ≡ filter (has_numbers t) points
 all_reached t points by_proc places are over h =
     filter_gathered (has_numbers t) points places (ascend_from places h.ascend) (λ i p at chosen. h.each p i chosen (are i p at (over p chosen)))

@@ -1,10 +1,9 @@
 mod Elements
 mod PieceOrder
-mod NameNumbers
 mod Marks
 mod SparseLists
 mod PieceNumbers
-mod Selected
+mod Passing
 mod SiteList
 mod OpenList
 mod Numbered

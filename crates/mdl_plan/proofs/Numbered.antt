@@ -11,7 +11,7 @@ use Rattle.mdl_plan.specs.Busy.{busy, has_some}
 use Rattle.mdl_plan.specs.Numbers.{numbers_from, stmts_of_number}
 use Rattle.mdl_plan.specs.Pieces.{Piece}
 use Rattle.mdl_plan.specs.Statements.{Terms, stmt_of, stmts_of}
-use Rattle.mdl_plan.specs.Tables.{is_some_number}
+use Rattle.mdl_plan.specs.ChosenPieces.{is_some_number}
 
 -- ---- the statements of numbers
 

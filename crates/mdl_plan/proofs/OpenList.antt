@@ -10,8 +10,8 @@ use Rattle.mdl_plan.specs.Numbers.{stmts_of_number}
 use Rattle.mdl_plan.specs.Pieces.{Piece}
 use Rattle.mdl_plan.specs.Plans.{open_if}
 use Rattle.mdl_plan.specs.Statements.{Terms}
-use Rattle.mdl_plan.specs.Tables.{has_numbers, is_some_number, numbers_if, open_with, opens_with}
-use Rattle.mdl_plan.specs.declared.table.Table.{Table}
+use Rattle.mdl_plan.specs.ChosenPieces.{has_numbers, is_some_number, numbers_if, open_with, opens_with}
+use Rattle.mdl_plan.specs.declared.chosen_pieces.ChosenPieces.{ChosenPieces}
 
 pub no_stmts : (o : Option Proc) → open_if [] o ≡ []
 no_stmts None = refl
@@ -26,7 +26,7 @@ passing {X = X} {Y = Y} f test none (x ∷ xs) = by (test x) refl (passing f tes
     by true e h = ap (λ (l : List Y). f x ++ l) h
     by false e h = h ∙ ap (λ (l : List Y). l ++ flat_map f xs) (sym (none x e))
 
-module _ (terms : Terms) (pieces : List Piece) (t : Table) (procs : List Proc) where
+module _ (terms : Terms) (pieces : List Piece) (t : ChosenPieces) (procs : List Proc) where
   -- one more point
   pub opens_more : (points : List Point) (i : ℕ) (p : Point) → i < length points → get_or points i p ≡ p
       → opens_with terms pieces t procs (take i points) ++ open_with terms pieces t procs p ≡ opens_with terms pieces t procs (take (i + 1) points)

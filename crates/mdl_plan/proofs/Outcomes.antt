@@ -10,39 +10,39 @@ use Rattle.pn_types.specs.declared.plan.Plan.{Plan}
 use Rattle.pn_types.specs.declared.plan.Site.{Site}
 use Rattle.pn_types.specs.declared.plan.Var.{Var}
 use Rattle.mdl_plan.specs.Busy.{busy}
-use Rattle.mdl_plan.specs.Selecting.{scope}
+use Rattle.mdl_plan.specs.Scopes.{scope}
 use Rattle.mdl_plan.specs.Pieces.{Piece}
 use Rattle.mdl_plan.specs.Plans.{Answers, Scene, is_crowded, or_crowded, plan_with, opens_of, sites_of}
 use Rattle.mdl_plan.specs.Statements.{Terms}
-use Rattle.mdl_plan.specs.Tables.{IsTable, Refuses, has_numbers, opens_with, site_with, sites_with}
+use Rattle.mdl_plan.specs.ChosenPieces.{AreChosen, Refuses, has_numbers, opens_with, site_with, sites_with}
 use Rattle.mdl_plan.specs.declared.fault.PlanFault.{PlanFault}
 use Rattle.mdl_plan.specs.declared.fault.PlanFault.TheVariants.{NoMemory, NoConstraint, TooManySites, TooManyStmts}
-use Rattle.mdl_plan.specs.declared.table.Table.{Table}
+use Rattle.mdl_plan.specs.declared.chosen_pieces.ChosenPieces.{ChosenPieces}
 use Rattle.mdl_plan.proofs.OpenList.{opens_reached}
 use Rattle.mdl_plan.proofs.PointStmts.{opens_are, sites_are}
 
 -- the sites of a scene, where the points at which a piece is chosen are reached
-pub scene_sites : (s : Scene) (terms : Terms) (pieces : List Piece) (t : Table) (reached points : List Point)
-    → filter (has_numbers t) reached ≡ filter (has_numbers t) points → pieces ≡ busy s.pieces → IsTable (scope s.selected s.procs) pieces t → terms ≡ s.terms
+pub scene_sites : (s : Scene) (terms : Terms) (pieces : List Piece) (t : ChosenPieces) (reached points : List Point)
+    → filter (has_numbers t) reached ≡ filter (has_numbers t) points → pieces ≡ busy s.pieces → AreChosen (scope s.selected s.procs) pieces t → terms ≡ s.terms
     → sites_with terms pieces t reached ≡ sites_of s points
 scene_sites s terms pieces t reached points all e h f =
     ap (map (site_with terms pieces t)) all
     ∙ ap (λ (x : Terms). sites_with x pieces t points) f
     ∙ ap (λ (ps : List Piece). sites_with s.terms ps t points) e
-    ∙ sites_are s t (subst (λ (ps : List Piece). IsTable (scope s.selected s.procs) ps t) e h) points
+    ∙ sites_are s t (subst (λ (ps : List Piece). AreChosen (scope s.selected s.procs) ps t) e h) points
 
-pub many_sites : (terms : Terms) (pieces : List Piece) (t : Table) (points : List Point) → length (sites_with terms pieces t points) ≡ length (filter (has_numbers t) points)
+pub many_sites : (terms : Terms) (pieces : List Piece) (t : ChosenPieces) (points : List Point) → length (sites_with terms pieces t points) ≡ length (filter (has_numbers t) points)
 many_sites terms pieces t points = length-map (filter (has_numbers t) points) (site_with terms pieces t)
 
 -- what is open in a scene, where the same points are reached
-pub scene_opens : (s : Scene) (terms : Terms) (pieces : List Piece) (t : Table) (reached points : List Point)
-    → filter (has_numbers t) reached ≡ filter (has_numbers t) points → pieces ≡ busy s.pieces → IsTable (scope s.selected s.procs) pieces t → terms ≡ s.terms
+pub scene_opens : (s : Scene) (terms : Terms) (pieces : List Piece) (t : ChosenPieces) (reached points : List Point)
+    → filter (has_numbers t) reached ≡ filter (has_numbers t) points → pieces ≡ busy s.pieces → AreChosen (scope s.selected s.procs) pieces t → terms ≡ s.terms
     → opens_with terms pieces t s.procs reached ≡ opens_of s points
 scene_opens s terms pieces t reached points all e h f =
     opens_reached terms pieces t s.procs reached points all
     ∙ ap (λ (x : Terms). opens_with x pieces t s.procs points) f
     ∙ ap (λ (ps : List Piece). opens_with s.terms ps t s.procs points) e
-    ∙ opens_are s t (subst (λ (ps : List Piece). IsTable (scope s.selected s.procs) ps t) e h) points
+    ∙ opens_are s t (subst (λ (ps : List Piece). AreChosen (scope s.selected s.procs) ps t) e h) points
 
 -- there are too many
 pub too_many : (vars : List Var) (sites due : List Site) (opens : List Open) (n : ℕ) → sites ≡ due → length sites ≡ n → 4096 < n → plan_with vars due opens ≡ Err (TooManySites n)

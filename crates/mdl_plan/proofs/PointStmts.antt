@@ -1,4 +1,4 @@
--- The statements of the pieces of a table are those of a plan.
+-- The statements of chosen pieces are those of a plan.
 use Rattle.std.proofs.Common.{◌≡◌, ℕ, zero, suc, ◌≤◌, ◌||◌, cond, nat_lt, Bool, true, false, Option, Some, None, List, [], ◌∷◌, ◌++◌, length, map, flat_map, get_or, slice_get, refl, sym, ap, ◌∙◌, arith}
 use Rattle.std.specs.List.{filter}
 use Rattle.std.proofs.lemmas.List.{append-nil, get_or_past}
@@ -13,9 +13,9 @@ use Rattle.mdl_plan.specs.Busy.{busy}
 use Rattle.mdl_plan.specs.Choosing.{is_chosen, kind_if}
 use Rattle.mdl_plan.specs.Numbers.{AreNumbers, stmts_of_number}
 use Rattle.mdl_plan.specs.Plans.{Scene, has_stmts, open_at, open_if, opens_of, site_at, sites_of, stmts_at, stmts_for}
-use Rattle.mdl_plan.specs.Selecting.{scope}
-use Rattle.mdl_plan.specs.Tables.{IsTable, has_numbers, is_some_number, numbers_at, numbers_if, open_with, opens_with, site_with, sites_with}
-use Rattle.mdl_plan.specs.declared.table.Table.{Table}
+use Rattle.mdl_plan.specs.Scopes.{scope}
+use Rattle.mdl_plan.specs.ChosenPieces.{AreChosen, has_numbers, is_some_number, numbers_at, numbers_if, open_with, opens_with, site_with, sites_with}
+use Rattle.mdl_plan.specs.declared.chosen_pieces.ChosenPieces.{ChosenPieces}
 use Rattle.mdl_plan.proofs.Numbered.{numbered, idle, some_both, counted}
 use Rattle.mdl_plan.proofs.OpenList.{no_stmts}
 
@@ -82,7 +82,7 @@ either {b = b} {c = c} {d = d} {w = w} {x = x} {y = y} p q r s =
     ∙ ap (λ (k : Bool). w || (x || (k || d))) r
     ∙ ap (λ (k : Bool). w || (x || (y || k))) s
 
-module _ (s : Scene) (t : Table) (h : IsTable (scope s.selected s.procs) (busy s.pieces) t) (p : Point) where
+module _ (s : Scene) (t : ChosenPieces) (h : AreChosen (scope s.selected s.procs) (busy s.pieces) t) (p : Point) where
   -- the statements of all kinds of the point
   four_kinds : stmts_at s p ≡ flat_map (by_kind s p.proc_no) (kind_if p.entry Entry)
       ++ (flat_map (by_kind s p.proc_no) (kind_if p.after After) ++ (flat_map (by_kind s p.proc_no) (kind_if p.ret Return) ++ flat_map (by_kind s p.proc_no) (kind_if p.call Call)))
@@ -130,14 +130,14 @@ selected {X = X} {Y = Y} f k test has same each (x ∷ xs) =
     by true false e h = cc
     by false true e h = cc
 
--- the sites of a table are those of the plan
-pub sites_are : (s : Scene) (t : Table) → IsTable (scope s.selected s.procs) (busy s.pieces) t → (points : List Point)
+-- the sites of chosen pieces are those of the plan
+pub sites_are : (s : Scene) (t : ChosenPieces) → AreChosen (scope s.selected s.procs) (busy s.pieces) t → (points : List Point)
     → sites_with s.terms (busy s.pieces) t points ≡ sites_of s points
 sites_are s t h points = selected (site_at s) (site_with s.terms (busy s.pieces) t) has_stmts (has_numbers t) (same_test s t h) (same_site s t h) points
 
 -- ---- what is open
 
-module _ (s : Scene) (t : Table) (h : IsTable (scope s.selected s.procs) (busy s.pieces) t) where
+module _ (s : Scene) (t : ChosenPieces) (h : AreChosen (scope s.selected s.procs) (busy s.pieces) t) where
   same_open : (p : Point) → open_with s.terms (busy s.pieces) t s.procs p ≡ open_at s p
   same_open p = by p.entry
     where
@@ -146,7 +146,7 @@ module _ (s : Scene) (t : Table) (h : IsTable (scope s.selected s.procs) (busy s
       by true = ap (λ (l : List Stmt). open_if l (slice_get s.procs p.proc_no)) (of_kind s Entry t.entry p.proc_no h.entry (slice_get s.procs p.proc_no) refl)
       by false = no_stmts (slice_get s.procs p.proc_no)
 
-  -- what is open by a table is so by the plan
+  -- what is open by chosen pieces is so by the plan
   pub opens_are : (points : List Point) → opens_with s.terms (busy s.pieces) t s.procs points ≡ opens_of s points
   opens_are [] = refl
   opens_are (p ∷ points) =

@@ -10,12 +10,12 @@ use Rattle.pn_types.specs.declared.plan.Site.{Site}
 use Rattle.mdl_plan.specs.Pieces.{Piece}
 use Rattle.mdl_plan.specs.Plans.{is_crowded}
 use Rattle.mdl_plan.specs.Statements.{Terms}
-use Rattle.mdl_plan.specs.Tables.{Refuses, has_numbers, site_with, sites_with}
+use Rattle.mdl_plan.specs.ChosenPieces.{Refuses, has_numbers, site_with, sites_with}
 use Rattle.mdl_plan.specs.declared.fault.PlanFault.{PlanFault}
 use Rattle.mdl_plan.specs.declared.fault.PlanFault.TheVariants.{NoMemory, NoConstraint, TooManySites, TooManyStmts}
-use Rattle.mdl_plan.specs.declared.table.Table.{Table}
+use Rattle.mdl_plan.specs.declared.chosen_pieces.ChosenPieces.{ChosenPieces}
 
-module _ (terms : Terms) (pieces : List Piece) (t : Table) where
+module _ (terms : Terms) (pieces : List Piece) (t : ChosenPieces) where
   both : (a b : List Point) → sites_with terms pieces t (a ++ b) ≡ sites_with terms pieces t a ++ sites_with terms pieces t b
   both a b = ap (map (site_with terms pieces t)) (filter-append (has_numbers t) a b) ∙ map-append (site_with terms pieces t) (filter (has_numbers t) a) (filter (has_numbers t) b)
 

@@ -3,12 +3,11 @@ use Rattle.std.specs.Prelude.{ℕ, ◌≡◌, ◌<◌, ◌==◌, true, Some, Lis
 use Rattle.std.specs.List.{list_any}
 use Rattle.pn_types.specs.declared.code.Point.{Point}
 use Rattle.pn_types.specs.declared.code.Proc.{Proc}
-use Rattle.resource_tree.specs.Resources.{ModuleNode}
-use Rattle.mdl_plan.specs.Selecting.{AreNames}
+use Rattle.mdl_plan.specs.Scopes.{names_of}
 
--- the numbers of the procedures of each name, and by procedure the places of its points in the list of points
+-- the name of each procedure, and by procedure the places of its points in the list of points
 pub record IndexData : Type 0 where
-  pub names : List ModuleNode
+  pub names : List (List ℕ)
   pub places : List (List ℕ)
 
 -- the place of each point stands among those of its procedure
@@ -17,7 +16,7 @@ AreByProcedure points places = (i : ℕ) (p : Point) → slice_get points i ≡ 
 
 -- the index is that of these procedures and points
 pub record IsIndexOf (procs : List Proc) (points : List Point) (index : IndexData) : Type 0 where
-  pub names : AreNames procs index.names
+  pub names : index.names ≡ names_of procs
   pub many : length index.places ≡ length procs
   pub places : AreByProcedure points index.places
 

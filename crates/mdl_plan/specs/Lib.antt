@@ -6,8 +6,8 @@ pub mod Plans
 pub mod Starts
 pub mod Fitting
 pub mod Busy
-pub mod Selecting
+pub mod Scopes
 pub mod Indexes
 pub mod Sparse
 pub mod Numbers
-pub mod Tables
+pub mod ChosenPieces

@@ -1,11 +1,12 @@
 //! What is looked up while plans are made.
 
 ghost use Rattle.std.specs.Prelude.{◌≡◌, ◌<◌, ◌^◌, [], IfOk, OnOk, length, map, flat_map, slice_index_or};
-ghost use Rattle.resource_tree.specs.Resources.{numbers_named};
+ghost use Rattle.first_places.specs.Groups.{places_of};
 ghost use Rattle.mdl_plan.specs.Indexes.{gathered, placed, AreByProcedure, IsIndexOf};
 ghost use Rattle.mdl_plan.specs.Numbers.{AreEmpty};
+ghost use Rattle.mdl_plan.specs.Scopes.{names_of};
 
-use crate::names::Names;
+use first_places::PlacesByName;
 use pn_types::{NoMemory, Point, Proc, Text};
 use std::alloc::Global;
 use std::marker::Model;
@@ -13,7 +14,8 @@ use std::marker::Model;
 /// What is looked up while plans are made: which procedures have a name, and which points a procedure has.
 #[derive(Drop)]
 pub struct PlanIndex {
-    names: Names,
+    /// The name of each procedure.
+    names: PlacesByName,
     /// By procedure the places of its points in the list of points, ascending.
     places: Vec<Vec<u32>>,
 }
@@ -25,6 +27,18 @@ impl Model for PlanIndex {
     ghost Value = { IndexData };
 
     ghost view = { λ i. record { names = i.names; places = map (λ l. l.items) i.places.items } };
+}
+
+/// The names of procedures.
+fn names_of(alloc: Global, procs: &[Proc]) -> Result<PlacesByName, NoMemory>
+    requires { length procs.now < 2 ^ 32 }
+    ensures { IfOk result (λ names. names ≡ names_of procs.now) }
+{
+    let mut names = PlacesByName::new(alloc);
+    for proc in procs {
+        names.push(alloc, proc.name.bytes())?;
+    }
+    Ok(names)
 }
 
 /// An empty list for each of so many procedures.
@@ -85,16 +99,20 @@ impl PlanIndex {
         requires points { length points.now < 2 ^ 32 }
         ensures { IfOk result (IsIndexOf procs.now points.now) }
     {
-        let names = Names::of(alloc, procs)?;
+        let names = names_of(alloc, procs)?;
         let places = places_of(alloc, procs.len(), points)?;
         Ok(PlanIndex { names, places })
     }
 
     /// The numbers of the procedures of these names.
     pub(crate) fn with_any(&self, alloc: Global, names: &[Text]) -> Result<Vec<u32>, NoMemory>
-        ensures { IfOk result (λ numbers. numbers.items ≡ flat_map (λ name. numbers_named name self.now.names) names.now) }
+        ensures { IfOk result (λ numbers. numbers.items ≡ flat_map (λ name. places_of name self.now.names) names.now) }
     {
-        self.names.with_any(alloc, names)
+        let mut all = Vec::new(alloc);
+        for name in names {
+            all.extend_from_slice(self.names.places(name.bytes()))?;
+        }
+        Ok(all)
     }
 
     /// The places of the points of a procedure. Empty where there is no such procedure.

@@ -2,17 +2,16 @@
 #![tactic(auto)]
 
 mod active;
+mod chosen_pieces;
 mod fault;
 mod index;
 mod lists;
-mod names;
 mod pieces;
 mod planner;
 mod planning;
 mod scope;
 mod start;
 mod statements;
-mod table;
 mod variables;
 
 pub use fault::PlanFault;

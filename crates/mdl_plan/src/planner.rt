@@ -4,19 +4,19 @@ ghost use Rattle.std.specs.Prelude.{◌≡◌, ◌≤◌, ◌<◌, ◌^◌, ◌+
 ghost use Rattle.std.specs.List.{filter, find};
 ghost use Rattle.resource_tree.specs.Foci.{part};
 ghost use Rattle.mdl_plan.specs.Busy.{busy};
-ghost use Rattle.mdl_plan.specs.Selecting.{scope, AreNames};
+ghost use Rattle.mdl_plan.specs.Scopes.{names_of, scope};
 ghost use Rattle.mdl_plan.specs.Indexes.{AreByProcedure};
 ghost use Rattle.mdl_plan.specs.Pieces as spec;
 ghost use Rattle.mdl_plan.specs.Plans.{is_crowded, open_if, terms_of};
-ghost use Rattle.mdl_plan.specs.Tables.{has_numbers, numbers_at, open_with, opens_in, sites_in, stmts_in, IsOver, IsTable, Refuses};
+ghost use Rattle.mdl_plan.specs.ChosenPieces.{has_numbers, numbers_at, open_with, opens_in, sites_in, stmts_in, IsOver, AreChosen, Refuses};
 
 use crate::active::Active;
+use crate::chosen_pieces::{ChosenPieces, numbers_if};
 use crate::fault::PlanFault;
 use crate::index::{PlanIndex, points_at};
 use crate::pieces::{Piece, pieces};
 use crate::scope::Scope;
 use crate::statements::Terms;
-use crate::table::{Table, numbers_if};
 use mdl_ast::{Constraint, Metric};
 use pn_types::{Focus, NoMemory, Open, Point, Proc, Seq, Site, Stmt};
 use resource_tree::Tree;
@@ -30,7 +30,7 @@ const MOST_STMTS: usize = 32;
 #[derive(Drop)]
 pub(crate) struct Planner<'a> {
     pieces: Vec<Piece<'a>>,
-    table: Table,
+    chosen: ChosenPieces,
     terms: Terms,
 }
 
@@ -91,18 +91,18 @@ impl<'a> Planner<'a> {
         requires few { length counters.now ≤ 2 }
         requires active { map (λ c. c.now) counters.now ≡ spec.counters active.now }
         requires procs { length procs.now < 2 ^ 32 }
-        requires index { AreNames procs.now index.now.names }
+        requires index { index.now.names ≡ names_of procs.now }
         ensures pieces { IfOk result (λ s. s.pieces.items ≡ busy (spec.pieces metric.now active.now)) }
-        ensures table { IfOk result (λ s. IsTable (scope (part tree.now focus.now).procs procs.now) s.pieces.items s.table) }
+        ensures chosen { IfOk result (λ s. AreChosen (scope (part tree.now focus.now).procs procs.now) s.pieces.items s.chosen) }
         ensures terms { IfOk result (λ s. s.terms ≡ terms_of (part tree.now focus.now) active.now) }
     {
         let pieces = pieces(alloc, metric, active, counters)?;
         let scope = Scope::new(tree, focus, procs, index);
-        let table = Table::build(alloc, &scope, &pieces)?;
+        let chosen = ChosenPieces::build(alloc, &scope, &pieces)?;
         let terms = Terms::new(alloc, counters, tree.object_at(focus))?;
         Ok(Planner {
             pieces,
-            table,
+            chosen,
             terms,
         })
     }
@@ -115,21 +115,21 @@ impl<'a> Planner<'a> {
         index: &PlanIndex,
     ) -> Result<Vec<&'p Point>, NoMemory>
         requires points { AreByProcedure points.now index.now.places }
-        requires procs { IsOver (length index.now.places) self.now.table }
-        ensures { IfOk result (λ found. filter (has_numbers self.now.table) (map (λ p. p.now) found.items) ≡ filter (has_numbers self.now.table) points.now) }
+        requires procs { IsOver (length index.now.places) self.now.chosen }
+        ensures { IfOk result (λ found. filter (has_numbers self.now.chosen) (map (λ p. p.now) found.items) ≡ filter (has_numbers self.now.chosen) points.now) }
     {
-        let places = self.table.places(alloc, index)?;
+        let places = self.chosen.places(alloc, index)?;
         points_at(alloc, points, &places)
     }
 
     /// At how many points a statement stands.
     pub(crate) fn count(&self, points: &[&Point]) -> u32
-        requires { length (filter (has_numbers self.now.table) (map (λ p. p.now) points.now)) < 2 ^ 32 }
-        ensures { result ≡ length (filter (has_numbers self.now.table) (map (λ p. p.now) points.now)) }
+        requires { length (filter (has_numbers self.now.chosen) (map (λ p. p.now) points.now)) < 2 ^ 32 }
+        ensures { result ≡ length (filter (has_numbers self.now.chosen) (map (λ p. p.now) points.now)) }
     {
         let mut count = 0;
         for point in points {
-            if self.table.has_numbers(point) {
+            if self.chosen.has_numbers(point) {
                 count += 1;
             }
         }
@@ -163,13 +163,13 @@ impl<'a> Planner<'a> {
 
     /// The statements at a point, kind by kind.
     fn stmts_at(&self, alloc: Global, point: &Point) -> Result<Vec<Stmt>, NoMemory>
-        ensures { IfOk result (λ stmts. stmts.items ≡ flat_map (stmts_in self.now) (numbers_at self.now.table point.now)) }
+        ensures { IfOk result (λ stmts. stmts.items ≡ flat_map (stmts_in self.now) (numbers_at self.now.chosen point.now)) }
     {
         let proc_no = point.proc_no;
-        let entry = numbers_if(point.entry, &self.table.entry, proc_no);
-        let after = numbers_if(point.after, &self.table.after, proc_no);
-        let ret = numbers_if(point.ret, &self.table.ret, proc_no);
-        let call = numbers_if(point.call, &self.table.call, proc_no);
+        let entry = numbers_if(point.entry, &self.chosen.entry, proc_no);
+        let after = numbers_if(point.after, &self.chosen.after, proc_no);
+        let ret = numbers_if(point.ret, &self.chosen.ret, proc_no);
+        let call = numbers_if(point.call, &self.chosen.call, proc_no);
         let mut stmts = Vec::new(alloc);
         self.add_pieces(alloc, &mut stmts, entry)?;
         self.add_pieces(alloc, &mut stmts, after)?;
@@ -184,7 +184,7 @@ impl<'a> Planner<'a> {
         ensures few { OnOk result (find is_crowded (sites_in self.now (point.now ∷ [])) ≡ None) }
         ensures refused { IfErr result (λ fault. Refuses fault (sites_in self.now (point.now ∷ []))) }
     {
-        if !self.table.has_numbers(point) {
+        if !self.chosen.has_numbers(point) {
             return Ok(());
         }
         let stmts = self.stmts_at(alloc, point)?;
@@ -216,9 +216,9 @@ impl<'a> Planner<'a> {
         procs: &[Proc],
         point: &Point,
     ) -> Result<(), NoMemory>
-        ensures { OnOk result (opens.new.items ≡ opens.old.items ++ open_with self.now.terms self.now.pieces.items self.now.table procs.now point.now) }
+        ensures { OnOk result (opens.new.items ≡ opens.old.items ++ open_with self.now.terms self.now.pieces.items self.now.chosen procs.now point.now) }
     {
-        let numbers = numbers_if(point.entry, &self.table.entry, point.proc_no);
+        let numbers = numbers_if(point.entry, &self.chosen.entry, point.proc_no);
         let mut stmts = Vec::new(alloc);
         self.add_pieces(alloc, &mut stmts, numbers)?;
         add_busy(opens, procs, point.proc_no, stmts)

@@ -4,7 +4,7 @@ ghost use Rattle.std.specs.Prelude.{◌≡◌, ◌<◌, ◌==◌, ◌^◌, ℕ, 
 ghost use Rattle.std.specs.List.{list_any};
 ghost use Rattle.resource_tree.specs.Foci.{part};
 ghost use Rattle.mdl_plan.specs.Choosing.{in_set};
-ghost use Rattle.mdl_plan.specs.Selecting.{scope, AreNames, Selects};
+ghost use Rattle.mdl_plan.specs.Scopes.{names_of, scope, ArePassing};
 
 use crate::index::PlanIndex;
 use mdl_ast::Set;
@@ -23,14 +23,15 @@ pub(crate) struct Scope<'a> {
 }
 
 impl<'a> Model for Scope<'a> {
+    ghost use Rattle.std.specs.Prelude.{◌≡◌};
     ghost use Rattle.resource_tree.specs.Foci.{part};
-    ghost use Rattle.mdl_plan.specs.Selecting.{AreNames, Scope, scope};
+    ghost use Rattle.mdl_plan.specs.Scopes.{Scope, names_of, scope};
 
     ghost Value = { Scope };
 
     ghost view = { λ s. scope (part s.tree.now s.focus.now).procs s.procs.now };
 
-    ghost invariant = { λ s. AreNames s.procs.now s.index.now.names };
+    ghost invariant = { λ s. s.index.now.names ≡ names_of s.procs.now };
 }
 
 /// The numbers of all procedures, of which there are so many.
@@ -52,7 +53,7 @@ impl<'a> Scope<'a> {
         procs: &'a [Proc],
         index: &'a PlanIndex,
     ) -> Scope<'a>
-        requires { AreNames procs.now index.now.names }
+        requires { index.now.names ≡ names_of procs.now }
         ensures { result ≡ scope (part tree.now focus.now).procs procs.now }
     {
         Scope {
@@ -73,7 +74,7 @@ impl<'a> Scope<'a> {
     /// The numbers of the procedures of a set. One can stand there more than once.
     pub(crate) fn selected(&self, alloc: Global, set: &Set) -> Result<Vec<u32>, NoMemory>
         requires { length self.now.procs < 2 ^ 32 }
-        ensures { IfOk result (λ found. Selects self.now.procs (in_set self.now.selected set.now) found.items) }
+        ensures { IfOk result (λ found. ArePassing self.now.procs (in_set self.now.selected set.now) found.items) }
     {
         let procs = self.procs.len() as u32;
         match set {

@@ -1,5 +1,5 @@
 -- The canonical text of a focus is read as that focus.
-use Rattle.std.proofs.Common.{◌≡◌, ℕ, zero, suc, ◌+◌, ◌<◌, ◌≤◌, ◌%◌, ◌/◌, nat_le, nat_lt, cond, Bool, true, false, List, [], ◌∷◌, ◌++◌, length, map, position, slice_get, bytes_eq, codes, Option, Some, None, refl, sym, ap, ◌∙◌, subst, arith, rules, append_assoc}
+use Rattle.std.proofs.Common.{◌≡◌, ℕ, zero, suc, ◌+◌, ◌<◌, ◌≤◌, ◌%◌, ◌/◌, nat_le, nat_lt, cond, Bool, true, false, List, [], ◌∷◌, ◌++◌, length, map, position, slice_get, bytes_eq, codes, Option, Some, None, refl, sym, ap, ◌∙◌, arith, rules, append_assoc}
 use Rattle.std.proofs.lemmas.List.{append-nil}
 use Rattle.std.proofs.lemmas.Option.{slice_get-map, slice_get_within, slice_get_past}
 use Rattle.std.proofs.lemmas.Fmt.{decimal_digit, decimal_step, decimal_is_IsNumeral}
@@ -18,38 +18,39 @@ use Rattle.pn_types.specs.declared.focus.CodePart.{CodePart}
 use Rattle.pn_types.specs.declared.focus.CodePart.TheVariants.{All, Module, Procedure}
 use Rattle.pn_types.specs.declared.focus.Focus.{Focus}
 use Rattle.resource_tree.specs.FocusTexts.{Part, are_parts_of, every_axis, below_text}
-use Rattle.resource_tree.specs.Foci.{root, with_code, with_hart, with_object, code_named, hart_named, object_named, hart_name, hart_names, IsCodeOf, IsBelow, IsFocusOf, IsTextOf, named_text, code_text, hart_text, object_text, canonical}
+use Rattle.resource_tree.specs.Foci.{root, with_code, with_hart, with_object, code_named, is_named, path_of, hart_named, object_named, hart_name, hart_names, IsCodeOf, IsBelow, IsFocusOf, IsTextOf, named_text, code_text, hart_text, object_text, canonical}
 use Rattle.resource_tree.specs.Names.{AreApart, IsNamed}
-use Rattle.resource_tree.specs.Resources.{Resources, CodeNodes, ModuleNode, ObjectNode}
+use Rattle.resource_tree.specs.Resources.{Resources, CodeNodes, ModuleNode, ProcNode, ObjectNode}
+use Rattle.resource_tree.proofs.FormStates.{both}
 use Rattle.resource_tree.proofs.Parts.{nodes_some}
 use Rattle.resource_tree.proofs.Ranges.{range_at}
 
--- the place of a name
-module _ {X : Type 0} (f : X → List ℕ) (name : List ℕ) where
+-- the first place of what passes a test
+module _ {X : Type 0} (passes : X → Bool) where
   record Found (i : ℕ) (xs : List X) : Type 0 where
     pub place : ℕ
     pub item : X
     pub at : slice_get xs place ≡ Some item
-    pub named : f item ≡ name
-    pub first : position_from (λ x. bytes_eq name (f x)) i xs ≡ Some (i + place)
+    pub good : passes item ≡ true
+    pub first : position_from passes i xs ≡ Some (i + place)
 
-  found : (i : ℕ) (xs : List X) (k : ℕ) (x : X) → slice_get xs k ≡ Some x → f x ≡ name → Found i xs
+  found : (i : ℕ) (xs : List X) (k : ℕ) (x : X) → slice_get xs k ≡ Some x → passes x ≡ true → Found i xs
   found i [] k x h e = let past = slice_get_past {X = X} [] k (omega arith) in cc
-  found i (y ∷ ys) k x h e = by (bytes_eq name (f y)) refl k h (λ j g. found (i + 1) ys j x g e)
+  found i (y ∷ ys) k x h e = by (passes y) refl k h (λ j g. found (i + 1) ys j x g e)
     where
-      by : (b : Bool) → bytes_eq name (f y) ≡ b → (j : ℕ) → slice_get (y ∷ ys) j ≡ Some x → ((m : ℕ) → slice_get ys m ≡ Some x → Found (i + 1) ys) → Found i (y ∷ ys)
+      by : (b : Bool) → passes y ≡ b → (j : ℕ) → slice_get (y ∷ ys) j ≡ Some x → ((m : ℕ) → slice_get ys m ≡ Some x → Found (i + 1) ys) → Found i (y ∷ ys)
       by true q j g rest =
           let z : i ≡ i + 0 = omega arith in
           record {
             place = 0;
             item = y;
             at = refl;
-            named = sym ((bytes_decides name (f y)).0 q);
-            first = ap (λ (b : Bool). cond b (Some i) (position_from (λ x. bytes_eq name (f x)) (i + 1) ys)) q ∙ ap Some z;
+            good = q;
+            first = ap (λ (b : Bool). cond b (Some i) (position_from passes (i + 1) ys)) q ∙ ap Some z;
           }
       by false q zero g rest =
           let same : y ≡ x = cc in
-          let yes : bytes_eq name (f y) ≡ true = (bytes_decides name (f y)).1 (sym e ∙ ap f (sym same)) in
+          let yes : passes y ≡ true = ap passes same ∙ e in
           cc
       by false q (suc m) g rest =
           let r = rest m g in
@@ -58,17 +59,22 @@ module _ {X : Type 0} (f : X → List ℕ) (name : List ℕ) where
             place = suc r.place;
             item = r.item;
             at = r.at;
-            named = r.named;
-            first = ap (λ (b : Bool). cond b (Some i) (position_from (λ x. bytes_eq name (f x)) (i + 1) ys)) q ∙ r.first ∙ ap Some z;
+            good = r.good;
+            first = ap (λ (b : Bool). cond b (Some i) (position_from passes (i + 1) ys)) q ∙ r.first ∙ ap Some z;
           }
 
-  -- a name that stands at one place is found there
-  pub own_place : (xs : List X) (k : ℕ) (x : X) → AreApart (map f xs) → slice_get xs k ≡ Some x → f x ≡ name → position (λ x. bytes_eq name (f x)) xs ≡ Some k
-  own_place xs k x apart h e =
+  -- what alone passes is found
+  only_place : (xs : List X) (k : ℕ) (x : X) → slice_get xs k ≡ Some x → passes x ≡ true → ((j : ℕ) (y : X) → slice_get xs j ≡ Some y → passes y ≡ true → j ≡ k) → position passes xs ≡ Some k
+  only_place xs k x h e alone =
       let r = found 0 xs k x h e in
-      let same : r.place ≡ k = apart r.place k name (slice_get-map f xs r.place ∙ ap (option_map f) r.at ∙ ap Some r.named) (slice_get-map f xs k ∙ ap (option_map f) h ∙ ap Some e) in
-      let z : 0 + r.place ≡ k = omega (arith, same) in
-      position_from-zero (λ x. bytes_eq name (f x)) xs ∙ r.first ∙ ap Some z
+      let z : 0 + r.place ≡ k = omega (arith, alone r.place r.item r.at r.good) in
+      position_from-zero passes xs ∙ r.first ∙ ap Some z
+
+-- a name that stands at one place is found there
+own_place : {X : Type 0} (f : X → List ℕ) (name : List ℕ) (xs : List X) (k : ℕ) (x : X) → AreApart (map f xs) → slice_get xs k ≡ Some x → f x ≡ name → position (λ x. bytes_eq name (f x)) xs ≡ Some k
+own_place f name xs k x apart h e =
+    only_place (λ x. bytes_eq name (f x)) xs k x h ((bytes_decides name (f x)).1 (sym e))
+    (λ j y g q. apart j k name (slice_get-map f xs j ∙ ap (option_map f) g ∙ ap Some (sym ((bytes_decides name (f y)).0 q))) (slice_get-map f xs k ∙ ap (option_map f) h ∙ ap Some e))
 
 -- an element that is there
 pub there : {X : Type 0} (xs : List X) (k : ℕ) → k < length xs → (x : X) × (slice_get xs k ≡ Some x)
@@ -102,16 +108,19 @@ code_read t (Module m) n h =
       found = ap (option_map Module) (own_place (λ q. q.name) name t.code.modules m x.0 n.modules.apart x.1 refl);
     }
 code_read t (Procedure p) n h =
-    let x = there t.code.paths p h in
-    let path = n.paths p x.0 x.1 in
-    let joined = path.«module» ++ 0x2f ∷ path.name in
-    let apart : AreApart (map (λ (q : List ℕ). q) t.code.paths) = subst AreApart (sym (plain t.code.paths)) n.paths_apart in
+    let x = there t.code.procs p h in
+    let m = x.0.«module» in
+    let name = x.0.name in
+    let good = n.procs p x.0 x.1 in
+    let own : is_named m name x.0 ≡ true = rw ((bytes_decides m m).1 refl, (bytes_decides name name).1 refl) refl in
     record {
-      names = path.«module» ∷ path.name ∷ [];
+      names = m ∷ name ∷ [];
       few = omega arith;
-      good = rw (path.good_module, path.good_name) refl;
-      text = ap named_text x.1 ∙ ap (λ (l : List ℕ). 0x2f ∷ l) (path.joined ∙ ap (λ (l : List ℕ). path.«module» ++ 0x2f ∷ l) (sym (append-nil path.name)));
-      found = ap (option_map Procedure) (own_place (λ q. q) joined t.code.paths p x.0 apart x.1 path.joined);
+      good = rw (good.0, good.1) refl;
+      text = ap (λ (o : Option ProcNode). named_text (option_map path_of o)) x.1 ∙ ap (λ (l : List ℕ). 0x2f ∷ (m ++ 0x2f ∷ l)) (sym (append-nil name));
+      found = ap (option_map Procedure) (only_place (is_named m name) t.code.procs p x.0 x.1 own (λ j y g q.
+          let b = both (bytes_eq m y.«module») (bytes_eq name y.name) q in
+          n.procs_apart j p y x.0 g x.1 (sym ((bytes_decides m y.«module»).0 b.0)) (sym ((bytes_decides name y.name).0 b.1))));
     }
 
 -- the node of the machine

@@ -1,5 +1,5 @@
 -- What is selected in a tree is the tree's.
-use Rattle.std.proofs.Common.{◌≡◌, ℕ, zero, suc, ◌+◌, ◌<◌, cond, Bool, true, false, List, [], ◌∷◌, ◌++◌, length, map, position, slice_get, bytes_eq, nat_lt, Option, Some, None, Ok, refl, sym, ◌∙◌, subst, arith}
+use Rattle.std.proofs.Common.{◌≡◌, ℕ, ◌+◌, ◌<◌, ◌≤◌, cond, Bool, true, false, List, [], ◌∷◌, length, map, position, slice_get, bytes_eq, nat_lt, Option, Some, None, Ok, refl, sym, ◌∙◌, subst, arith}
 use borrow.Author.Tests.{ltb-true, ltb-false}
 use Rattle.std.proofs.lemmas.Option.{slice_get-map, slice_get_past}
 use Rattle.std.proofs.lemmas.List.FromFn.{length-map-range_with_len}
@@ -12,9 +12,11 @@ use Rattle.pn_types.specs.declared.focus.Axis.TheVariants.{Code, Machine, SyncOb
 use Rattle.pn_types.specs.declared.focus.CodePart.{CodePart}
 use Rattle.pn_types.specs.declared.focus.CodePart.TheVariants.{All, Module, Procedure}
 use Rattle.pn_types.specs.declared.focus.Focus.{Focus}
+use Rattle.first_places.specs.Groups.{first_mentions, stands_at}
+use Rattle.first_places.proofs.AllPlaces.{below_count, few_places}
 use Rattle.resource_tree.specs.FocusTexts.{Part}
-use Rattle.resource_tree.specs.Foci.{root, with_code, with_hart, with_object, code_named, hart_named, object_named, hart_name, hart_names, with_node, with_nodes, focus_of, IsCodeOf, IsBelow, IsFocusOf, code_children, flat_children}
-use Rattle.resource_tree.specs.Resources.{Resources, CodeNodes, ModuleNode, ObjectNode, HasMembersBelow, module_node, add_to, modules_from, modules_of, path_of}
+use Rattle.resource_tree.specs.Foci.{root, with_code, with_hart, with_object, code_named, is_named, hart_named, object_named, hart_name, hart_names, with_node, with_nodes, focus_of, IsCodeOf, IsBelow, IsFocusOf, code_children, flat_children}
+use Rattle.resource_tree.specs.Resources.{Resources, CodeNodes, ModuleNode, ObjectNode, HasFewMembers, HasMembersBelow, module_of, modules_of, proc_of}
 use Rattle.resource_tree.proofs.Parts.{nodes_none, nodes_some}
 use Rattle.resource_tree.proofs.Ranges.{range_at, range_past}
 
@@ -22,7 +24,7 @@ if_some : {A : Type 0} (b : Bool) (x y : A) → cond b (Some x) None ≡ Some y 
 if_some true x y h = (refl, cc)
 if_some false x y h = cc
 
-position_below : {X : Type 0} (p : X → Bool) (xs : List X) (k : ℕ) → position p xs ≡ Some k → k < length xs
+pub position_below : {X : Type 0} (p : X → Bool) (xs : List X) (k : ℕ) → position p xs ≡ Some k → k < length xs
 position_below p xs k h =
     let r = if_some (nat_lt (position_or_len p xs) (length xs)) (position_or_len p xs) k h in
     let lt = ltb-true (position_or_len p xs) (length xs) r.0 in
@@ -38,8 +40,8 @@ code_in c (name ∷ []) node h =
     let r = some_of Module (position (λ m. bytes_eq name m.name) c.modules) node h in
     subst (IsCodeOf c) r.2 (position_below (λ m. bytes_eq name m.name) c.modules r.0 r.1)
 code_in c (name ∷ proc ∷ []) node h =
-    let r = some_of Procedure (position (bytes_eq (name ++ 0x2f ∷ proc)) c.paths) node h in
-    subst (IsCodeOf c) r.2 (position_below (bytes_eq (name ++ 0x2f ∷ proc)) c.paths r.0 r.1)
+    let r = some_of Procedure (position (is_named name proc) c.procs) node h in
+    subst (IsCodeOf c) r.2 (position_below (is_named name proc) c.procs r.0 r.1)
 code_in c (name ∷ proc ∷ more ∷ names) node h = cc
 
 hart_in : (harts : ℕ) (names : List (List ℕ)) (place : Option ℕ) → hart_named harts names ≡ Some place → IsBelow harts place
@@ -92,7 +94,7 @@ ranged {X} f n i x h = by (nat_lt i n) refl
 pub none_at : {X : Type 0} (i : ℕ) (x : X) → slice_get [] i ≡ Some x → ⊥
 none_at {X} i x h = let past = slice_get_past {X = X} [] i (omega arith) in cc
 
-pub code_child_in : (c : CodeNodes) (node : CodePart) (i : ℕ) (child : CodePart) → HasMembersBelow (length c.paths) c.modules → slice_get (code_children c node) i ≡ Some child → IsCodeOf c child
+pub code_child_in : (c : CodeNodes) (node : CodePart) (i : ℕ) (child : CodePart) → HasMembersBelow (length c.procs) c.modules → slice_get (code_children c node) i ≡ Some child → IsCodeOf c child
 code_child_in c All i child m h = let r = ranged Module (length c.modules) i child h in subst (IsCodeOf c) r.1 r.0
 code_child_in c (Module k) i child m h = by (slice_get c.modules k) refl h
   where
@@ -110,44 +112,23 @@ flat_child_in n (Some k) i child h = absurd (none_at i child h)
 pub mapped_at : {X Y : Type 0} (f : X → Y) (xs : List X) (i : ℕ) (y : Y) → slice_get (map f xs) i ≡ Some y → (x : X) × (slice_get xs i ≡ Some x) × (f x ≡ y)
 mapped_at f xs i y h = some_of f (slice_get xs i) y (sym (slice_get-map f xs i) ∙ h)
 
--- one more procedure
-pushed_at : (xs : List ℕ) (n i p : ℕ) → slice_get (xs ++ n ∷ []) i ≡ Some p → ((x : ℕ) → slice_get xs i ≡ Some x → x < n + 1) → p < n + 1
-pushed_at [] n zero p h below = let e : n ≡ p = cc in omega (arith, e)
-pushed_at [] n (suc i) p h below = absurd (none_at i p h)
-pushed_at (x ∷ xs) n zero p h below = below p h
-pushed_at (x ∷ xs) n (suc i) p h below = pushed_at xs n i p h below
+-- each procedure of a module is one of those whose modules are listed
+members_of : (modules : List (List ℕ)) → HasMembersBelow (length modules) (modules_of modules)
+members_of modules k i p m at own =
+    let n = mapped_at (module_of modules) (first_mentions modules) k m at in
+    omega (arith, below_count (stands_at n.0 modules) 0 (length modules) i p (subst (λ (x : ModuleNode). slice_get x.procs i ≡ Some p) (sym n.2) own))
 
-pub members_more : (name : List ℕ) (n : ℕ) (ms : List ModuleNode) → HasMembersBelow n ms → HasMembersBelow (n + 1) (add_to name n ms)
-members_more name n [] below zero zero p m h g =
-    let e : module_node name (n ∷ []) ≡ m = cc in
-    let k : slice_get (n ∷ []) 0 ≡ Some p = subst (λ (x : ModuleNode). slice_get x.procs 0 ≡ Some p) (sym e) g in
-    let q : n ≡ p = cc in
-    omega (arith, q)
-members_more name n [] below zero (suc i) p m h g =
-    let e : module_node name (n ∷ []) ≡ m = cc in
-    absurd (none_at i p (subst (λ (x : ModuleNode). slice_get x.procs (suc i) ≡ Some p) (sym e) g))
-members_more name n [] below (suc k) i p m h g = absurd (none_at k m h)
-members_more name n (x ∷ xs) below k i p m h g = by (bytes_eq name x.name) k h (λ j e. members_more name n xs (λ a b c d. below (suc a) b c d) j i p m e g)
-  where
-    by : (b : Bool) (j : ℕ) → slice_get (cond b (module_node x.name (x.procs ++ n ∷ []) ∷ xs) (x ∷ add_to name n xs)) j ≡ Some m → ((j : ℕ) → slice_get (add_to name n xs) j ≡ Some m → p < n + 1) → p < n + 1
-    by true zero e rest =
-        let q : module_node x.name (x.procs ++ n ∷ []) ≡ m = cc in
-        pushed_at x.procs n i p (subst (λ (y : ModuleNode). slice_get y.procs i ≡ Some p) (sym q) g) (λ y r. omega (arith, below 0 i y x refl r))
-    by true (suc j) e rest = omega (arith, below (suc j) i p m e g)
-    by false zero e rest = omega (arith, below 0 i p m e g)
-    by false (suc j) e rest = rest j e
+-- no module has more procedures than there are
+few_of : (modules : List (List ℕ)) → HasFewMembers (length modules) (modules_of modules)
+few_of modules k m at =
+    let n = mapped_at (module_of modules) (first_mentions modules) k m at in
+    subst (λ (x : ModuleNode). length x.procs ≤ length modules) n.2 (few_places n.0 modules)
 
-pub no_members : HasMembersBelow 0 []
-no_members k i p m h g = absurd (none_at k m h)
+-- the bounds of the code of procedures
+pub code_members : (procs : List Proc) → HasMembersBelow (length (map proc_of procs)) (modules_of (map (λ p. p.«module») procs))
+code_members procs =
+    subst (λ (n : ℕ). HasMembersBelow n (modules_of (map (λ p. p.«module») procs))) (length-map procs (λ p. p.«module») ∙ sym (length-map procs proc_of)) (members_of (map (λ p. p.«module») procs))
 
-members_from : (ms : List ModuleNode) (n : ℕ) (procs : List Proc) → HasMembersBelow n ms → HasMembersBelow (n + length procs) (modules_from ms n procs)
-members_from ms n [] below = let e : n ≡ n + 0 = omega arith in subst (λ (k : ℕ). HasMembersBelow k ms) e below
-members_from ms n (p ∷ ps) below =
-    let e : n + 1 + length ps ≡ n + suc (length ps) = omega arith in
-    subst (λ (k : ℕ). HasMembersBelow k (modules_from ms n (p ∷ ps))) e (members_from (add_to p.«module» n ms) (n + 1) ps (members_more p.«module» n ms below))
-
--- the modules of procedures have these procedures alone
-pub members_of : (procs : List Proc) → HasMembersBelow (length (map path_of procs)) (modules_of procs)
-members_of procs =
-    let e : 0 + length procs ≡ length (map path_of procs) = simp length-map (omega arith) in
-    subst (λ (k : ℕ). HasMembersBelow k (modules_of procs)) e (members_from [] 0 procs no_members)
+pub code_few : (procs : List Proc) → HasFewMembers (length (map proc_of procs)) (modules_of (map (λ p. p.«module») procs))
+code_few procs =
+    subst (λ (n : ℕ). HasFewMembers n (modules_of (map (λ p. p.«module») procs))) (length-map procs (λ p. p.«module») ∙ sym (length-map procs proc_of)) (few_of (map (λ p. p.«module») procs))

@@ -13,7 +13,7 @@ use Rattle.resource_tree.specs.Resources.{Resources}
 use Rattle.resource_tree.specs.declared.fault.FocusFault.{FocusFault}
 use Rattle.resource_tree.specs.declared.fault.FocusFault.TheVariants.{NoSuchNode}
 use Rattle.resource_tree.specs.declared.hierarchy.Axes.{Axes}
-use Rattle.resource_tree.proofs.Scans.{both}
+use Rattle.resource_tree.proofs.FormStates.{both}
 
 -- no comma in a part
 any_append : (p : ℕ → Bool) (a b : List ℕ) → list_any p (a ++ b) ≡ list_any p a || list_any p b

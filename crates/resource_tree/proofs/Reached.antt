@@ -1,4 +1,4 @@
--- Where a scan has come in a text.
+-- What a state says of the text before it.
 use Rattle.std.proofs.Common.{◌≡◌, ◌≢◌, ℕ, ◌+◌, ◌-◌, ◌<◌, ◌≤◌, ◌==◌, ◌&&◌, nat_lt, nat_le, cond, Bool, true, false, List, [], ◌∷◌, ◌++◌, length, take, slice_get, Option, Some, None, refl, sym, ap, ◌∙◌, subst, arith, rules, append_assoc, append-nil, length-append}
 use Rattle.std.proofs.lemmas.List.{take_more, take_all}
 use Rattle.std.proofs.lemmas.Option.{slice_get_within, get_or_from_slice_get}
@@ -9,12 +9,12 @@ use Rattle.pn_types.specs.GoodNames.{is_name_byte, is_good_name}
 use Rattle.pn_types.specs.declared.focus.Axis.{Axis}
 use Rattle.pn_types.specs.declared.focus.Axis.TheVariants.{Code, Machine, SyncObject}
 use Rattle.resource_tree.specs.FocusTexts.{Part, axis_name, depth, has, without, every_axis, are_parts_of, IsFocusText, below_text, more_text, parts_text}
-use Rattle.resource_tree.specs.Scanning.{is_any, after, after_at, after_all, behind_name, in_hierarchy, is_byte, lettered}
+use Rattle.resource_tree.specs.FormStates.{is_any, after, after_at, after_all, behind_name, in_hierarchy, is_byte, lettered}
 use Rattle.resource_tree.specs.declared.hierarchy.Axes.{Axes}
-use Rattle.resource_tree.specs.declared.form.Scan.{Scan}
-use Rattle.resource_tree.specs.declared.form.Place.{Place}
-use Rattle.resource_tree.specs.declared.form.Place.TheVariants.{Start, Slash, Hierarchy, End, Name}
-use Rattle.resource_tree.proofs.Scans.{scan, both, after_none}
+use Rattle.resource_tree.specs.declared.form.FormState.{FormState}
+use Rattle.resource_tree.specs.declared.form.Stage.{Stage}
+use Rattle.resource_tree.specs.declared.form.Stage.TheVariants.{Start, Slash, Hierarchy, End, Name}
+use Rattle.resource_tree.proofs.FormStates.{state, both, after_none}
 
 -- behind it any parts of these hierarchies make a focus text
 pub record Leads (axes : Axes) (w : List ℕ) : Type 0 where
@@ -24,7 +24,7 @@ pub record Leads (axes : Axes) (w : List ℕ) : Type 0 where
 pub record Closes (axes : Axes) (levels : ℕ) (w : List ℕ) : Type 0 where
   pub ends : (names : List (List ℕ)) (ps : List Part) → list_all is_good_name names ≡ true → length names ≤ levels → are_parts_of axes ps ≡ true → IsFocusText (w ++ (below_text names ++ more_text ps))
 
--- the text in which a scan has come so far
+-- the text before a state
 pub record InSlash (axes : Axes) (w : List ℕ) : Type 0 where
   pub front : List ℕ
   pub is : w ≡ front ++ 0x2f ∷ []
@@ -47,7 +47,7 @@ pub record InName (axes : Axes) (levels len : ℕ) (w : List ℕ) : Type 0 where
   pub short : len ≤ 200
   pub bytes : list_all is_name_byte name ≡ true
 
-abbrev pub Reached : Axes → Place → List ℕ → Type 0
+abbrev pub Reached : Axes → Stage → List ℕ → Type 0
 Reached axes Start w = Leads axes w × (is_any axes ≡ true)
 Reached axes Slash w = InSlash axes w
 Reached axes (Hierarchy axis k) w = InHierarchy axes axis k w
@@ -100,27 +100,27 @@ comma_leads axes levels w r = record { ends = by }
     by [] some fit = absurd (omega (arith, some))
     by (p ∷ ps) some fit = subst IsFocusText (sym (append_assoc w (0x2c ∷ []) (parts_text (p ∷ ps)))) (r.ends [] (p ∷ ps) refl (omega arith) fit)
 
-abbrev ReachedScan : Scan → List ℕ → Type 0
-ReachedScan s w = Reached s.left s.place w
+abbrev ReachedState : FormState → List ℕ → Type 0
+ReachedState s w = Reached s.left s.stage w
 
-name_behind : (axes : Axes) (levels b : ℕ) (w : List ℕ) (t : Scan) → Closes axes levels w → behind_name axes levels b ≡ Some t → Reached t.left t.place (w ++ b ∷ [])
+name_behind : (axes : Axes) (levels b : ℕ) (w : List ℕ) (t : FormState) → Closes axes levels w → behind_name axes levels b ≡ Some t → Reached t.left t.stage (w ++ b ∷ [])
 name_behind axes levels b w t r h = by (b == 0x2f) (nat_lt 0 levels) (b == 0x2c) (is_any axes) refl refl refl refl h
   where
     by : (slash some comma any : Bool) → (b == 0x2f) ≡ slash → nat_lt 0 levels ≡ some → (b == 0x2c) ≡ comma → is_any axes ≡ any
-        → cond (slash && some) (Some (record { left = axes; place = Name (levels - 1) 0 })) (cond (comma && any) (Some (record { left = axes; place = Start })) None) ≡ Some t
-        → Reached t.left t.place (w ++ b ∷ [])
+        → cond (slash && some) (Some (record { left = axes; stage = Name (levels - 1) 0 })) (cond (comma && any) (Some (record { left = axes; stage = Start })) None) ≡ Some t
+        → Reached t.left t.stage (w ++ b ∷ [])
     by true true comma any p q u v g =
         let e : b ≡ 0x2f = eqb-true b 0x2f p in
-        let k : record { left = axes; place = Name (levels - 1) 0 } ≡ t = cc in
-        subst (λ (s : Scan). Reached s.left s.place (w ++ b ∷ [])) k
+        let k : record { left = axes; stage = Name (levels - 1) 0 } ≡ t = cc in
+        subst (λ (s : FormState). Reached s.left s.stage (w ++ b ∷ [])) k
         (subst (λ (c : ℕ). InName axes (levels - 1) 0 (w ++ c ∷ [])) (sym e) (slash_reached axes levels w r (ltb-true 0 levels q)))
     by true false true true p q u v g = absurd (omega (arith, eqb-true b 0x2f p, eqb-true b 0x2c u))
     by true false true false p q u v g = cc
     by true false false any p q u v g = cc
     by false some true true p q u v g =
         let e : b ≡ 0x2c = eqb-true b 0x2c u in
-        let k : record { left = axes; place = Start } ≡ t = cc in
-        subst (λ (s : Scan). Reached s.left s.place (w ++ b ∷ [])) k
+        let k : record { left = axes; stage = Start } ≡ t = cc in
+        subst (λ (s : FormState). Reached s.left s.stage (w ++ b ∷ [])) k
         (subst (λ (c : ℕ). Leads axes (w ++ c ∷ [])) (sym e) (comma_leads axes levels w r), v)
     by false some true false p q u v g = cc
     by false some false any p q u v g = cc
@@ -161,15 +161,15 @@ letter_is axes b axis h = by (b == 0x43) axes.code (b == 0x4d) axes.machine (b =
     by false code false machine true false p q u v x y g = cc
     by false code false machine false object p q u v x y g = cc
 
-mapped : (o : Option Axis) (f : Axis → Scan) (t : Scan) → option_map f o ≡ Some t → (axis : Axis) × (o ≡ Some axis) × (f axis ≡ t)
+mapped : (o : Option Axis) (f : Axis → FormState) (t : FormState) → option_map f o ≡ Some t → (axis : Axis) × (o ≡ Some axis) × (f axis ≡ t)
 mapped None f t h = cc
 mapped (Some axis) f t h = (axis, refl, cc)
 
-slash_behind : (axes : Axes) (b : ℕ) (w : List ℕ) (t : Scan) → InSlash axes w → after_at axes Slash b ≡ Some t → Reached t.left t.place (w ++ b ∷ [])
+slash_behind : (axes : Axes) (b : ℕ) (w : List ℕ) (t : FormState) → InSlash axes w → after_at axes Slash b ≡ Some t → Reached t.left t.stage (w ++ b ∷ [])
 slash_behind axes b w t r h =
-    let m = mapped (lettered axes b) (λ axis. record { left = axes; place = Hierarchy axis 2 }) t h in
+    let m = mapped (lettered axes b) (λ axis. record { left = axes; stage = Hierarchy axis 2 }) t h in
     let l = letter_is axes b m.0 m.1 in
-    subst (λ (s : Scan). Reached s.left s.place (w ++ b ∷ [])) m.2 (record {
+    subst (λ (s : FormState). Reached s.left s.stage (w ++ b ∷ [])) m.2 (record {
       front = r.front;
       is = ap (λ (v : List ℕ). v ++ b ∷ []) r.is ∙ append_assoc r.front (0x2f ∷ []) (b ∷ []) ∙ ap (λ (v : List ℕ). r.front ++ v) l.front;
       leads = r.leads;
@@ -197,16 +197,16 @@ take_byte xs k b h = take_more xs k 0 (slice_get_within xs k b h) ∙ ap (λ (c 
 further : (k n : ℕ) → k < n → (k + 1 == n) ≡ false → k + 1 < n
 further k n h q = let ne : k + 1 ≢ n = eqb-false (k + 1) n q in omega arith
 
-hierarchy_behind : (axes : Axes) (axis : Axis) (k b : ℕ) (w : List ℕ) (t : Scan) → InHierarchy axes axis k w → after_at axes (Hierarchy axis k) b ≡ Some t → Reached t.left t.place (w ++ b ∷ [])
+hierarchy_behind : (axes : Axes) (axis : Axis) (k b : ℕ) (w : List ℕ) (t : FormState) → InHierarchy axes axis k w → after_at axes (Hierarchy axis k) b ≡ Some t → Reached t.left t.stage (w ++ b ∷ [])
 hierarchy_behind axes axis k b w t r h =
     let p = if_none (is_byte (slice_get (axis_name axis) k) b) (in_hierarchy axes axis (k + 1)) t h in
     let e : w ++ b ∷ [] ≡ r.front ++ take (k + 1) (axis_name axis) =
     ap (λ (v : List ℕ). v ++ b ∷ []) r.is ∙ append_assoc r.front (take k (axis_name axis)) (b ∷ [])
     ∙ ap (λ (v : List ℕ). r.front ++ v) (sym (take_byte (axis_name axis) k b (byte_of (slice_get (axis_name axis) k) b p.0))) in
-    subst (λ (s : Scan). Reached s.left s.place (w ++ b ∷ [])) p.1 (by (k + 1 == length (axis_name axis)) refl e)
+    subst (λ (s : FormState). Reached s.left s.stage (w ++ b ∷ [])) p.1 (by (k + 1 == length (axis_name axis)) refl e)
   where
     by : (whole : Bool) → (k + 1 == length (axis_name axis)) ≡ whole → w ++ b ∷ [] ≡ r.front ++ take (k + 1) (axis_name axis)
-        → ReachedScan (cond whole (record { left = without axes axis; place = End (depth axis) }) (record { left = axes; place = Hierarchy axis (k + 1) })) (w ++ b ∷ [])
+        → ReachedState (cond whole (record { left = without axes axis; stage = End (depth axis) }) (record { left = axes; stage = Hierarchy axis (k + 1) })) (w ++ b ∷ [])
     by true q e =
         let n : k + 1 ≡ length (axis_name axis) = eqb-true (k + 1) (length (axis_name axis)) q in
         let f : take (k + 1) (axis_name axis) ≡ axis_name axis = take_all (k + 1) (axis_name axis) (omega arith) in
@@ -224,30 +224,30 @@ name_on axes levels len b w r good lt = record {
   bytes = all_more r.name b r.bytes good;
 }
 
-name_step : (axes : Axes) (levels len b : ℕ) (w : List ℕ) (t : Scan) → InName axes levels len w → after_at axes (Name levels len) b ≡ Some t → Reached t.left t.place (w ++ b ∷ [])
+name_step : (axes : Axes) (levels len b : ℕ) (w : List ℕ) (t : FormState) → InName axes levels len w → after_at axes (Name levels len) b ≡ Some t → Reached t.left t.stage (w ++ b ∷ [])
 name_step axes levels len b w t r h = by (is_name_byte b) (nat_lt len 200) (nat_lt 0 len) refl refl refl h
   where
-    behind : nat_lt 0 len ≡ true → behind_name axes levels b ≡ Some t → Reached t.left t.place (w ++ b ∷ [])
+    behind : nat_lt 0 len ≡ true → behind_name axes levels b ≡ Some t → Reached t.left t.stage (w ++ b ∷ [])
     behind u g = name_behind axes levels b w t (name_closes axes levels len w r (ltb-true 0 len u)) g
 
     by : (good short some : Bool) → is_name_byte b ≡ good → nat_lt len 200 ≡ short → nat_lt 0 len ≡ some
-        → cond (good && short) (Some (record { left = axes; place = Name levels (len + 1) })) (cond some (behind_name axes levels b) None) ≡ Some t → Reached t.left t.place (w ++ b ∷ [])
+        → cond (good && short) (Some (record { left = axes; stage = Name levels (len + 1) })) (cond some (behind_name axes levels b) None) ≡ Some t → Reached t.left t.stage (w ++ b ∷ [])
     by true true some p q u g =
-        let k : record { left = axes; place = Name levels (len + 1) } ≡ t = cc in
-        subst (λ (s : Scan). Reached s.left s.place (w ++ b ∷ [])) k (name_on axes levels len b w r p (ltb-true len 200 q))
+        let k : record { left = axes; stage = Name levels (len + 1) } ≡ t = cc in
+        subst (λ (s : FormState). Reached s.left s.stage (w ++ b ∷ [])) k (name_on axes levels len b w r p (ltb-true len 200 q))
     by true false true p q u g = behind u g
     by true false false p q u g = cc
     by false short true p q u g = behind u g
     by false short false p q u g = cc
 
-start_step : (axes : Axes) (b : ℕ) (w : List ℕ) (t : Scan) → Reached axes Start w → after_at axes Start b ≡ Some t → Reached t.left t.place (w ++ b ∷ [])
+start_step : (axes : Axes) (b : ℕ) (w : List ℕ) (t : FormState) → Reached axes Start w → after_at axes Start b ≡ Some t → Reached t.left t.stage (w ++ b ∷ [])
 start_step axes b w t r h =
-    let p = if_none (b == 0x2f) (record { left = axes; place = Slash }) t h in
-    subst (λ (s : Scan). Reached s.left s.place (w ++ b ∷ [])) p.1
+    let p = if_none (b == 0x2f) (record { left = axes; stage = Slash }) t h in
+    subst (λ (s : FormState). Reached s.left s.stage (w ++ b ∷ [])) p.1
     (record { front = w; is = ap (λ (c : ℕ). w ++ c ∷ []) (eqb-true b 0x2f p.0); leads = r.0; some = r.1 })
 
 -- one more byte
-step : (axes : Axes) (p : Place) (b : ℕ) (w : List ℕ) (t : Scan) → Reached axes p w → after_at axes p b ≡ Some t → Reached t.left t.place (w ++ b ∷ [])
+step : (axes : Axes) (p : Stage) (b : ℕ) (w : List ℕ) (t : FormState) → Reached axes p w → after_at axes p b ≡ Some t → Reached t.left t.stage (w ++ b ∷ [])
 step axes Start b w t r h = start_step axes b w t r h
 step axes Slash b w t r h = slash_behind axes b w t r h
 step axes (Hierarchy axis k) b w t r h = hierarchy_behind axes axis k b w t r h
@@ -255,17 +255,17 @@ step axes (End levels) b w t r h = name_behind axes levels b w t r h
 step axes (Name levels len) b w t r h = name_step axes levels len b w t r h
 
 -- some bytes
-along : (bs : List ℕ) (s t : Scan) (w : List ℕ) → ReachedScan s w → after_all (Some s) bs ≡ Some t → ReachedScan t (w ++ bs)
+along : (bs : List ℕ) (s t : FormState) (w : List ℕ) → ReachedState s w → after_all (Some s) bs ≡ Some t → ReachedState t (w ++ bs)
 along [] s t w r h =
     let e : s ≡ t = cc in
     let f : w ≡ w ++ [] = simp append-nil in
-    subst (λ (v : List ℕ). ReachedScan t v) f (subst (λ (u : Scan). ReachedScan u w) e r)
-along (b ∷ bs) s t w r h = by (after s b) refl (λ u g q. along bs u t (w ++ b ∷ []) (step s.left s.place b w u r q) g) h
+    subst (λ (v : List ℕ). ReachedState t v) f (subst (λ (u : FormState). ReachedState u w) e r)
+along (b ∷ bs) s t w r h = by (after s b) refl (λ u g q. along bs u t (w ++ b ∷ []) (step s.left s.stage b w u r q) g) h
   where
-    by : (o : Option Scan) → after s b ≡ o → ((u : Scan) → after_all (Some u) bs ≡ Some t → after s b ≡ Some u → ReachedScan t ((w ++ b ∷ []) ++ bs)) → after_all o bs ≡ Some t → ReachedScan t (w ++ b ∷ bs)
+    by : (o : Option FormState) → after s b ≡ o → ((u : FormState) → after_all (Some u) bs ≡ Some t → after s b ≡ Some u → ReachedState t ((w ++ b ∷ []) ++ bs)) → after_all o bs ≡ Some t → ReachedState t (w ++ b ∷ bs)
     by None q rest g = let n = after_none bs in cc
-    by (Some u) q rest g = subst (λ (v : List ℕ). ReachedScan t v) (append_assoc w (b ∷ []) bs) (rest u g q)
+    by (Some u) q rest g = subst (λ (v : List ℕ). ReachedState t v) (append_assoc w (b ∷ []) bs) (rest u g q)
 
--- a scan along a whole text
-pub reached : (text : List ℕ) (t : Scan) → after_all (scan every_axis Start) text ≡ Some t → ReachedScan t text
-reached text t h = along text (record { left = every_axis; place = Start }) t [] (first_reached, refl) h
+-- a state behind a whole text
+pub reached : (text : List ℕ) (t : FormState) → after_all (state every_axis Start) text ≡ Some t → ReachedState t text
+reached text t h = along text (record { left = every_axis; stage = Start }) t [] (first_reached, refl) h

@@ -1,21 +1,21 @@
--- Where a scan has come the text ends or goes on, so that what it went along is the beginning of a focus text.
+-- Behind each state a text ends or goes on, so that what stands before it is the beginning of a focus text.
 use Rattle.std.proofs.Common.{◌≡◌, ℕ, suc, nat_le, Bool, true, false, List, [], ◌∷◌, ◌++◌, take, drop, refl, sym, ap, ◌∙◌, subst, arith, append_assoc, append-nil, zero}
 use Rattle.std.proofs.lemmas.List.{take-append-drop}
 use borrow.Author.Tests.{ltb-true}
 use Rattle.pn_types.specs.declared.focus.Axis.{Axis}
 use Rattle.pn_types.specs.declared.focus.Axis.TheVariants.{Code, Machine, SyncObject}
 use Rattle.resource_tree.specs.FocusTexts.{Part, axis_name, depth, has, are_parts_of, IsFocusText, GoesOn, parts_text}
-use Rattle.resource_tree.specs.Scanning.{is_any, is_whole}
+use Rattle.resource_tree.specs.FormStates.{is_any, is_whole}
 use Rattle.resource_tree.specs.declared.hierarchy.Axes.{Axes}
-use Rattle.resource_tree.specs.declared.form.Place.{Place}
-use Rattle.resource_tree.specs.declared.form.Place.TheVariants.{Start, Slash, Hierarchy, End, Name}
+use Rattle.resource_tree.specs.declared.form.Stage.{Stage}
+use Rattle.resource_tree.specs.declared.form.Stage.TheVariants.{Start, Slash, Hierarchy, End, Name}
 use Rattle.resource_tree.proofs.Reached.{Leads, Closes, Reached, le_test, name_closes, name_on}
 
 closed : (axes : Axes) (levels : ℕ) (w : List ℕ) → Closes axes levels w → IsFocusText w
 closed axes levels w r = let e : w ++ [] ≡ w = simp append-nil in subst IsFocusText e (r.ends [] [] refl (omega arith) refl)
 
 -- where a text can end it is a focus text
-pub ended : (axes : Axes) (p : Place) (w : List ℕ) → Reached axes p w → is_whole p ≡ true → IsFocusText w
+pub ended : (axes : Axes) (p : Stage) (w : List ℕ) → Reached axes p w → is_whole p ≡ true → IsFocusText w
 ended axes Start w r h = cc
 ended axes Slash w r h = cc
 ended axes (Hierarchy axis k) w r h = cc
@@ -48,7 +48,7 @@ behind_slash Machine = refl
 behind_slash SyncObject = refl
 
 -- where a text has come it goes on
-pub goes_on : (axes : Axes) (p : Place) (w : List ℕ) → Reached axes p w → GoesOn w
+pub goes_on : (axes : Axes) (p : Stage) (w : List ℕ) → Reached axes p w → GoesOn w
 goes_on axes Start w r = let a = some_axis axes r.1 in (axis_name a.0, lead_axis axes a.0 w r.0 a.1)
 goes_on axes Slash w r =
     let a = some_axis axes r.some in

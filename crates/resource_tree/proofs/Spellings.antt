@@ -14,7 +14,7 @@ use Rattle.resource_tree.specs.declared.fault.FocusFault.{FocusFault}
 use Rattle.resource_tree.specs.declared.fault.FocusFault.TheVariants.{Form, NoSuchNode}
 use Rattle.resource_tree.proofs.PartNames.{slash, no_slash, good_bytes}
 use Rattle.resource_tree.proofs.Parts.{or_parts, part_comma, all_good, nodes_none, nodes_some}
-use Rattle.resource_tree.proofs.Scans.{both}
+use Rattle.resource_tree.proofs.FormStates.{both}
 
 -- a text ends, or goes on with a byte of a kind
 abbrev stops : (ℕ → Bool) → List ℕ → Bool

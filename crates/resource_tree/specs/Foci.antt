@@ -1,5 +1,5 @@
 -- The foci of a tree: their texts, what they select, and their children.
-use Rattle.std.specs.Prelude.{ℕ, ◌≡◌, ◌+◌, ◌<◌, List, [], ◌∷◌, ◌++◌, length, map, position, slice_get, codes, Option, Some, None, Result, Ok, Err}
+use Rattle.std.specs.Prelude.{ℕ, ◌≡◌, ◌+◌, ◌<◌, ◌&&◌, Bool, List, [], ◌∷◌, ◌++◌, length, map, position, slice_get, codes, Option, Some, None, Result, Ok, Err}
 use Rattle.std.specs.Fmt.{decimal}
 use Rattle.std.specs.List.{range_with_len}
 use Rattle.std.specs.Option.{option_map, option_and_then, option_map_or}
@@ -10,7 +10,7 @@ use Rattle.pn_types.specs.declared.focus.CodePart.{CodePart}
 use Rattle.pn_types.specs.declared.focus.CodePart.TheVariants.{All, Module, Procedure}
 use Rattle.pn_types.specs.declared.focus.Focus.{Focus}
 use Rattle.resource_tree.specs.FocusTexts.{Part, AreParts, parts_text, IsFaultAt}
-use Rattle.resource_tree.specs.Resources.{Resources, CodeNodes, ObjectNode}
+use Rattle.resource_tree.specs.Resources.{Resources, CodeNodes, ProcNode, ObjectNode}
 use Rattle.resource_tree.specs.declared.fault.FocusFault.{FocusFault}
 use Rattle.resource_tree.specs.declared.fault.FocusFault.TheVariants.{Form, NoSuchNode}
 
@@ -36,11 +36,15 @@ hart_name k = codes "hart" ++ decimal k
 abbrev pub hart_names : ℕ → List (List ℕ)
 hart_names harts = map hart_name (range_with_len 0 harts)
 
--- the node of the code that names select: a module by its name, the first procedure by its path
+-- the procedure has this name, and its module that one
+abbrev pub is_named : List ℕ → List ℕ → ProcNode → Bool
+is_named «module» name p = bytes_eq «module» p.«module» && bytes_eq name p.name
+
+-- the node of the code that names select: a module, or the first procedure of a module and a name
 abbrev pub code_named : CodeNodes → List (List ℕ) → Option CodePart
 code_named c [] = Some All
 code_named c (name ∷ []) = option_map Module (position (λ m. bytes_eq name m.name) c.modules)
-code_named c (name ∷ proc ∷ []) = option_map Procedure (position (bytes_eq (name ++ (codes "/" ++ proc))) c.paths)
+code_named c (name ∷ proc ∷ []) = option_map Procedure (position (is_named name proc) c.procs)
 code_named c (name ∷ proc ∷ more ∷ names) = None
 
 -- the node of the machine that names select
@@ -107,7 +111,7 @@ OneReading = (t : Resources) (text : List ℕ) (r s : Result Focus FocusFault) �
 abbrev pub IsCodeOf : CodeNodes → CodePart → Type 0
 IsCodeOf c All = Unit {0}
 IsCodeOf c (Module m) = m < length c.modules
-IsCodeOf c (Procedure p) = p < length c.paths
+IsCodeOf c (Procedure p) = p < length c.procs
 
 abbrev pub IsBelow : ℕ → Option ℕ → Type 0
 IsBelow n None = Unit {0}
@@ -118,6 +122,10 @@ pub record IsFocusOf (t : Resources) (f : Focus) : Type 0 where
   pub hart : IsBelow t.harts f.hart
   pub object : IsBelow (length t.objects) f.object
 
+-- the path of a procedure: its module, a `/` and its name
+abbrev pub path_of : ProcNode → List ℕ
+path_of p = p.«module» ++ (codes "/" ++ p.name)
+
 -- a name or a path behind a `/`
 abbrev pub named_text : Option (List ℕ) → List ℕ
 named_text None = []
@@ -127,7 +135,7 @@ named_text (Some name) = codes "/" ++ name
 abbrev pub code_text : CodeNodes → CodePart → List ℕ
 code_text c All = []
 code_text c (Module m) = named_text (option_map (λ n. n.name) (slice_get c.modules m))
-code_text c (Procedure p) = named_text (slice_get c.paths p)
+code_text c (Procedure p) = named_text (option_map path_of (slice_get c.procs p))
 
 abbrev pub hart_text : Option ℕ → List ℕ
 hart_text hart = named_text (option_map hart_name hart)
@@ -146,7 +154,7 @@ procs_of_module c m = option_map_or (λ n. n.procs) (slice_get c.modules m) []
 
 -- the numbers of the procedures that a node of the code selects
 abbrev pub procs_of : CodeNodes → CodePart → List ℕ
-procs_of c All = range_with_len 0 (length c.paths)
+procs_of c All = range_with_len 0 (length c.procs)
 procs_of c (Module m) = procs_of_module c m
 procs_of c (Procedure p) = p ∷ []
 

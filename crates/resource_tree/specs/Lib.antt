@@ -1,6 +1,6 @@
-pub mod CodeMaps
+pub mod Columns
 pub mod Names
 pub mod Resources
 pub mod Foci
 pub mod FocusTexts
-pub mod Scanning
+pub mod FormStates

@@ -1,8 +1,8 @@
 -- When names tell the nodes of a tree apart.
-use Rattle.std.specs.Prelude.{ℕ, ◌≡◌, true, List, ◌++◌, map, slice_get, codes, Some}
+use Rattle.std.specs.Prelude.{ℕ, ◌≡◌, true, List, map, slice_get, Some}
 use Rattle.pn_types.specs.GoodNames.{is_good_name}
 use Rattle.pn_types.specs.declared.code.Proc.{Proc}
-use Rattle.resource_tree.specs.Resources.{Resources}
+use Rattle.resource_tree.specs.Resources.{ProcNode, Resources}
 
 -- no name stands at two places
 abbrev pub AreApart : List (List ℕ) → Type 0
@@ -13,19 +13,11 @@ pub record AreGoodNames (names : List (List ℕ)) : Type 0 where
   pub good : (k : ℕ) (name : List ℕ) → slice_get names k ≡ Some name → is_good_name name ≡ true
   pub apart : AreApart names
 
--- a module's and a procedure's name, both good, with a `/` between them
-pub record IsGoodPath (path : List ℕ) : Type 0 where
-  pub «module» : List ℕ
-  pub name : List ℕ
-  pub good_module : is_good_name «module» ≡ true
-  pub good_name : is_good_name name ≡ true
-  pub joined : path ≡ «module» ++ (codes "/" ++ name)
-
--- all names of a tree are good, and no two modules, procedures or objects have one name or path
+-- all names of a tree are good, no two modules or objects have one name, and no two procedures one module and name
 pub record IsNamed (t : Resources) : Type 0 where
   pub modules : AreGoodNames (map (λ m. m.name) t.code.modules)
-  pub paths : (k : ℕ) (path : List ℕ) → slice_get t.code.paths k ≡ Some path → IsGoodPath path
-  pub paths_apart : AreApart t.code.paths
+  pub procs : (k : ℕ) (p : ProcNode) → slice_get t.code.procs k ≡ Some p → (is_good_name p.«module» ≡ true) × (is_good_name p.name ≡ true)
+  pub procs_apart : (j k : ℕ) (p q : ProcNode) → slice_get t.code.procs j ≡ Some p → slice_get t.code.procs k ≡ Some q → p.«module» ≡ q.«module» → p.name ≡ q.name → j ≡ k
   pub objects : AreGoodNames (map (λ o. o.name) t.objects)
 
 -- procedures with good names in modules with good names, no two of which have one module and name

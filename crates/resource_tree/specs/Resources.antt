@@ -1,7 +1,7 @@
 -- The resources of a program.
-use Rattle.std.specs.Prelude.{ℕ, ◌≡◌, ◌<◌, ◌≤◌, ◌+◌, ◌&&◌, nat_eq, if◌then◌else◌, Bool, List, [], ◌∷◌, ◌++◌, length, map, codes, slice_get, Some}
-use Rattle.std.specs.List.{list_any, starts_with}
-use Rattle.std.specs.Str.{bytes_eq}
+use Rattle.std.specs.Prelude.{ℕ, ◌≡◌, ◌<◌, ◌≤◌, ◌&&◌, nat_eq, Bool, List, length, map, slice_get, Some}
+use Rattle.std.specs.List.{filter, list_any, starts_with}
+use Rattle.first_places.specs.Groups.{first_mentions, firsts, places_of}
 use Rattle.pn_types.specs.declared.limits.TheConstants.{MAX_HARTS}
 use Rattle.pn_types.specs.GoodNames.{is_good_name}
 use Rattle.pn_types.specs.declared.code.Proc.{Proc}
@@ -17,10 +17,15 @@ pub record ObjectNode : Type 0 where
   pub name : List ℕ
   pub at : ℕ
 
--- the modules, and the path of each procedure
+-- a procedure: its module's name and its own
+pub record ProcNode : Type 0 where
+  pub «module» : List ℕ
+  pub name : List ℕ
+
+-- the modules, and the procedures
 pub record CodeNodes : Type 0 where
   pub modules : List ModuleNode
-  pub paths : List (List ℕ)
+  pub procs : List ProcNode
 
 -- the resources of the three hierarchies: the code, the objects, and how many harts there are
 pub record Resources : Type 0 where
@@ -28,40 +33,25 @@ pub record Resources : Type 0 where
   pub objects : List ObjectNode
   pub harts : ℕ
 
--- a module of this name with these procedures
-abbrev pub module_node : List ℕ → List ℕ → ModuleNode
-module_node name procs = record { name = name; procs = procs }
+-- a module of this name, where these are the modules of the procedures: its procedures are those whose module it is
+abbrev pub module_of : List (List ℕ) → List ℕ → ModuleNode
+module_of modules name = record { name = name; procs = places_of name modules }
 
--- procedure number n put last in its module, which comes last where it is new
-abbrev pub add_to : List ℕ → ℕ → List ModuleNode → List ModuleNode
-add_to name n [] = module_node name (n ∷ []) ∷ []
-add_to name n (m ∷ ms) = if bytes_eq name m.name then module_node m.name (m.procs ++ n ∷ []) ∷ ms else m ∷ add_to name n ms
+-- the modules in the order of their first mentions, where these are the modules of the procedures
+abbrev pub modules_of : List (List ℕ) → List ModuleNode
+modules_of modules = map (module_of modules) (first_mentions modules)
 
--- the numbers that stand under a name
-abbrev pub numbers_named : List ℕ → List ModuleNode → List ℕ
-numbers_named name [] = []
-numbers_named name (n ∷ ns) = if bytes_eq name n.name then n.procs else numbers_named name ns
-
--- these modules with the procedures put into them in order, of which the first has number n
-abbrev pub modules_from : List ModuleNode → ℕ → List Proc → List ModuleNode
-modules_from ms n [] = ms
-modules_from ms n (p ∷ ps) = modules_from (add_to p.«module» n ms) (n + 1) ps
-
--- the modules in the order of their first procedures, each with its procedures in their order
-abbrev pub modules_of : List Proc → List ModuleNode
-modules_of procs = modules_from [] 0 procs
+-- a procedure by name
+abbrev pub proc_of : Proc → ProcNode
+proc_of p = record { «module» = p.«module»; name = p.name }
 
 -- each procedure of each module is one of the first n
 abbrev pub HasMembersBelow : ℕ → List ModuleNode → Type 0
 HasMembersBelow n ms = (k i p : ℕ) (m : ModuleNode) → slice_get ms k ≡ Some m → slice_get m.procs i ≡ Some p → p < n
 
--- the path of a procedure: its module, a `/` and its name
-abbrev pub path_of : Proc → List ℕ
-path_of p = p.«module» ++ (codes "/" ++ p.name)
-
 -- the modules and procedures
 abbrev pub code_of : List Proc → CodeNodes
-code_of procs = record { modules = modules_of procs; paths = map path_of procs }
+code_of procs = record { modules = modules_of (map (λ p. p.«module») procs); procs = map proc_of procs }
 
 -- the name begins with one of the prefixes
 abbrev pub has_prefix : List (List ℕ) → List ℕ → Bool
@@ -71,22 +61,13 @@ has_prefix prefixes name = list_any (λ prefix. starts_with nat_eq name prefix) 
 abbrev pub is_listed : List (List ℕ) → Symbol → Bool
 is_listed prefixes s = is_good_name s.name && has_prefix prefixes s.name
 
--- an object with this name and address
-abbrev pub object_node : List ℕ → ℕ → ObjectNode
-object_node name at = record { name = name; at = at }
+-- the object of a symbol
+abbrev pub object_of : Symbol → ObjectNode
+object_of s = record { name = s.name; at = s.at }
 
--- objects, and behind them that of a symbol, unless one of them has its name
-abbrev pub with_object : List ObjectNode → Symbol → List ObjectNode
-with_object os s = if list_any (λ o. bytes_eq s.name o.name) os then os else os ++ object_node s.name s.at ∷ []
-
--- these objects, and behind them those of the symbols that are listed
-abbrev pub objects_from : List (List ℕ) → List ObjectNode → List Symbol → List ObjectNode
-objects_from prefixes os [] = os
-objects_from prefixes os (s ∷ ss) = objects_from prefixes (if is_listed prefixes s then with_object os s else os) ss
-
--- the objects of object symbols: those with a good name and one of the prefixes, in their order, the first of each name
+-- the objects: the symbols that are listed, in their order, the first of each name
 abbrev pub objects_of : List (List ℕ) → List Symbol → List ObjectNode
-objects_of prefixes symbols = objects_from prefixes [] symbols
+objects_of prefixes symbols = map object_of (firsts (λ s. s.name) (filter (is_listed prefixes) symbols))
 
 -- the tree of procedures, object symbols and harts, where these are the prefixes of the objects' names
 abbrev pub tree_of : List Proc → List Symbol → ℕ → List (List ℕ) → Resources
@@ -103,5 +84,5 @@ HasFewMembers n ms = (k : ℕ) (m : ModuleNode) → slice_get ms k ≡ Some m �
 -- no more harts than a machine can have, and each module's procedures are the tree's, of which it has no more than there are
 pub record IsBounded (t : Resources) : Type 0 where
   pub harts : t.harts ≤ MAX_HARTS
-  pub members : HasMembersBelow (length t.code.paths) t.code.modules
-  pub few : HasFewMembers (length t.code.paths) t.code.modules
+  pub members : HasMembersBelow (length t.code.procs) t.code.modules
+  pub few : HasFewMembers (length t.code.procs) t.code.modules

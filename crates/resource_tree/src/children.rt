@@ -20,8 +20,8 @@ fn code_child(code: &CodeTree, node: CodePart, number: u32) -> Option<CodePart>
             Some(CodePart::Module(number))
         }
         CodePart::Module(module_no) => {
-            let proc_no = code.member(module_no as usize, number as usize)?;
-            Some(CodePart::Procedure(proc_no))
+            let proc_no = code.members(module_no).get(number as usize)?;
+            Some(CodePart::Procedure(*proc_no))
         }
         CodePart::Procedure(_) => None,
     }
@@ -60,12 +60,12 @@ fn object_child(objects: u32, node: Option<u32>, number: u32) -> Option<Option<u
 
 /// How many children a node of the code has.
 fn code_count(code: &CodeTree, node: CodePart) -> u32
-    requires { HasFewMembers (length code.now.paths) code.now.modules }
+    requires { HasFewMembers (length code.now.procs) code.now.modules }
     ensures { result ≡ length (code_children code.now node) }
 {
     match node {
         CodePart::All => code.len(),
-        CodePart::Module(module_no) => code.member_count(module_no as usize),
+        CodePart::Module(module_no) => code.member_count(module_no),
         CodePart::Procedure(_) => 0,
     }
 }

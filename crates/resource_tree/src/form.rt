@@ -3,7 +3,7 @@
 ghost use Rattle.std.specs.Prelude.{◌≡◌, ◌<◌, IsTrue, MatchOption, length, slice_get};
 ghost use Rattle.pn_types.specs.GoodNames.{is_name_byte};
 ghost use Rattle.resource_tree.specs.FocusTexts.{IsFocusText, IsFaultAt};
-ghost use Rattle.resource_tree.specs.Scanning.{after, behind_name, in_hierarchy, is_byte, is_whole};
+ghost use Rattle.resource_tree.specs.FormStates.{after, behind_name, in_hierarchy, is_byte, is_whole};
 
 use crate::hierarchy::{Axes, axis_name, depth};
 use pn_types::{Axis, is_good_name};
@@ -20,7 +20,7 @@ const NAME_LIMIT: usize = 200;
 
 /// What stands before a byte of a focus text.
 #[derive(Clone, Copy, Drop)]
-enum Place {
+enum Stage {
     /// Nothing of the part.
     Start,
     /// The `/` of a hierarchy.
@@ -33,41 +33,41 @@ enum Place {
     Name(u32, usize),
 }
 
-/// A scan along a focus text.
+/// The state behind the first bytes of a focus text.
 #[derive(Clone, Copy, Drop)]
-struct Scan {
+struct FormState {
     /// The hierarchies that can still come.
     left: Axes,
-    place: Place,
+    stage: Stage,
 }
 
-/// The scan behind the first bytes of a hierarchy, `len` of them.
-fn in_hierarchy(left: Axes, axis: Axis, len: usize) -> Scan
+/// The state behind the first bytes of a hierarchy, `len` of them.
+fn in_hierarchy(left: Axes, axis: Axis, len: usize) -> FormState
     ensures { result ≡ in_hierarchy left axis len }
 {
     if len == axis_name(axis).len() {
-        return Scan {
+        return FormState {
             left: left.without(axis),
-            place: Place::End(depth(axis)),
+            stage: Stage::End(depth(axis)),
         };
     }
-    Scan {
+    FormState {
         left,
-        place: Place::Hierarchy(axis, len),
+        stage: Stage::Hierarchy(axis, len),
     }
 }
 
-/// The scan behind a byte that follows a whole hierarchy or name, below which `levels` names can stand.
-fn behind_name(left: Axes, levels: u32, byte: u8) -> Option<Scan>
+/// The state behind a byte that follows a whole hierarchy or name, below which `levels` names can stand.
+fn behind_name(left: Axes, levels: u32, byte: u8) -> Option<FormState>
     ensures { result ≡ behind_name left levels byte }
 {
     if byte == b'/' && 0 < levels {
-        let place = Place::Name(levels - 1, 0);
-        return Some(Scan { left, place });
+        let stage = Stage::Name(levels - 1, 0);
+        return Some(FormState { left, stage });
     }
     if byte == b',' && left.is_any() {
-        let place = Place::Start;
-        return Some(Scan { left, place });
+        let stage = Stage::Start;
+        return Some(FormState { left, stage });
     }
     None
 }
@@ -83,36 +83,36 @@ fn is_byte(text: &[u8], place: usize, byte: u8) -> bool
     }
 }
 
-impl Scan {
-    /// The scan behind one more byte. None where no focus text goes on with it.
-    fn after(self, byte: u8) -> Option<Scan>
+impl FormState {
+    /// The state behind one more byte. None where no focus text goes on with it.
+    fn after(self, byte: u8) -> Option<FormState>
         ensures { result ≡ after self byte }
     {
         let left = self.left;
-        match self.place {
-            Place::Start => {
-                let place = Place::Slash;
+        match self.stage {
+            Stage::Start => {
+                let stage = Stage::Slash;
                 if byte == b'/' {
-                    Some(Scan { left, place })
+                    Some(FormState { left, stage })
                 } else {
                     None
                 }
             }
-            Place::Slash => {
-                let place = Place::Hierarchy(left.lettered(byte)?, 2);
-                Some(Scan { left, place })
+            Stage::Slash => {
+                let stage = Stage::Hierarchy(left.lettered(byte)?, 2);
+                Some(FormState { left, stage })
             }
-            Place::Hierarchy(axis, len) => {
+            Stage::Hierarchy(axis, len) => {
                 if !is_byte(axis_name(axis), len, byte) {
                     return None;
                 }
                 Some(in_hierarchy(left, axis, len + 1))
             }
-            Place::End(levels) => behind_name(left, levels, byte),
-            Place::Name(levels, len) => {
+            Stage::End(levels) => behind_name(left, levels, byte),
+            Stage::Name(levels, len) => {
                 if is_name_byte(byte) && len < NAME_LIMIT {
-                    let place = Place::Name(levels, len + 1);
-                    return Some(Scan { left, place });
+                    let stage = Stage::Name(levels, len + 1);
+                    return Some(FormState { left, stage });
                 }
                 if 0 < len {
                     behind_name(left, levels, byte)
@@ -125,12 +125,12 @@ impl Scan {
 
     /// Whether a focus text can end here.
     fn is_whole(self) -> bool
-        ensures { result ≡ is_whole self.place }
+        ensures { result ≡ is_whole self.stage }
     {
-        match self.place {
-            Place::Start | Place::Slash | Place::Hierarchy(_, _) => false,
-            Place::End(_) => true,
-            Place::Name(_, len) => 0 < len,
+        match self.stage {
+            Stage::Start | Stage::Slash | Stage::Hierarchy(_, _) => false,
+            Stage::End(_) => true,
+            Stage::Name(_, len) => 0 < len,
         }
     }
 }
@@ -140,17 +140,17 @@ impl Scan {
 pub(crate) fn form_fault(text: &[u8]) -> Option<usize>
     ensures { MatchOption result (IsFocusText text.now) (IsFaultAt text.now) }
 {
-    let mut scan = Scan {
+    let mut state = FormState {
         left: Axes::every(),
-        place: Place::Start,
+        stage: Stage::Start,
     };
     for (number, byte) in text.iter().enumerate() {
-        match scan.after(*byte) {
-            Some(next) => scan = next,
+        match state.after(*byte) {
+            Some(next) => state = next,
             None => return Some(number),
         }
     }
-    if scan.is_whole() {
+    if state.is_whole() {
         None
     } else {
         Some(text.len())

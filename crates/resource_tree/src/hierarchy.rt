@@ -2,7 +2,7 @@
 
 ghost use Rattle.std.specs.Prelude.{◌≡◌};
 ghost use Rattle.resource_tree.specs.FocusTexts.{axis_name, depth, has, without, every_axis};
-ghost use Rattle.resource_tree.specs.Scanning.{is_any, lettered};
+ghost use Rattle.resource_tree.specs.FormStates.{is_any, lettered};
 
 use pn_types::Axis;
 

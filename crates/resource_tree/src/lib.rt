@@ -8,12 +8,10 @@ mod focus;
 mod form;
 mod harts;
 mod hierarchy;
-mod members;
 mod objects;
 mod text;
 mod tree;
 
 pub use fault::FocusFault;
 pub use focus::one_reading;
-pub use members::add_to;
 pub use tree::Tree;

@@ -30,7 +30,7 @@ fn add_code(text: &mut Vec<u8>, code: &CodeTree, node: CodePart) -> Result<(), N
 {
     match node {
         CodePart::All => Ok(()),
-        CodePart::Module(number) => add_named(text, code.module_name(number as usize)),
+        CodePart::Module(number) => add_named(text, code.module_name(number)),
         CodePart::Procedure(number) => add_named(text, code.path(number as usize)),
     }
 }

@@ -58,12 +58,12 @@ impl Tree {
     }
 
     /// An equal tree.
-    pub fn copy(&self) -> Result<Tree, NoMemory>
+    pub fn copy(&self, alloc: Global) -> Result<Tree, NoMemory>
         ensures { IfOk result (λ copy. copy ≡ self.now) }
     {
         Ok(Tree {
-            code: self.code.copy()?,
-            objects: self.objects.copy()?,
+            code: self.code.copy(alloc)?,
+            objects: self.objects.copy(alloc)?,
             harts: self.harts,
         })
     }
@@ -85,7 +85,7 @@ impl Tree {
         match focus.code {
             CodePart::All => self.code.all(alloc),
             CodePart::Module(module_no) => {
-                let members = self.code.members(module_no as usize);
+                let members = self.code.members(module_no);
                 Ok(Vec::from_slice(alloc, members)?)
             }
             CodePart::Procedure(proc_no) => Ok(vec![in alloc; proc_no]?),

@@ -11,7 +11,7 @@ abbrev pub no_inputs : Inputs
 no_inputs = record {
   image = record { segments = []; text_at = 0; text_len = 0; entry = 0; symbols = [] };
   checked = record { metrics = []; constraints = []; hypotheses = []; search = None; phases = []; wishes = [] };
-  tree = record { code = record { modules = []; paths = [] }; objects = []; harts = 0 };
+  tree = record { code = record { modules = []; procs = [] }; objects = []; harts = 0 };
   procs = [];
   points = [];
   settings = record { harts = 0; budget = 0; bins = 0; width = 0; start = Cold; instruments = 0 };

@@ -1,15 +1,16 @@
 //! Hypotheses that are linked to their refinements.
 
 ghost use Rattle.std.specs.Prelude.{◌≡◌, ◌<◌, ◌^◌, ℕ, List, IfOk, OnOk, length, map, slice_get};
-ghost use Rattle.resource_tree.specs.Resources.{module_node, numbers_named};
-ghost use Rattle.w3_axes.specs.Linked.{AreUnder, with_number};
+ghost use Rattle.first_places.specs.Numbers.{numbers_under, with_number};
+ghost use Rattle.w3_axes.specs.Linked.{AreUnder};
 ghost use Rattle.w3_axes.specs.Refining.{axes_named, children, is_under, refinements, roots, threshold_of};
 
 use crate::axis_set::AxisSet;
+use first_places::add_number;
 use indexmap::IndexMap;
 use mdl_ast::Hypothesis;
 use pn_types::{Focus, NoMemory};
-use resource_tree::{Tree, add_to};
+use resource_tree::Tree;
 use std::alloc::Global;
 use std::marker::Model;
 
@@ -26,16 +27,15 @@ pub struct Hypotheses {
 }
 
 impl Model for Hypotheses {
-    ghost use Rattle.std.specs.Prelude.{List, map};
+    ghost use Rattle.std.specs.Prelude.{List};
     ghost use Rattle.mdl_ast.specs.declared.items.Hypothesis.{Hypothesis as OneHypothesis};
-    ghost use Rattle.resource_tree.specs.Resources.{module_node};
     ghost use Rattle.w3_axes.specs.Linked.{IsLinked};
 
     ghost Value = { List OneHypothesis };
 
     ghost view = { λ h. h.list.items };
 
-    ghost invariant = { λ h. IsLinked h.list.items h.roots.items (map (λ e. module_node e.0.items e.1.items) h.under.entries) h.axes.items };
+    ghost invariant = { λ h. IsLinked (λ key. key.items) (λ own. own.items) h.list.items h.roots.items h.under.entries h.axes.items };
 }
 
 /// Copies of hypotheses.
@@ -71,10 +71,10 @@ fn add_under(
     hypothesis: &Hypothesis,
     number: u32,
 ) -> Result<(), NoMemory>
-    ensures { OnOk result ((name : List ℕ) → numbers_named name (map (λ e. module_node e.0.items e.1.items) under.new.entries) ≡ with_number (is_under name hypothesis.now) number (numbers_named name (map (λ e. module_node e.0.items e.1.items) under.old.entries))) }
+    ensures { OnOk result ((name : List ℕ) → numbers_under (λ key. key.items) (λ own. own.items) name under.new.entries ≡ with_number (is_under name hypothesis.now) number (numbers_under (λ key. key.items) (λ own. own.items) name under.old.entries)) }
 {
     if let Some(parent) = &hypothesis.parent {
-        add_to(alloc, under, parent.bytes(), number)?;
+        add_number(alloc, under, parent.bytes(), number)?;
     }
     Ok(())
 }
@@ -82,7 +82,7 @@ fn add_under(
 /// The numbers of the hypotheses with a parent, by its name.
 fn under(alloc: Global, hypotheses: &[Hypothesis]) -> Result<IndexMap<Vec<u8>, Vec<u32>>, NoMemory>
     requires { length hypotheses.now < 2 ^ 32 }
-    ensures { IfOk result (λ under. AreUnder hypotheses.now (map (λ e. module_node e.0.items e.1.items) under.entries)) }
+    ensures { IfOk result (λ under. AreUnder (λ key. key.items) (λ own. own.items) hypotheses.now under.entries) }
 {
     let mut under = IndexMap::new(alloc);
     for (number, hypothesis) in hypotheses.iter().enumerate() {

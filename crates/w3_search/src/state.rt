@@ -133,7 +133,7 @@ impl State {
             hypotheses: Hypotheses::new(alloc, hypotheses)?,
             decl: *decl,
             phases: copies(alloc, phases)?,
-            tree: tree.copy()?,
+            tree: tree.copy(alloc)?,
             nodes: Nodes::new(alloc)?,
             present: 0,
             drops: Vec::with_capacity(alloc, MAX_NODES)?,

@@ -1,6 +1,6 @@
 use Rattle.std.proofs.Common.{◌≡◌, ℕ, ◌+◌, List, ◌∷◌, ◌++◌, [], sym, ap, ◌∙◌, arith}
 use Rattle.std.specs.List.{range_with_len}
-use Rattle.resource_tree.proofs.Ranges.{range_more}
+use Rattle.first_places.proofs.AllPlaces.{range_more}
 use Rattle.resource_tree.proofs.code.numbers_below.Goals as goal
 
 pub loop-number-preserved : goal.loop-number-preserved

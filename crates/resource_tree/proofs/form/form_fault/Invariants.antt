@@ -1,9 +1,9 @@
 use Rattle.std.proofs.Common.{◌≡◌, take, Some}
 use Rattle.resource_tree.specs.FocusTexts.{every_axis}
-use Rattle.resource_tree.specs.Scanning.{after_all}
-use Rattle.resource_tree.specs.declared.form.Place.TheVariants.{Start}
-use Rattle.resource_tree.proofs.Scans.{scan}
+use Rattle.resource_tree.specs.FormStates.{after_all}
+use Rattle.resource_tree.specs.declared.form.Stage.TheVariants.{Start}
+use Rattle.resource_tree.proofs.FormStates.{state}
 use Rattle.resource_tree.proofs.form.form_fault.Given as goal
 
 abbrev pub invariant-loop-number : goal.invariant-loop-number
-invariant-loop-number l = after_all (scan every_axis Start) (take l.number l.text) ≡ Some l.scan
+invariant-loop-number l = after_all (state every_axis Start) (take l.number l.text) ≡ Some l.state

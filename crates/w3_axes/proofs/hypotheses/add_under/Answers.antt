@@ -1,15 +1,12 @@
-use Rattle.std.proofs.Common.{ℕ, List, Option, false, bytes_eq, map, sym, ap, ◌∙◌}
+use Rattle.std.proofs.Common.{ℕ, List, Option, false, bytes_eq, sym, ap, ◌∙◌}
 use Rattle.std.specs.Option.{option_map_or}
-use Rattle.resource_tree.specs.Resources.{module_node, add_to, numbers_named}
-use Rattle.resource_tree.proofs.NameNumbers.{named_add}
-use Rattle.w3_axes.specs.Linked.{with_number}
+use Rattle.first_places.specs.Numbers.{numbers_under, with_number}
 use Rattle.w3_axes.proofs.hypotheses.add_under.Goals as goal
 
-pub returns-in_ok-add_to : goal.returns-in_ok-add_to
-returns-in_ok-add_to c name =
-    let old = map (λ e. module_node e.0.items e.1.items) c.args.under.now.entries in
+pub returns-in_ok-add_number : goal.returns-in_ok-add_number
+returns-in_ok-add_number c name =
+    let old = numbers_under (λ key. key.items) (λ own. own.items) name c.args.under.now.entries in
     let n = c.args.number in
-    ap (numbers_named name) c.in_ok-add_to.ensures.added
-    ∙ ap (λ (own : List ℕ). numbers_named name (add_to own n old)) c.bytes.ensures
-    ∙ named_add name c.in-Some.parent n old
-    ∙ ap (λ (o : Option (List ℕ)). with_number (option_map_or (bytes_eq name) o false) n (numbers_named name old)) (sym c.in-Some.is)
+    c.in_ok-add_number.ensures.added.numbers name
+    ∙ ap (λ (own : List ℕ). with_number (bytes_eq name own) n old) c.bytes.ensures
+    ∙ ap (λ (o : Option (List ℕ)). with_number (option_map_or (bytes_eq name) o false) n old) (sym c.in-Some.is)

@@ -2,7 +2,7 @@ use Rattle.std.proofs.Common.{◌≡◌, ◌+◌, ◌<◌, false, Bor, ℕ, leng
 use Rattle.std.specs.List.{filter}
 use Rattle.std.proofs.lemmas.List.{get_or-map, length-map}
 use Rattle.pn_types.specs.declared.code.Point.{Point}
-use Rattle.mdl_plan.specs.Tables.{has_numbers}
+use Rattle.mdl_plan.specs.ChosenPieces.{has_numbers}
 use Rattle.mdl_plan.proofs.Counts.{count_more, count_same}
 use Rattle.mdl_plan.proofs.planner.Planner.count.Goals as goal
 use Rattle.mdl_plan.proofs.planner.Planner.count.Goals.{then-has_numbers, else-has_numbers}
@@ -12,7 +12,7 @@ none = record { ref_ptr = (0, 0); now = record { at = 0; proc_no = 0; entry = fa
 
 pub overflow_add-count : goal.overflow_add-count
 overflow_add-count c =
-    let f = has_numbers c.args.self.now.table in
+    let f = has_numbers c.args.self.now.chosen in
     let refs = c.args.points.now in
     let points = map (λ (r : Bor Point). r.now) refs in
     let i = c.loop-point.point-index in
@@ -23,7 +23,7 @@ overflow_add-count c =
 
 pub loop-point-preserved : goal.loop-point-preserved
 loop-point-preserved c =
-    let f = has_numbers c.args.self.now.table in
+    let f = has_numbers c.args.self.now.chosen in
     let refs = c.args.points.now in
     let points = map (λ (r : Bor Point). r.now) refs in
     let i = c.loop-point.point-index in

@@ -2,7 +2,7 @@ use Rattle.std.proofs.Common.{Bor, ◌<◌, ◌≡◌, ◌++◌, false, List, le
 use Rattle.std.proofs.lemmas.List.{get_or-map, length-map}
 use Rattle.pn_types.specs.declared.code.Point.{Point}
 use Rattle.pn_types.specs.declared.plan.Open.{Open}
-use Rattle.mdl_plan.specs.Tables.{open_with}
+use Rattle.mdl_plan.specs.ChosenPieces.{open_with}
 use Rattle.mdl_plan.proofs.OpenList.{opens_more}
 use Rattle.mdl_plan.proofs.planner.Planner.opens.Goals as goal
 
@@ -20,5 +20,5 @@ loop-point-preserved c =
     let lt : i < length points = omega (arith, c.loop-point-test.true, length-map refs (λ (r : Bor Point). r.now)) in
     let is : get_or points i p ≡ p = get_or-map (λ (r : Bor Point). r.now) refs i none p c.loop-point-test.true in
     c.in_ok-add_open.ensures
-    ∙ ap (λ (l : List Open). l ++ open_with s.terms s.pieces.items s.table procs p) c.loop-point.invariant
-    ∙ opens_more s.terms s.pieces.items s.table procs points i p lt is
+    ∙ ap (λ (l : List Open). l ++ open_with s.terms s.pieces.items s.chosen procs p) c.loop-point.invariant
+    ∙ opens_more s.terms s.pieces.items s.chosen procs points i p lt is

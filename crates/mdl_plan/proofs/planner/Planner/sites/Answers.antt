@@ -4,7 +4,7 @@ use Rattle.std.proofs.lemmas.List.{get_or-map, length-map}
 use Rattle.pn_types.specs.declared.code.Point.{Point}
 use Rattle.pn_types.specs.declared.plan.Site.{Site}
 use Rattle.mdl_plan.specs.Plans.{is_crowded}
-use Rattle.mdl_plan.specs.Tables.{Refuses, sites_with}
+use Rattle.mdl_plan.specs.ChosenPieces.{Refuses, sites_with}
 use Rattle.mdl_plan.proofs.SiteList.{sites_more, sites_around, few_both, refuses_all}
 use Rattle.mdl_plan.proofs.planner.Planner.sites.Goals as goal
 
@@ -20,13 +20,13 @@ returns-in_err-add_site-clause-refused c =
     let p = (get_or refs i none).now in
     let lt : i < length points = omega (arith, c.loop-point-test.true, length-map refs (λ (r : Bor Point). r.now)) in
     let is : get_or points i p ≡ p = get_or-map (λ (r : Bor Point). r.now) refs i none p c.loop-point-test.true in
-    let before = sites_with s.terms s.pieces.items s.table (take i points) in
-    let here = sites_with s.terms s.pieces.items s.table (p ∷ []) in
-    let behind = sites_with s.terms s.pieces.items s.table (drop (i + 1) points) in
+    let before = sites_with s.terms s.pieces.items s.chosen (take i points) in
+    let here = sites_with s.terms s.pieces.items s.chosen (p ∷ []) in
+    let behind = sites_with s.terms s.pieces.items s.chosen (drop (i + 1) points) in
     let fault = c.in_err-add_site.field-0.0 in
     let e : c.from_residual.result ≡ Err fault = search rules in
-    subst (λ r. IfErr r (λ f. Refuses f (sites_with s.terms s.pieces.items s.table points))) (sym e)
-    (subst (Refuses fault) (sites_around s.terms s.pieces.items s.table points i p lt is)
+    subst (λ r. IfErr r (λ f. Refuses f (sites_with s.terms s.pieces.items s.chosen points))) (sym e)
+    (subst (Refuses fault) (sites_around s.terms s.pieces.items s.chosen points i p lt is)
     (refuses_all fault before here behind c.loop-point.invariant.few c.in_err-add_site.ensures.refused))
 
 pub loop-point-preserved : goal.loop-point-preserved
@@ -38,9 +38,9 @@ loop-point-preserved c =
     let p = (get_or refs i none).now in
     let lt : i < length points = omega (arith, c.loop-point-test.true, length-map refs (λ (r : Bor Point). r.now)) in
     let is : get_or points i p ≡ p = get_or-map (λ (r : Bor Point). r.now) refs i none p c.loop-point-test.true in
-    let before = sites_with s.terms s.pieces.items s.table (take i points) in
-    let here = sites_with s.terms s.pieces.items s.table (p ∷ []) in
-    let more = sites_more s.terms s.pieces.items s.table points i p lt is in
+    let before = sites_with s.terms s.pieces.items s.chosen (take i points) in
+    let here = sites_with s.terms s.pieces.items s.chosen (p ∷ []) in
+    let more = sites_more s.terms s.pieces.items s.chosen points i p lt is in
     record {
       so_far = c.in_ok-add_site.ensures.added ∙ ap (λ (l : List Site). l ++ here) c.loop-point.invariant.so_far ∙ more;
       few = ap (find is_crowded) (sym more) ∙ few_both before here c.loop-point.invariant.few c.in_ok-add_site.ensures.few;

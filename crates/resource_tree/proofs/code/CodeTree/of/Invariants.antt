@@ -1,12 +1,10 @@
-use Rattle.std.proofs.Common.{◌≡◌, ◌≤◌, length, map, take, drop}
-use Rattle.resource_tree.specs.CodeMaps.{Numbers}
-use Rattle.resource_tree.specs.Resources.{module_node, modules_from, modules_of, path_of}
+use Rattle.std.proofs.Common.{◌≡◌, map, take}
+use Rattle.resource_tree.specs.Foci.{path_of}
+use Rattle.resource_tree.specs.Resources.{proc_of}
 use Rattle.resource_tree.proofs.code.CodeTree.of.Given as goal
 
-abbrev pub invariant-loop-number : goal.invariant-loop-number
-invariant-loop-number l = record {
-  modules : modules_from (map (λ e. module_node e.0.items e.1.items) l.modules.entries) l.number (drop l.number l.procs) ≡ modules_of l.procs;
-  few : length (map (λ e. module_node e.0.items e.1.items) l.modules.entries) ≤ l.number;
-  paths : map (λ p. p.items) l.paths.items ≡ map path_of (take l.number l.procs);
-  numbered : Numbers (map (λ p. p.items) l.paths.items) (map (λ e. (e.0.items, e.1)) l.numbers.entries);
+abbrev pub invariant-loop-proc : goal.invariant-loop-proc
+invariant-loop-proc l = record {
+  modules : l.modules ≡ map (λ p. p.«module») (take l.proc-index l.procs);
+  paths : l.paths ≡ map (λ p. path_of (proc_of p)) (take l.proc-index l.procs);
 }

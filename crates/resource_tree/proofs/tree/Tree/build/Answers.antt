@@ -2,17 +2,16 @@ use Rattle.std.proofs.Common.{◌≡◌, ◌<◌, sym, subst, length, List, ℕ}
 use Rattle.std.specs.List.{AllByRecursion}
 use Rattle.resource_tree.specs.Names.{IsNamed}
 use Rattle.resource_tree.specs.Resources.{CodeNodes, ObjectNode, HasMembersBelow, HasFewMembers, code_of, objects_of}
-use Rattle.resource_tree.proofs.InTree.{members_of}
-use Rattle.resource_tree.proofs.Counts.{few_of}
-use Rattle.resource_tree.proofs.LowObjects.{objects_low}
+use Rattle.resource_tree.proofs.InTree.{code_few, code_members}
+use Rattle.resource_tree.proofs.Listed.{objects_low}
 use Rattle.resource_tree.proofs.Named.{tree_named}
 use Rattle.resource_tree.proofs.tree.Tree.build.Goals as goal
 
 pub invariant_of-result : goal.invariant_of-result
 invariant_of-result c = record {
   harts = c.requires.harts;
-  members = subst (λ (code : CodeNodes). HasMembersBelow (length code.paths) code.modules) (sym c.in_ok-of.ensures) (members_of c.args.procs.now);
-  few = subst (λ (code : CodeNodes). HasFewMembers (length code.paths) code.modules) (sym c.in_ok-of.ensures) (few_of c.args.procs.now);
+  members = subst (λ (code : CodeNodes). HasMembersBelow (length code.procs) code.modules) (sym c.in_ok-of.ensures) (code_members c.args.procs.now);
+  few = subst (λ (code : CodeNodes). HasFewMembers (length code.procs) code.modules) (sym c.in_ok-of.ensures) (code_few c.args.procs.now);
 }
 
 same : (code built : CodeNodes) (objects listed : List ObjectNode) (harts : ℕ) → code ≡ built → objects ≡ listed → IsNamed (record { code = built; objects = listed; harts = harts }) → IsNamed (record { code = code; objects = objects; harts = harts })

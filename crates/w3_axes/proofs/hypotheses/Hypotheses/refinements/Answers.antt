@@ -1,7 +1,6 @@
 use Rattle.std.proofs.Common.{[], List, ap, ◌∙◌}
 use Rattle.std.specs.Option.{option_map_or}
 use Rattle.mdl_ast.specs.declared.items.Hypothesis.{Hypothesis}
-use Rattle.resource_tree.proofs.NameNumbers.{found}
 use Rattle.w3_axes.specs.Refining.{refinements}
 use Rattle.w3_axes.proofs.hypotheses.Hypotheses.refinements.Goals as goal
 
@@ -9,13 +8,11 @@ pub returns-in-Some : goal.returns-in-Some
 returns-in-Some c =
     c.as_slice.ensures.value
     ∙ ap (λ o. option_map_or (λ v. v.items) o []) c.in-Some.ensures.value
-    ∙ found (λ key. key.items) (λ v. v.items) c.args.name.now c.self.inside.under.entries
     ∙ c.self.invariant.below c.args.name.now
     ∙ ap (λ (hs : List Hypothesis). refinements hs c.args.name.now) c.self.view_is
 
 pub returns-in-None : goal.returns-in-None
 returns-in-None c =
     ap (λ o. option_map_or (λ v. v.items) o []) c.in-None.ensures.value
-    ∙ found (λ key. key.items) (λ v. v.items) c.args.name.now c.self.inside.under.entries
     ∙ c.self.invariant.below c.args.name.now
     ∙ ap (λ (hs : List Hypothesis). refinements hs c.args.name.now) c.self.view_is

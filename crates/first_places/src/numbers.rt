@@ -1,0 +1,27 @@
+//! Numbers by name.
+
+ghost use Rattle.std.specs.Prelude.{OnOk, OnErr};
+ghost use Rattle.first_places.specs.Numbers.{IsAdded, IsKept};
+
+use indexmap::IndexMap;
+use pn_types::NoMemory;
+use std::alloc::Global;
+
+/// Puts a number last among those of a name, which comes last where it is new. Where memory is short all stays as it was.
+pub fn add_number(
+    alloc: Global,
+    numbers: &mut IndexMap<Vec<u8>, Vec<u32>>,
+    name: &[u8],
+    number: u32,
+) -> Result<(), NoMemory>
+    ensures added { OnOk result (IsAdded (λ key. key.items) (λ own. own.items) name.now number numbers.old.entries numbers.new.entries) }
+    ensures err { OnErr result (IsKept (λ key. key.items) (λ own. own.items) numbers.old.entries numbers.new.entries) }
+{
+    if let Some(own) = numbers.get_mut(name) {
+        own.push(number)?;
+        return Ok(());
+    }
+    let own = vec![in alloc; number]?;
+    numbers.insert(Vec::from_slice(alloc, name)?, own)?;
+    Ok(())
+}
