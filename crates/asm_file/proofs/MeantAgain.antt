@@ -19,7 +19,7 @@ record Named (ss : List Symbol) : Type 0 where
   ordered : with_program_last ss ≡ ss
 
 put_named : (ss : List Symbol) → ArePut ss → Named ss
-put_named ss put = subst Named put.put (record { named = last_named put.marked (are_named put.marked put.whole); ordered = last_again put.marked })
+put_named ss put = subst Named put.put (record { named = last_named put.declared (are_named put.declared put.whole); ordered = last_again put.declared })
 
 -- the image of a text whose entry is a word of its text is one that an ELF file can have
 pub assembled_accepted : (text : List ℕ) (image : Image) → assembled text ≡ Ok image → length text < 2 ^ 31 → IsEntered image → IsAccepted image

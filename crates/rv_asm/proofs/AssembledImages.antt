@@ -18,47 +18,47 @@ use Rattle.pn_types.specs.declared.image.Symbol.{Symbol}
 use Rattle.pn_text.specs.Lines.{lines}
 use Rattle.rv_asm.specs.declared.fault.AsmFault.{AsmFault}
 use Rattle.rv_asm.specs.declared.fault.AsmFault.TheVariants.{NoText, TextTooLong, DataTooLong}
-use Rattle.rv_asm.specs.FirstPass.{Mark, Draft, blank_draft, passed, text_start, data_start}
+use Rattle.rv_asm.specs.FirstPass.{Declaration, Draft, blank_draft, passed, len_all, text_start, data_start}
 use Rattle.rv_asm.specs.SecondPass.{code}
 use Rattle.rv_asm.specs.Assembly.{assembled, closed, closed_by, sized, image_of, segment, data_bytes, symbol_of, symbols_from, symbols_of, belonging, belongs, is_own, ends_after, name_room, names_room}
-use Rattle.rv_asm.proofs.Lengths.{mark_room, marks_room, Passes, lines_len, passed_leads, lines_shorter, blank_tight, ok_step, ok_is, passes_by}
-use Rattle.rv_asm.proofs.CleanCode.{IsClean, all_append, clean_none, clean_whole, code_clean}
-use Rattle.rv_asm.proofs.CleanNames.{IsClean as IsCleanName, AreNamed, passed_named}
+use Rattle.rv_asm.proofs.Lengths.{AreNamed, declaration_room, declarations_room, Passes, data_short, lines_len, passed_leads, lines_shorter, blank_tight, ok_step, ok_is, passes_by}
+use Rattle.rv_asm.proofs.CleanCode.{IsClean, clean_none, clean_whole, code_clean}
+use Rattle.rv_asm.proofs.FormNames.{IsClean as IsCleanName, all_append}
 use Rattle.rv_asm.proofs.SoundDrafts.{IsSound, AreOfModules, passed_sound, blank_sound, entry_whole}
 
 -- ---- names
 
-symbol_room : (m : Mark) (ends : List ℕ) → name_room (symbol_of m ends) ≡ mark_room m
+symbol_room : (m : Declaration) (ends : List ℕ) → name_room (symbol_of m ends) ≡ declaration_room m
 unfolding symbol_of
 symbol_room m ends = refl
 
-symbols_room : (ends : List ℕ) (ms : List Mark) → sum_by name_room (symbols_from ends ms) ≡ sum_by mark_room ms
+symbols_room : (ends : List ℕ) (ms : List Declaration) → sum_by name_room (symbols_from ends ms) ≡ sum_by declaration_room ms
 symbols_room ends [] = refl
 symbols_room ends (m ∷ ms) =
     let a = symbol_room m ends in
     let b = symbols_room (ends_after m.kind ends) ms in
     let c = sum_by-cons name_room (symbol_of m ends) (symbols_from (ends_after m.kind ends) ms) in
-    let d = sum_by-cons mark_room m ms in
+    let d = sum_by-cons declaration_room m ms in
     omega arith
 
-draft_room : (d : Draft) → sum_by name_room (symbols_of d) ≡ marks_room d
+draft_room : (d : Draft) → sum_by name_room (symbols_of d) ≡ declarations_room d
 draft_room d =
-    let symbols = symbols_from d.ends d.marks in
+    let symbols = symbols_from d.ends d.declarations in
     let a = sum_by-append name_room (belonging false symbols) (belonging true symbols) in
     let b = sum_by-filter_both (λ (s : Symbol). is_own s.module) (λ (s : Symbol). not (is_own s.module)) (λ s. refl) name_room symbols in
-    let c = symbols_room d.ends d.marks in
+    let c = symbols_room d.ends d.declarations in
     omega arith
 
-symbols_many : (ends : List ℕ) (ms : List Mark) → length (symbols_from ends ms) ≡ length ms
+symbols_many : (ends : List ℕ) (ms : List Declaration) → length (symbols_from ends ms) ≡ length ms
 symbols_many ends [] = refl
 symbols_many ends (m ∷ ms) = ap suc (symbols_many (ends_after m.kind ends) ms)
 
-draft_many : (d : Draft) → length (symbols_of d) ≡ length d.marks
+draft_many : (d : Draft) → length (symbols_of d) ≡ length d.declarations
 draft_many d =
-    let symbols = symbols_from d.ends d.marks in
+    let symbols = symbols_from d.ends d.declarations in
     let a = length-append (belonging false symbols) (belonging true symbols) in
     let b = length-filter_both (λ (s : Symbol). is_own s.module) (λ (s : Symbol). not (is_own s.module)) (λ s. refl) symbols in
-    let c = symbols_many d.ends d.marks in
+    let c = symbols_many d.ends d.declarations in
     omega arith
 
 -- ---- modules
@@ -74,18 +74,18 @@ belonging_good : (own : Bool) (ss : List Symbol) → AllByRecursion HasGoodModul
 belonging_good own [] all = tt
 belonging_good own (s ∷ ss) all = let rest = belonging_good own ss all.1 in either (belongs own s.«module») (s ∷ belonging own ss) (belonging own ss) (all.0, rest) rest
 
-symbol_good : (m : Mark) (ends : List ℕ) → is_good_name m.«module» ≡ true → HasGoodModule (symbol_of m ends)
+symbol_good : (m : Declaration) (ends : List ℕ) → is_good_name m.«module» ≡ true → HasGoodModule (symbol_of m ends)
 unfolding symbol_of
 symbol_good m ends h = h
 
-symbols_good : (ends : List ℕ) (ms : List Mark) → AreOfModules ms → AllByRecursion HasGoodModule (symbols_from ends ms)
+symbols_good : (ends : List ℕ) (ms : List Declaration) → AreOfModules ms → AllByRecursion HasGoodModule (symbols_from ends ms)
 symbols_good ends [] all = tt
 symbols_good ends (m ∷ ms) all = (symbol_good m ends all.0, symbols_good (ends_after m.kind ends) ms all.1)
 
-modules_of : (d : Draft) → AreOfModules d.marks → AllByRecursion HasGoodModule (symbols_of d)
+modules_of : (d : Draft) → AreOfModules d.declarations → AllByRecursion HasGoodModule (symbols_of d)
 modules_of d all =
-    let good = symbols_good d.ends d.marks all in
-    let symbols = symbols_from d.ends d.marks in
+    let good = symbols_good d.ends d.declarations all in
+    let symbols = symbols_from d.ends d.declarations in
     all_append HasGoodModule (belonging false symbols) (belonging true symbols) (belonging_good false symbols good) (belonging_good true symbols good)
 
 -- a symbol with such a module, whose name has no zero byte and whose numbers have 64 bits
@@ -95,19 +95,19 @@ pub record IsWhole (s : Symbol) : Type 0 where
   pub at : s.at < 2 ^ 64
   pub size : s.size < 2 ^ 64
 
-symbol_whole : (m : Mark) (ends : List ℕ) → IsCleanName m.name → is_good_name m.«module» ≡ true → IsWhole (symbol_of m ends)
+symbol_whole : (m : Declaration) (ends : List ℕ) → IsCleanName m.name → is_good_name m.«module» ≡ true → IsWhole (symbol_of m ends)
 unfolding symbol_of
 symbol_whole m ends name source = record { name = name; source = source; at = omega arith; size = omega arith }
 
-symbols_whole : (ends : List ℕ) (ms : List Mark) → AreNamed ms → AreOfModules ms → AllByRecursion IsWhole (symbols_from ends ms)
+symbols_whole : (ends : List ℕ) (ms : List Declaration) → AreNamed ms → AreOfModules ms → AllByRecursion IsWhole (symbols_from ends ms)
 symbols_whole ends [] names modules = tt
 symbols_whole ends (m ∷ ms) names modules = (symbol_whole m ends names.0 modules.0, symbols_whole (ends_after m.kind ends) ms names.1 modules.1)
 
--- symbols in the order of their marks, of which those of the program come last
+-- symbols in the order of their declarations, of which those of the program come last
 pub record ArePut (symbols : List Symbol) : Type 0 where
-  pub marked : List Symbol
-  pub whole : AllByRecursion IsWhole marked
-  pub put : belonging false marked ++ belonging true marked ≡ symbols
+  pub declared : List Symbol
+  pub whole : AllByRecursion IsWhole declared
+  pub put : belonging false declared ++ belonging true declared ≡ symbols
 
 -- ---- segments
 
@@ -163,18 +163,18 @@ record Sized (d : Draft) (text : List ℕ) (image : Image) : Type 0 where
   is : image_of d text ≡ image
   some : 0 < length text
   text_len : length text ≤ 524288
-  data_len : d.data_end - data_start ≤ 16777216
+  data_len : len_all d.data_part ≤ 16777216
 
 sized_of : (d : Draft) (text : List ℕ) (image : Image) → sized d text ≡ Ok image → Sized d text image
 unfolding sized
 sized_of d text image e =
-    let third : Result Image AsmFault = cond (nat_lt 16777216 (d.data_end - data_start)) (Err (DataTooLong (d.data_end - data_start))) (Ok (image_of d text)) in
+    let third : Result Image AsmFault = cond (nat_lt 16777216 (len_all d.data_part)) (Err (DataTooLong (len_all d.data_part))) (Ok (image_of d text)) in
     let second : Result Image AsmFault = cond (nat_lt 524288 (length text)) (Err (TextTooLong (length text))) third in
     let a = passes_by (length text == 0) NoText second image e in
     let b = passes_by (nat_lt 524288 (length text)) (TextTooLong (length text)) third image a.1 in
-    let c = passes_by (nat_lt 16777216 (d.data_end - data_start)) (DataTooLong (d.data_end - data_start)) (Ok (image_of d text)) image b.1 in
+    let c = passes_by (nat_lt 16777216 (len_all d.data_part)) (DataTooLong (len_all d.data_part)) (Ok (image_of d text)) image b.1 in
     let text_fits = ltb-false 524288 (length text) b.0 in
-    let data_fits = ltb-false 16777216 (d.data_end - data_start) c.0 in
+    let data_fits = ltb-false 16777216 (len_all d.data_part) c.0 in
     let some : 0 < length text = grind (arith, common_steps, a.0) in
     record { is = ok_is (image_of d text) image c.1; some = some; text_len = omega arith; data_len = omega arith }
 
@@ -190,7 +190,7 @@ pub record IsAssembled (len : ℕ) (image : Image) : Type 0 where
   pub modules : All HasGoodModule image.symbols
   pub symbols : ArePut image.symbols
 
-image_is : (len : ℕ) (d : Draft) (text : List ℕ) → IsSound d → IsClean text → 0 < length text → length text ≤ 524288 → length (data_bytes d.data_part) ≤ 16777216 → length d.marks ≤ len + 1 → marks_room d ≤ 127 * (len + 1) → AreNamed d.marks → IsAssembled len (image_of d text)
+image_is : (len : ℕ) (d : Draft) (text : List ℕ) → IsSound d → IsClean text → 0 < length text → length text ≤ 524288 → length (data_bytes d.data_part) ≤ 16777216 → length d.declarations ≤ len + 1 → declarations_room d ≤ 127 * (len + 1) → AreNamed d.declarations → IsAssembled len (image_of d text)
 unfolding image_of
 image_is len d text sound clean some short small few room named =
     let ss = segments_by (length (data_bytes d.data_part) == 0) text (data_bytes d.data_part) refl some short small in
@@ -215,8 +215,8 @@ image_is len d text sound clean some short small few room named =
       };
       unscratched = ap (λ b. scratch_in (words_of b) text_start) ss.bytes ∙ clean_none text text_start clean;
       names = omega arith;
-      modules = All-from_recursion HasGoodModule (symbols_of d) (modules_of d sound.marks);
-      symbols = record { marked = symbols_from d.ends d.marks; whole = symbols_whole d.ends d.marks named sound.marks; put = refl };
+      modules = All-from_recursion HasGoodModule (symbols_of d) (modules_of d sound.declarations);
+      symbols = record { declared = symbols_from d.ends d.declarations; whole = symbols_whole d.ends d.declarations named sound.declarations; put = refl };
     }
 
 -- What a text stands for is an image, whose text doesn't name x31.
@@ -230,12 +230,11 @@ assembled_is text image e =
     let same : first.0 ≡ whole.0 = closed_is first.0 whole.0 first.0.opened whole.1.0 in
     let passes = subst (λ (d : Draft). Passes (lines_len (lines text)) blank_draft d) same (passed_leads 1 blank_draft first.0 (lines text) first.1.0 blank_tight) in
     let sound = subst IsSound same (passed_sound 1 blank_draft first.0 (lines text) first.1.0 blank_sound) in
-    let named = subst (λ (d : Draft). AreNamed d.marks) same (passed_named 1 blank_draft first.0 (lines text) first.1.0 tt) in
     let clean = code_clean whole.0.labels whole.0.text_part bytes.0 sound.code bytes.1.0 in
     let room = passes.room in
     let count = passes.count in
-    let inside = passes.tight.inside in
+    let inside = data_short whole.0.data_part in
     let data_fits = found.data_len in
     let len = lines_shorter text in
     subst (IsAssembled (length text)) found.is
-    (image_is (length text) whole.0 bytes.0 sound clean found.some found.text_len (omega arith) (omega arith) (omega arith) named)
+    (image_is (length text) whole.0 bytes.0 sound clean found.some found.text_len (omega arith) (omega arith) (omega arith) passes.tight.named)

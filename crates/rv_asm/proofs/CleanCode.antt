@@ -24,6 +24,7 @@ use Rattle.rv_asm.specs.FirstPass.{Placed}
 use Rattle.rv_asm.specs.SecondPass.{word_bytes, instr_bytes, with_number, upper, lower, pair_bytes, number_bytes, reaches, distance, jump_bytes, address_bytes, code_by, code_of, code}
 use Rattle.rv_asm.proofs.Scratch.{same_scratch, short_scratch, upper_scratch, lower_scratch}
 use Rattle.rv_asm.proofs.WordBounds.{below}
+use Rattle.rv_asm.proofs.FormNames.{all_append}
 use Rattle.rv_asm.proofs.Lengths.{ok_step, ok_is}
 
 -- a word of 32 bits that doesn't name x31
@@ -70,10 +71,6 @@ pub clean_whole : (bytes : List ℕ) → IsClean bytes → length bytes % 4 ≡ 
 clean_whole bytes is = let len = ap (λ bs. length bs) is.are in omega (arith, len, length-words is.words)
 
 -- ---- one behind the other
-
-pub all_append : {X : Type 0} (P : X → Type 0) (xs ys : List X) → AllByRecursion P xs → AllByRecursion P ys → AllByRecursion P (xs ++ ys)
-all_append P [] ys p q = q
-all_append P (x ∷ xs) ys p q = (p.0, all_append P xs ys p.1 q)
 
 clean_append : (x y : List ℕ) → IsClean x → IsClean y → IsClean (x ++ y)
 clean_append x y p q = record {
@@ -143,16 +140,7 @@ statement_clean labels p (the.LoadNumber rd n) inside bytes h none e =
     subst IsClean (ok_is (number_bytes rd n) bytes e)
     (either (is_short n) (instr_bytes (OpImm Addi rd 0 (wrapped n))) (pair_bytes rd (wrapped n)) (clean_instr (OpImm Addi rd 0 (wrapped n)) (short_scratch rd (wrapped n) none)) (clean_pair rd (wrapped n) none))
 statement_clean labels p (the.LoadAddress rd) inside bytes h none e = address_clean p.line rd (named p.text labels) bytes none e
-statement_clean labels p the.Empty inside bytes h none e = nothing bytes e
-statement_clean labels p the.Text inside bytes h none e = nothing bytes e
-statement_clean labels p the.Data inside bytes h none e = nothing bytes e
-statement_clean labels p the.Procedure inside bytes h none e = nothing bytes e
-statement_clean labels p the.End inside bytes h none e = nothing bytes e
-statement_clean labels p (the.Object n) inside bytes h none e = nothing bytes e
-statement_clean labels p the.Module inside bytes h none e = nothing bytes e
-statement_clean labels p (the.Zeros n) inside bytes h none e = nothing bytes e
-statement_clean labels p (the.Align n) inside bytes h none e = nothing bytes e
-statement_clean labels p the.Ascii inside bytes h none e = nothing bytes e
+statement_clean labels p other inside bytes h none e = nothing bytes e
 
 placed_clean : (labels : List (List ℕ × ℕ)) (p : Placed) (bytes : List ℕ) → IsOfText p.statement → code_of labels p ≡ Ok bytes → IsClean bytes
 unfolding code_of

@@ -1,48 +1,55 @@
--- A map from names to addresses as the list of its entries.
-use Rattle.std.proofs.Common.{◌≡◌, ℕ, cond, Bool, true, false, Option, Some, None, List, [], ◌∷◌, ◌++◌, map, refl, ap, ◌∙◌, is_some, bytes_eq}
-use Rattle.std.specs.Map.{lookup}
-use Rattle.indexmap.specs.IndexMap.{insert_entry}
+-- Names beside their addresses.
+use Rattle.std.proofs.Common.{◌≡◌, ℕ, suc, ◌+◌, ◌||◌, cond, not, Bool, true, false, Option, Some, None, List, [], ◌∷◌, ◌++◌, length, refl, ap, sym, ◌∙◌, is_some, bytes_eq, arith}
+use Rattle.std.specs.List.{zip, list_any, slice_get, position_or_len}
+use Rattle.std.specs.Option.{option_and_then}
+use Rattle.std.specs.Prelude.{nat_lt}
+use Rattle.std.proofs.lemmas.Option.{slice_get_past}
+use Rattle.std.proofs.lemmas.Bool.{ltb-false}
+use Rattle.first_places.specs.Places.{first_place}
+use Rattle.first_places.proofs.Among.{stands_somewhere}
 use Rattle.rv_asm.specs.Registers.{named}
 
-module _ {K : Type 0} (now : K → List ℕ) where
-  -- the entries, with names as lists
-  abbrev pub seen : List (K × ℕ) → List (List ℕ × ℕ)
-  seen entries = map (λ entry. (now entry.0, entry.1)) entries
+address_at : (name : List ℕ) (names : List (List ℕ)) (addresses : List ℕ) → length names ≡ length addresses → slice_get addresses (position_or_len (bytes_eq name) names) ≡ named name (zip names addresses)
+address_at name [] [] same = refl
+address_at name [] (a ∷ others) same = absurd (omega arith)
+address_at name (n ∷ ns) [] same = absurd (omega arith)
+address_at name (n ∷ ns) (a ∷ others) same = by (bytes_eq name n) (address_at name ns others (omega arith))
+  where
+    place : ℕ
+    place = position_or_len (bytes_eq name) ns
 
-  abbrev pub same_name : K → K → Bool
-  same_name a b = bytes_eq (now a) (now b)
+    by : (b : Bool) → slice_get others place ≡ named name (zip ns others) → slice_get (a ∷ others) (cond (not b) (1 + place) 0) ≡ cond b (Some a) (named name (zip ns others))
+    by true rest = refl
+    by false rest = let next : 1 + place ≡ suc place = omega arith in rw next rest
 
-  -- what the map finds is what the list has
-  pub lookup_named : (name : List ℕ) (entries : List (K × ℕ)) → lookup (λ key. bytes_eq name (now key)) entries ≡ named name (seen entries)
-  lookup_named name [] = refl
-  lookup_named name (e ∷ es) = ap (λ (r : Option ℕ). cond (bytes_eq name (now e.0)) (Some e.1) r) (lookup_named name es)
+-- the address of a name stands where the name stands first
+pub address_of : (name : List ℕ) (names : List (List ℕ)) (addresses : List ℕ) → length names ≡ length addresses → option_and_then (slice_get addresses) (first_place name names) ≡ named name (zip names addresses)
+address_of name names addresses same = by (nat_lt place (length names)) refl ∙ address_at name names addresses same
+  where
+    place : ℕ
+    place = position_or_len (bytes_eq name) names
 
-  -- a name that is there
-  pub there : (name : List ℕ) (entries : List (K × ℕ)) (names : List (List ℕ × ℕ)) → seen entries ≡ names → true ≡ is_some (lookup (λ key. bytes_eq name (now key)) entries) → named name names ≡ None → ⊥
-  there name entries names e h none =
-      let f : true ≡ is_some (named name names) = h ∙ ap is_some (lookup_named name entries ∙ ap (named name) e) in
-      let g : is_some (named name names) ≡ false = ap is_some none in
-      cc
+    by : (b : Bool) → nat_lt place (length names) ≡ b → option_and_then (slice_get addresses) (cond b (Some place) None) ≡ slice_get addresses place
+    by true h = refl
+    by false h = let past = ltb-false place (length names) h in sym (slice_get_past addresses place (omega arith))
 
-  none_of : (o : Option ℕ) → false ≡ is_some o → o ≡ None
-  none_of None h = refl
-  none_of (Some x) h = cc
+-- a name is defined where it stands among the names
+pub defined_before : (name : List ℕ) (names : List (List ℕ)) (addresses : List ℕ) → length names ≡ length addresses → is_some (first_place name names) ≡ is_some (named name (zip names addresses))
+defined_before name names addresses same = stands_somewhere name names ∙ by names addresses same
+  where
+    by : (names : List (List ℕ)) (addresses : List ℕ) → length names ≡ length addresses → list_any (bytes_eq name) names ≡ is_some (named name (zip names addresses))
+    by [] [] same = refl
+    by [] (a ∷ others) same = absurd (omega arith)
+    by (n ∷ ns) [] same = absurd (omega arith)
+    by (n ∷ ns) (a ∷ others) same = here (bytes_eq name n) _ _ (by ns others (omega arith))
+      where
+        here : (b : Bool) (any : Bool) (o : Option ℕ) → any ≡ is_some o → (b || any) ≡ is_some (cond b (Some a) o)
+        here true any o h = refl
+        here false any o h = h
 
-  -- a name that isn't there
-  pub absent : (name : List ℕ) (entries : List (K × ℕ)) (names : List (List ℕ × ℕ)) → seen entries ≡ names → false ≡ is_some (lookup (λ key. bytes_eq name (now key)) entries) → named name names ≡ None
-  absent name entries names e h = none_of (named name names) (h ∙ ap is_some (lookup_named name entries ∙ ap (named name) e))
-
-  seen_by : (hit : Bool) (entry : K × ℕ) (es : List (K × ℕ)) (key : K) (at : ℕ) (more : List (K × ℕ)) → seen more ≡ seen es ++ ((now key, at) ∷ []) → cond hit (Some entry.1) (named (now key) (seen es)) ≡ None → seen (cond hit ((entry.0, at) ∷ es) (entry ∷ more)) ≡ seen (entry ∷ es) ++ ((now key, at) ∷ [])
-  seen_by true entry es key at more e h = cc
-  seen_by false entry es key at more e h = ap (λ (ns : List (List ℕ × ℕ)). (now entry.0, entry.1) ∷ ns) e
-
-  rest_none : (hit : Bool) (x : ℕ) (o : Option ℕ) → cond hit (Some x) o ≡ None → o ≡ None
-  rest_none true x o h = cc
-  rest_none false x o h = h
-
-  -- a new name goes last
-  pub inserted : (key : K) (at : ℕ) (entries : List (K × ℕ)) → named (now key) (seen entries) ≡ None → seen (insert_entry same_name entries key at) ≡ seen entries ++ ((now key, at) ∷ [])
-  inserted key at [] h = refl
-  inserted key at (e ∷ es) h =
-      seen_by (same_name key e.0) e es key at (insert_entry same_name es key at)
-      (inserted key at es (rest_none (same_name key e.0) e.1 (named (now key) (seen es)) h)) h
+-- a name with its address goes last
+pub defined_last : (names : List (List ℕ)) (addresses : List ℕ) (name : List ℕ) (at : ℕ) → length names ≡ length addresses → zip (names ++ name ∷ []) (addresses ++ at ∷ []) ≡ zip names addresses ++ (name, at) ∷ []
+defined_last [] [] name at same = refl
+defined_last [] (a ∷ others) name at same = absurd (omega arith)
+defined_last (n ∷ ns) [] name at same = absurd (omega arith)
+defined_last (n ∷ ns) (a ∷ others) name at same = ap (λ entries. (n, a) ∷ entries) (defined_last ns others name at (omega arith))

@@ -1,6 +1,8 @@
 pub mod Sizes
 pub mod LineLabels
 pub mod Entries
+pub mod Forms
+pub mod Cuts
 pub mod Strings
 pub mod Codes
 pub mod FormatFields
@@ -9,7 +11,7 @@ pub mod WordBounds
 pub mod CleanCode
 pub mod SoundDrafts
 mod ShorterOperands
+mod FormNames
 mod Shorter
 mod Lengths
-mod CleanNames
 pub mod AssembledImages

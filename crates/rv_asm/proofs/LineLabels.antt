@@ -1,18 +1,10 @@
 -- The labels of a line, one by one.
-use Rattle.std.proofs.Common.{◌≡◌, ℕ, zero, suc, ◌<◌, ◌≤◌, ◌==◌, cond, Bool, true, false, Option, Some, None, List, [], ◌∷◌, ◌++◌, length, map, refl, ap, sym, ◌∙◌, arith, length-drop, append-nil}
+use Rattle.std.proofs.Common.{◌≡◌, ℕ, zero, suc, ◌<◌, ◌≤◌, ◌==◌, cond, Bool, true, false, Option, Some, None, List, [], ◌∷◌, ◌++◌, length, map, refl, ap, sym, ◌∙◌, arith, append-nil}
 use Rattle.std.specs.Option.{option_and_then}
-use Rattle.std.specs.List.{prefix_len}
-use Rattle.rv_asm.specs.Bytes.{skip_blanks, behind_word, word_of, is_name, is_blank, is_name_byte}
+use Rattle.rv_asm.specs.Bytes.{skip_blanks, behind_word, word_of, is_name}
 use Rattle.rv_asm.specs.Tokens.{after_sign}
+use Rattle.rv_asm.proofs.ShorterOperands.{skip_shorter, behind_shorter}
 use Rattle.rv_asm.specs.Parsing.{label_at, labels_in, labels_of, more_labels}
-
-skip_shorter : (text : List ℕ) → length (skip_blanks text) ≤ length text
-unfolding skip_blanks
-skip_shorter text = let e = length-drop (prefix_len is_blank text) text in omega arith
-
-behind_shorter : (text : List ℕ) → length (behind_word text) ≤ length text
-unfolding behind_word
-behind_shorter text = let e = length-drop (prefix_len is_name_byte text) text in omega arith
 
 behind_colon : (colon named : Bool) (bytes word : List ℕ) (found : List ℕ × List ℕ) → option_and_then (λ (rest : List ℕ). cond named (Some (word, skip_blanks rest)) None) (cond colon (Some bytes) None) ≡ Some found → length found.1 ≤ length bytes
 behind_colon false named bytes word found e = cc

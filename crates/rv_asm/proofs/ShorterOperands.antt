@@ -1,7 +1,7 @@
 -- What is read of operands is no longer than their text.
 use Rattle.std.proofs.Common.{◌≡◌, ℕ, ◌+◌, ◌≤◌, ◌==◌, cond, Bool, true, false, Option, Some, None, List, [], ◌∷◌, length, take, drop, refl, ap, arith}
 use Rattle.std.proofs.lemmas.List.{length-take, length-drop}
-use Rattle.std.specs.Option.{option_and_then, option_or}
+use Rattle.std.specs.Option.{option_and_then}
 use Rattle.std.specs.List.{prefix_len}
 use Rattle.rv_asm.specs.declared.number.Number.{Number}
 use Rattle.rv_asm.specs.Registers.{register_of}
@@ -24,10 +24,6 @@ chosen false a x e = absurd (cc)
 
 pub alone_is : {A : Type 0} (value : A) (rest : List ℕ) (x : A) → alone value rest ≡ Some x → value ≡ x
 alone_is value rest x e = chosen (ends rest) value x e
-
-pub either : {A : Type 0} (P : Type 0) (a b : Option A) (x : A) → (a ≡ Some x → P) → (b ≡ Some x → P) → option_or a b ≡ Some x → P
-either P None b x left right e = right e
-either P (Some a) b x left right e = left e
 
 -- ---- parts
 
@@ -121,7 +117,7 @@ registers_name_shorter text x e =
     let a = step_of (register_at text) (λ (a : ℕ × List ℕ). option_and_then (λ (b : ℕ × List ℕ). option_and_then (λ (name : List ℕ). Some (a.0, b.0, name)) (and_last_name b.1)) (and_register_at a.1)) x e in
     let b = step_of (and_register_at a.0.1) (λ (b : ℕ × List ℕ). option_and_then (λ (name : List ℕ). Some (a.0.0, b.0, name)) (and_last_name b.1)) x a.1.1 in
     let n = step_of (and_last_name b.0.1) (λ (name : List ℕ). Some (a.0.0, b.0.0, name)) x b.1.1 in
-    let same : length n.0 ≡ length x.2 = ap (λ (p : ℕ × ℕ × List ℕ). length p.2) (some_is (a.0.0, b.0.0, n.0) x n.1.1) in
+    let same : length n.0 ≡ length x.2 = ap (λ (p : ℕ × ℕ × List ℕ). length p.2) {x = (a.0.0, b.0.0, n.0)} (some_is (a.0.0, b.0.0, n.0) x n.1.1) in
     let h = register_shorter text a.0 a.1.0 in
     let k = and_register_shorter a.0.1 b.0 b.1.0 in
     let g = and_last_shorter b.0.1 n.0 n.1.0 in

@@ -12,17 +12,17 @@ use Rattle.rv_word.specs.Values.{wrap}
 use Rattle.rv_asm.specs.declared.fault.AsmFault.{AsmFault}
 use Rattle.rv_asm.specs.declared.fault.AsmFault.TheVariants.{BadLine, NoText, TextTooLong, DataTooLong}
 use Rattle.rv_asm.specs.declared.assembling.TheConstants.{MAX_DATA_LEN}
-use Rattle.rv_asm.specs.declared.draft.MarkKind.{MarkKind}
-use Rattle.rv_asm.specs.declared.draft.MarkKind.TheVariants as kind
+use Rattle.rv_asm.specs.declared.draft.DeclarationKind.{DeclarationKind}
+use Rattle.rv_asm.specs.declared.draft.DeclarationKind.TheVariants as kind
 use Rattle.rv_asm.specs.Registers.{named}
 use Rattle.rv_asm.specs.Layout.{data_of}
-use Rattle.rv_asm.specs.FirstPass.{◌>>=◌, Placed, Mark, Draft, blank_draft, passed, text_start, data_start}
+use Rattle.rv_asm.specs.FirstPass.{◌>>=◌, Placed, Declaration, Draft, blank_draft, passed, len_all, text_start, data_start}
 use Rattle.rv_asm.specs.SecondPass.{code}
 
 -- ---- symbols
 
 -- a procedure takes the next end
-abbrev pub ends_after : MarkKind → List ℕ → List ℕ
+abbrev pub ends_after : DeclarationKind → List ℕ → List ℕ
 ends_after kind.Procedure ends = drop 1 ends
 ends_after (kind.Object size) ends = ends
 
@@ -30,22 +30,22 @@ abbrev pub first_or : ℕ → List ℕ → ℕ
 first_or at [] = at
 first_or at (end ∷ ends) = end
 
-abbrev pub symbol_kind : MarkKind → SymKind
+abbrev pub symbol_kind : DeclarationKind → SymKind
 symbol_kind kind.Procedure = Func
 symbol_kind (kind.Object size) = Object
 
 -- a procedure that begins at an address goes to the first of the ends
-abbrev pub symbol_size : ℕ → MarkKind → List ℕ → ℕ
+abbrev pub symbol_size : ℕ → DeclarationKind → List ℕ → ℕ
 symbol_size at kind.Procedure ends = first_or at ends - at
 symbol_size at (kind.Object size) ends = size
 
--- the symbol of a mark, if the next procedure ends at the first of these; addresses and sizes have 64 bits
-unfoldable pub symbol_of : Mark → List ℕ → Symbol
+-- the symbol of a declaration, if the next procedure ends at the first of these; addresses and sizes have 64 bits
+unfoldable pub symbol_of : Declaration → List ℕ → Symbol
 symbol_of m ends =
     record { name = m.name; kind = symbol_kind m.kind; at = wrap m.at; size = wrap (symbol_size m.at m.kind ends); «module» = m.«module» }
 
--- the symbols of the marks in their order
-abbrev pub symbols_from : List ℕ → List Mark → List Symbol
+-- the symbols of the declarations in their order
+abbrev pub symbols_from : List ℕ → List Declaration → List Symbol
 symbols_from ends [] = []
 symbols_from ends (m ∷ ms) = symbol_of m ends ∷ symbols_from (ends_after m.kind ends) ms
 
@@ -63,7 +63,7 @@ belonging own symbols = filter (λ s. belongs own s.«module») symbols
 
 -- the symbols of other modules, and then those of the program
 abbrev pub symbols_of : Draft → List Symbol
-symbols_of d = belonging false (symbols_from d.ends d.marks) ++ belonging true (symbols_from d.ends d.marks)
+symbols_of d = belonging false (symbols_from d.ends d.declarations) ++ belonging true (symbols_from d.ends d.declarations)
 
 -- how many bytes the names of symbols and of their modules have together, each with one more for its end
 abbrev pub name_room : Symbol → ℕ
@@ -116,7 +116,7 @@ unfoldable pub sized : Draft → List ℕ → Result Image AsmFault
 sized d text =
     if length text == 0 then Err NoText
     else if nat_lt MAX_TEXT_LEN (length text) then Err (TextTooLong (length text))
-    else if nat_lt MAX_DATA_LEN (d.data_end - data_start) then Err (DataTooLong (d.data_end - data_start))
+    else if nat_lt MAX_DATA_LEN (len_all d.data_part) then Err (DataTooLong (len_all d.data_part))
     else Ok (image_of d text)
 
 -- the program of a text, or the first fault

@@ -37,11 +37,7 @@ stands s inside (the.Value w n) = value_stands w s
 stands s inside (the.Zeros n) = not (in_text s)
 stands s inside (the.Align n) = not (in_text s)
 stands s inside the.Ascii = not (in_text s)
-stands s inside (the.Instruction i) = in_text s
-stands s inside (the.Numbered i n) = in_text s
-stands s inside (the.Jump i) = in_text s
-stands s inside (the.LoadNumber rd n) = in_text s
-stands s inside (the.LoadAddress rd) = in_text s
+stands s inside instruction = in_text s
 
 -- the number of b bits, with or without a sign
 abbrev pub value_fits : ValueWidth → Number → Bool

@@ -1,10 +1,11 @@
 -- The first pass: the lines in order, each with its place, and the first that is faulty.
 use Rattle.std.specs.Prelude.{ℕ, ◌+◌, not, if◌then◌else◌, Bool, Option, Some, None, is_some, Result, Ok, Err, List, [], ◌∷◌, ◌++◌}
+use Rattle.std.specs.List.{sum_by}
 use Rattle.pn_types.specs.GoodNames.{is_good_name, program_module}
 use Rattle.rv_asm.specs.declared.fault.AsmFault.{AsmFault}
 use Rattle.rv_asm.specs.declared.fault.AsmFault.TheVariants.{BadLine, BadNumber, UsesScratch, TwiceNamed}
-use Rattle.rv_asm.specs.declared.draft.MarkKind.{MarkKind}
-use Rattle.rv_asm.specs.declared.draft.MarkKind.TheVariants as kind
+use Rattle.rv_asm.specs.declared.draft.DeclarationKind.{DeclarationKind}
+use Rattle.rv_asm.specs.declared.draft.DeclarationKind.TheVariants as kind
 use Rattle.rv_asm.specs.declared.statement.Section.{Section}
 use Rattle.rv_asm.specs.declared.statement.Section.TheVariants as section
 use Rattle.rv_asm.specs.declared.statement.Statement.{Statement}
@@ -28,23 +29,21 @@ pub record Placed : Type 0 where
   pub statement : Statement
   pub text : List ℕ
 
--- a procedure or an object that begins at an address
-pub record Mark : Type 0 where
+-- the declaration of a procedure or an object that begins at an address
+pub record Declaration : Type 0 where
   pub name : List ℕ
-  pub kind : MarkKind
+  pub kind : DeclarationKind
   pub at : ℕ
   pub «module» : List ℕ
 
--- what the lines so far make: where each section ends, the line of the open procedure, the names and their addresses,
--- the procedures and objects, where the procedures end, and the statements of each section
+-- what the lines so far make: the line of the open procedure, the names and their addresses, the declarations, where the
+-- procedures end, and the statements of each section
 pub record Draft : Type 0 where
   pub section : Section
-  pub text_end : ℕ
-  pub data_end : ℕ
   pub opened : Option ℕ
   pub «module» : List ℕ
   pub labels : List (List ℕ × ℕ)
-  pub marks : List Mark
+  pub declarations : List Declaration
   pub ends : List ℕ
   pub text_part : List Placed
   pub data_part : List Placed
@@ -60,20 +59,29 @@ abbrev pub blank_draft : Draft
 blank_draft =
     record {
       section = section.Text;
-      text_end = text_start;
-      data_end = data_start;
       opened = None;
       «module» = program_module;
       labels = [];
-      marks = [];
+      declarations = [];
       ends = [];
       text_part = [];
       data_part = [];
     }
 
+-- how many bytes statements have, each at its address
+abbrev pub len_all : List Placed → ℕ
+len_all part = sum_by (λ p. len_of p.at p.statement p.text) part
+
+-- where a section ends: behind its start by the lengths of what stands in it
+abbrev pub text_end : Draft → ℕ
+text_end d = text_start + len_all d.text_part
+
+abbrev pub data_end : Draft → ℕ
+data_end d = data_start + len_all d.data_part
+
 -- the next address of the section
 abbrev pub here : Draft → ℕ
-here d = if in_text d.section then d.text_end else d.data_end
+here d = if in_text d.section then text_end d else data_end d
 
 -- ---- faults of one line, in their order
 
@@ -117,36 +125,26 @@ good_module name = if is_good_name name then name else program_module
 -- the statement stands at the end of its section
 abbrev pub placed_after : ℕ → Draft → Statement → List ℕ → Draft
 placed_after n d statement text =
-    if in_text d.section then
-    record d { text_part = d.text_part ++ (record { line = n; at = d.text_end; statement = statement; text = text } ∷ []); text_end = d.text_end + len_of d.text_end statement text }
-    else
-    record d { data_part = d.data_part ++ (record { line = n; at = d.data_end; statement = statement; text = text } ∷ []); data_end = d.data_end + len_of d.data_end statement text }
+    if in_text d.section then record d { text_part = d.text_part ++ (record { line = n; at = text_end d; statement = statement; text = text } ∷ []) }
+    else record d { data_part = d.data_part ++ (record { line = n; at = data_end d; statement = statement; text = text } ∷ []) }
 
--- something begins at an address
-abbrev pub marked : Draft → List ℕ → MarkKind → ℕ → Draft
-marked d name what at = record d { marks = d.marks ++ (record { name = name; kind = what; at = at; «module» = d.module } ∷ []) }
+-- a declaration more
+abbrev pub declaring : Draft → List ℕ → DeclarationKind → ℕ → Draft
+declaring d name what at = record d { declarations = d.declarations ++ (record { name = name; kind = what; at = at; «module» = d.module } ∷ []) }
 
 -- the open procedure ends
 abbrev pub ended : Draft → Draft
-ended d = record d { opened = None; ends = d.ends ++ (d.text_end ∷ []) }
+ended d = record d { opened = None; ends = d.ends ++ (text_end d ∷ []) }
 
 unfoldable pub after : ℕ → Draft → Statement → List ℕ → Draft
 after n d the.Empty text = d
 after n d the.Text text = record d { section = section.Text }
 after n d the.Data text = record d { section = section.Data }
-after n d the.Procedure name = record (marked d name kind.Procedure d.text_end) { opened = Some n }
+after n d the.Procedure name = record (declaring d name kind.Procedure (text_end d)) { opened = Some n }
 after n d the.End text = ended d
-after n d (the.Object size) name = marked d name (kind.Object size.size) d.data_end
+after n d (the.Object size) name = declaring d name (kind.Object size.size) (data_end d)
 after n d the.Module name = record d { «module» = good_module name }
-after n d (the.Value w number) text = placed_after n d (the.Value w number) text
-after n d (the.Zeros number) text = placed_after n d (the.Zeros number) text
-after n d (the.Align number) text = placed_after n d (the.Align number) text
-after n d the.Ascii text = placed_after n d the.Ascii text
-after n d (the.Instruction i) text = placed_after n d (the.Instruction i) text
-after n d (the.Numbered i number) text = placed_after n d (the.Numbered i number) text
-after n d (the.Jump i) text = placed_after n d (the.Jump i) text
-after n d (the.LoadNumber rd number) text = placed_after n d (the.LoadNumber rd number) text
-after n d (the.LoadAddress rd) text = placed_after n d (the.LoadAddress rd) text
+after n d other text = placed_after n d other text
 
 -- the line with this number
 unfoldable pub stepped : ℕ → Draft → List ℕ → Result Draft AsmFault

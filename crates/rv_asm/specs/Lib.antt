@@ -8,7 +8,6 @@ pub mod Statements
 pub mod Parsing
 pub mod Seen
 pub mod Checks
-pub mod Labels
 pub mod Layout
 pub mod FirstPass
 pub mod DraftSeen

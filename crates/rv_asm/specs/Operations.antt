@@ -1,5 +1,5 @@
 -- The names of the operations.
-use Rattle.std.specs.Prelude.{ℕ, List, [], ◌∷◌, codes}
+use Rattle.std.specs.Prelude.{ℕ, List, [], ◌∷◌, ◌++◌, map, codes}
 use Rattle.rv_word.specs.declared.instr.RegOp.{RegOp}
 use Rattle.rv_word.specs.declared.instr.RegOp.TheVariants as reg
 use Rattle.rv_word.specs.declared.instr.RegOp32.{RegOp32}
@@ -33,6 +33,10 @@ product_ops =
 abbrev pub quotient_ops : List (List ℕ × RegOp)
 quotient_ops =
     (codes "div", reg.Div) ∷ (codes "divu", reg.Divu) ∷ (codes "rem", reg.Rem) ∷ (codes "remu", reg.Remu) ∷ []
+
+-- any on two registers
+abbrev pub register_ops : List (List ℕ × RegOp)
+register_ops = base_ops ++ product_ops ++ quotient_ops
 
 -- on the low halves of two registers
 abbrev pub register_ops_32 : List (List ℕ × RegOp32)
@@ -74,10 +78,14 @@ abbrev pub zero_branch_ops : List (List ℕ × BranchOp)
 zero_branch_ops =
     (codes "beqz", branch.Beq) ∷ (codes "bnez", branch.Bne) ∷ []
 
--- an AMO, behind `amo` and before its width
+-- an AMO, behind `amo`
 abbrev pub atomic_ops : List (List ℕ × AmoOp)
 atomic_ops =
     (codes "swap", amo.Swap) ∷ (codes "add", amo.Add) ∷ (codes "xor", amo.Xor) ∷ (codes "and", amo.And) ∷ (codes "or", amo.Or) ∷ (codes "min", amo.Min) ∷ (codes "max", amo.Max) ∷ (codes "minu", amo.Minu) ∷ (codes "maxu", amo.Maxu) ∷ []
+
+-- an AMO, before its width
+abbrev pub amo_ops : List (List ℕ × AmoOp)
+amo_ops = map (λ op. (codes "amo" ++ op.0, op.1)) atomic_ops
 
 -- the width of an atomic access
 abbrev pub atomic_widths : List (List ℕ × AtomicWidth)

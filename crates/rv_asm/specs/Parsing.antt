@@ -3,29 +3,29 @@ use Rattle.std.specs.Prelude.{ℕ, zero, suc, ◌+◌, ◌==◌, if◌then◌els
 use Rattle.rv_asm.specs.Bytes.{is_blank, is_name, skip_blanks, word_of, behind_word}
 use Rattle.rv_asm.specs.Tokens.{◌>>=◌, after_sign}
 use Rattle.rv_asm.specs.Statements.{operation}
-use Rattle.rv_asm.specs.declared.line.Place.{Place}
-use Rattle.rv_asm.specs.declared.line.Place.TheVariants.{Outside, Quoted, Escaped}
+use Rattle.rv_asm.specs.declared.line.Quoting.{Quoting}
+use Rattle.rv_asm.specs.declared.line.Quoting.TheVariants.{Outside, Quoted, Escaped}
 use Rattle.rv_asm.specs.declared.statement.Statement.{Statement}
 use Rattle.rv_asm.specs.declared.statement.Statement.TheVariants as the
 
 -- ---- comments
 
--- the place behind a byte: in a string a `\` takes the next byte with it
-abbrev pub place_after : Place → ℕ → Place
-place_after Outside byte = if byte == 34 then Quoted else Outside
-place_after Quoted byte = if byte == 34 then Outside else if byte == 92 then Escaped else Quoted
-place_after Escaped byte = Quoted
+-- what holds behind a byte: in a string a `\` takes the next byte with it
+abbrev pub quoting_after : Quoting → ℕ → Quoting
+quoting_after Outside byte = if byte == 34 then Quoted else Outside
+quoting_after Quoted byte = if byte == 34 then Outside else if byte == 92 then Escaped else Quoted
+quoting_after Escaped byte = Quoted
 
 -- a `#` outside a string
-abbrev pub starts_comment : Place → ℕ → Bool
+abbrev pub starts_comment : Quoting → ℕ → Bool
 starts_comment Outside byte = byte == 35
 starts_comment Quoted byte = false
 starts_comment Escaped byte = false
 
 -- how many bytes stand before the comment
-abbrev pub code_len : Place → List ℕ → ℕ
-code_len place [] = 0
-code_len place (byte ∷ bytes) = if starts_comment place byte then 0 else code_len (place_after place byte) bytes + 1
+abbrev pub code_len : Quoting → List ℕ → ℕ
+code_len quoting [] = 0
+code_len quoting (byte ∷ bytes) = if starts_comment quoting byte then 0 else code_len (quoting_after quoting byte) bytes + 1
 
 -- ---- labels
 

@@ -1,34 +1,46 @@
 //! Names and their addresses.
 
-ghost use Rattle.std.specs.Prelude.{◌≡◌, ◌++◌, ◌∷◌, [], IfOk, Some, None, true, false};
+ghost use Rattle.std.specs.Prelude.{◌≡◌, ◌++◌, ◌∷◌, [], IfOk, OnOk, is_some, slice_get};
 ghost use Rattle.rv_asm.specs.Registers.{named};
-ghost use Rattle.rv_asm.specs.Labels.{Defined};
 
-use indexmap::IndexMap;
+use first_places::FirstPlaces;
 use std::alloc::{AllocError, Global};
 use std::marker::Model;
 
 /// Names and their addresses, in the order of the text.
 #[derive(Drop)]
-pub(crate) struct Labels<'a> {
-    places: IndexMap<&'a [u8], u128>,
+pub(crate) struct Labels {
+    names: FirstPlaces,
+    /// The address of each of the names.
+    addresses: Vec<u128>,
 }
 
-impl<'a> Model for Labels<'a> {
-    ghost use Rattle.std.specs.Prelude.{List, ℕ, map};
+impl Model for Labels {
+    ghost use Rattle.std.specs.Prelude.{◌≡◌, List, ℕ, length};
+    ghost use Rattle.std.specs.List.{zip};
 
     ghost Value = { List (List ℕ × ℕ) };
 
-    ghost view = { λ labels. map (λ entry. (entry.0.now, entry.1)) labels.places.entries };
+    ghost view = { λ labels. zip labels.names labels.addresses.items };
+
+    ghost invariant = { λ labels. length labels.names ≡ length labels.addresses.items };
 }
 
-impl<'a> Labels<'a> {
+/// The address at a place.
+fn address(addresses: &[u128], place: usize) -> Option<u128>
+    ensures { result ≡ slice_get addresses.now place }
+{
+    addresses.get(place).copied()
+}
+
+impl Labels {
     /// No names.
-    pub(crate) fn new(alloc: Global) -> Labels<'a>
+    pub(crate) fn new(alloc: Global) -> Labels
         ensures { result ≡ [] }
     {
         Labels {
-            places: IndexMap::new(alloc),
+            names: FirstPlaces::new(alloc),
+            addresses: Vec::new(alloc),
         }
     }
 
@@ -36,17 +48,27 @@ impl<'a> Labels<'a> {
     pub(crate) fn get(&self, name: &[u8]) -> Option<u128>
         ensures { result ≡ named name.now self.now }
     {
-        self.places.get(name).copied()
+        let place = self.names.lookup(name)?;
+        address(self.addresses.as_slice(), place)
     }
 
-    /// Defines the name, unless it is defined already, and says whether it did.
-    pub(crate) fn define(&mut self, name: &'a [u8], at: u128) -> Result<bool, AllocError>
-        ensures { IfOk result (λ fresh. Defined fresh name.now at self.old self.new) }
+    /// Defines the name, and says whether it was defined before. Where memory is short all stays as it was.
+    pub(crate) fn define(
+        &mut self,
+        alloc: Global,
+        name: &[u8],
+        at: u128,
+    ) -> Result<bool, AllocError>
+        ensures before { IfOk result (λ before. before ≡ is_some (named name.now self.old)) }
+        ensures defined { OnOk result (self.new ≡ self.old ++ (name.now, at) ∷ []) }
     {
-        if self.places.contains_key(name) {
-            return Ok(false);
+        self.addresses.push(at)?;
+        match self.names.push(alloc, name) {
+            Ok(before) => Ok(before),
+            Err(fault) => {
+                self.addresses.pop();
+                Err(fault)
+            }
         }
-        self.places.insert(name, at)?;
-        Ok(true)
     }
 }

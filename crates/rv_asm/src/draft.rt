@@ -2,7 +2,7 @@
 
 ghost use Rattle.std.specs.Prelude.{◌≡◌, ◌≤◌, ◌<◌, ◌+◌, ◌^◌, true, IfOk, OnOk};
 ghost use Rattle.rv_asm.specs.Checks.{numbers_fit};
-ghost use Rattle.rv_asm.specs.FirstPass.{here, good_module, placed_after, marked, ended, after, blank_draft};
+ghost use Rattle.rv_asm.specs.FirstPass.{text_end, data_end, here, good_module, placed_after, declaring, ended, after, blank_draft};
 
 use crate::addresses::Labels;
 use crate::layout::len;
@@ -17,20 +17,20 @@ pub(crate) const TEXT_START: u64 = SEGMENTS_FROM;
 /// Where the data begins.
 pub(crate) const DATA_START: u64 = 0x100_0000;
 
-/// What begins at an address.
+/// What is declared.
 #[derive(Clone, Copy)]
-pub(crate) enum MarkKind {
+pub(crate) enum DeclarationKind {
     /// A procedure.
     Procedure,
     /// An object of so many bytes.
     Object(u128),
 }
 
-/// A procedure or an object that begins at an address.
+/// The declaration of a procedure or an object that begins at an address.
 #[derive(Clone, Copy)]
-pub(crate) struct Mark<'a> {
+pub(crate) struct Declaration<'a> {
     pub(crate) name: &'a [u8],
-    pub(crate) kind: MarkKind,
+    pub(crate) kind: DeclarationKind,
     pub(crate) at: u128,
     pub(crate) module: &'a [u8],
 }
@@ -55,8 +55,8 @@ pub(crate) struct Draft<'a> {
     /// The line of the procedure that is open.
     pub(crate) opened: Option<u32>,
     pub(crate) module: &'a [u8],
-    pub(crate) labels: Labels<'a>,
-    pub(crate) marks: Vec<Mark<'a>>,
+    pub(crate) labels: Labels,
+    pub(crate) declarations: Vec<Declaration<'a>>,
     /// Where the procedures end.
     pub(crate) ends: Vec<u128>,
     pub(crate) text_part: Vec<Placed<'a>>,
@@ -66,22 +66,22 @@ pub(crate) struct Draft<'a> {
 impl<'a> Model for Draft<'a> {
     ghost use Rattle.std.specs.Prelude.{map};
     ghost use Rattle.rv_asm.specs.FirstPass.{Draft};
-    ghost use Rattle.rv_asm.specs.DraftSeen.{placed_seen, mark_seen};
+    ghost use Rattle.rv_asm.specs.DraftSeen.{placed_seen, declaration_seen, AreEnds};
 
     ghost Value = { Draft };
 
     ghost view = { λ d. record {
       section = d.section;
-      text_end = d.text_end;
-      data_end = d.data_end;
       opened = d.opened;
       «module» = d.«module».now;
       labels = d.labels;
-      marks = map mark_seen d.marks.items;
+      declarations = map declaration_seen d.declarations.items;
       ends = d.ends.items;
       text_part = map placed_seen d.text_part.items;
       data_part = map placed_seen d.data_part.items;
     } };
+
+    ghost invariant = { λ d. AreEnds d.text_end d.data_end (map placed_seen d.text_part.items) (map placed_seen d.data_part.items) };
 }
 
 impl<'a> Draft<'a> {
@@ -96,7 +96,7 @@ impl<'a> Draft<'a> {
             opened: None,
             module: PROGRAM_MODULE,
             labels: Labels::new(alloc),
-            marks: Vec::new(alloc),
+            declarations: Vec::new(alloc),
             ends: Vec::new(alloc),
             text_part: Vec::new(alloc),
             data_part: Vec::new(alloc),
@@ -117,11 +117,11 @@ impl<'a> Draft<'a> {
     /// The statement stands at the end of its section.
     fn place(&mut self, line: u32, statement: Statement, text: &'a [u8]) -> Result<(), AllocError>
         requires fits { numbers_fit statement ≡ true }
-        requires text_room { self.old.text_end < 2 ^ 100 }
-        requires data_room { self.old.data_end < 2 ^ 100 }
+        requires text_room { text_end self.old < 2 ^ 100 }
+        requires data_room { data_end self.old < 2 ^ 100 }
         ensures value { OnOk result (self.new ≡ placed_after line self.old statement text.now) }
-        ensures text_grows { OnOk result (self.new.text_end ≤ self.old.text_end + 2 ^ 64) }
-        ensures data_grows { OnOk result (self.new.data_end ≤ self.old.data_end + 2 ^ 64) }
+        ensures text_grows { OnOk result (text_end self.new ≤ text_end self.old + 2 ^ 64) }
+        ensures data_grows { OnOk result (data_end self.new ≤ data_end self.old + 2 ^ 64) }
     {
         let at = self.here();
         let end = at + len(at, &statement, text);
@@ -141,14 +141,14 @@ impl<'a> Draft<'a> {
         Ok(())
     }
 
-    /// Something begins at the address.
-    fn mark(&mut self, name: &'a [u8], kind: MarkKind, at: u128) -> Result<(), AllocError>
-        ensures value { OnOk result (self.new ≡ marked self.old name.now kind at) }
-        ensures text_grows { OnOk result (self.new.text_end ≤ self.old.text_end + 2 ^ 64) }
-        ensures data_grows { OnOk result (self.new.data_end ≤ self.old.data_end + 2 ^ 64) }
+    /// Declares what begins at the address.
+    fn declare(&mut self, name: &'a [u8], kind: DeclarationKind, at: u128) -> Result<(), AllocError>
+        ensures value { OnOk result (self.new ≡ declaring self.old name.now kind at) }
+        ensures text_grows { OnOk result (text_end self.new ≤ text_end self.old + 2 ^ 64) }
+        ensures data_grows { OnOk result (data_end self.new ≤ data_end self.old + 2 ^ 64) }
     {
         let module = self.module;
-        self.marks.push(Mark {
+        self.declarations.push(Declaration {
             name,
             kind,
             at,
@@ -160,8 +160,8 @@ impl<'a> Draft<'a> {
     /// The open procedure ends here.
     fn end_procedure(&mut self) -> Result<(), AllocError>
         ensures value { OnOk result (self.new ≡ ended self.old) }
-        ensures text_grows { OnOk result (self.new.text_end ≤ self.old.text_end + 2 ^ 64) }
-        ensures data_grows { OnOk result (self.new.data_end ≤ self.old.data_end + 2 ^ 64) }
+        ensures text_grows { OnOk result (text_end self.new ≤ text_end self.old + 2 ^ 64) }
+        ensures data_grows { OnOk result (data_end self.new ≤ data_end self.old + 2 ^ 64) }
     {
         self.ends.push(self.text_end)?;
         self.opened = None;
@@ -177,11 +177,11 @@ impl<'a> Draft<'a> {
         text: &'a [u8],
     ) -> Result<(), AllocError>
         requires fits { numbers_fit statement ≡ true }
-        requires text_room { self.old.text_end < 2 ^ 100 }
-        requires data_room { self.old.data_end < 2 ^ 100 }
+        requires text_room { text_end self.old < 2 ^ 100 }
+        requires data_room { data_end self.old < 2 ^ 100 }
         ensures value { OnOk result (self.new ≡ after line self.old statement text.now) }
-        ensures text_grows { OnOk result (self.new.text_end ≤ self.old.text_end + 2 ^ 64) }
-        ensures data_grows { OnOk result (self.new.data_end ≤ self.old.data_end + 2 ^ 64) }
+        ensures text_grows { OnOk result (text_end self.new ≤ text_end self.old + 2 ^ 64) }
+        ensures data_grows { OnOk result (data_end self.new ≤ data_end self.old + 2 ^ 64) }
     {
         match statement {
             Statement::Empty => Ok(()),
@@ -194,12 +194,16 @@ impl<'a> Draft<'a> {
                 Ok(())
             }
             Statement::Procedure => {
-                self.mark(text, MarkKind::Procedure, self.text_end)?;
+                self.declare(text, DeclarationKind::Procedure, self.text_end)?;
                 self.opened = Some(line);
                 Ok(())
             }
             Statement::End => self.end_procedure(),
-            Statement::Object(size) => self.mark(text, MarkKind::Object(size.size), self.data_end),
+            Statement::Object(size) => self.declare(
+                text,
+                DeclarationKind::Object(size.size),
+                self.data_end,
+            ),
             Statement::Module => {
                 self.module = good_module(text);
                 Ok(())

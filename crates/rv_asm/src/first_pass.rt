@@ -3,7 +3,7 @@
 ghost use Rattle.std.specs.Prelude.{◌≡◌, ◌≤◌, ◌<◌, ◌+◌, ◌^◌, true, IfOk, OnOk, map, length};
 ghost use Rattle.pn_text.specs.Lines.{lines};
 ghost use Rattle.rv_asm.specs.Checks.{numbers_fit};
-ghost use Rattle.rv_asm.specs.FirstPass.{judged, define, define_all, define_own, stepped, passed, blank_draft};
+ghost use Rattle.rv_asm.specs.FirstPass.{judged, define, define_all, define_own, stepped, passed, blank_draft, text_end, data_end};
 ghost use Rattle.rv_asm.specs.Seen.{Gives, Leaves, line_seen};
 
 use crate::addresses::Labels;
@@ -43,44 +43,50 @@ fn judged<'a>(
 }
 
 /// Defines a name that is new.
-fn define<'a>(labels: &mut Labels<'a>, line: u32, at: u128, name: &'a [u8]) -> Result<(), AsmFault>
+fn define(
+    alloc: Global,
+    labels: &mut Labels,
+    line: u32,
+    at: u128,
+    name: &[u8],
+) -> Result<(), AsmFault>
     ensures { Leaves labels.new result (define line at name.now labels.old) }
 {
-    let fresh = labels.define(name, at)?;
-    if fresh {
-        Ok(())
-    } else {
-        Err(AsmFault::TwiceNamed(line))
+    if labels.define(alloc, name, at)? {
+        return Err(AsmFault::TwiceNamed(line));
     }
+    Ok(())
 }
 
 /// Defines these names, each of which is new.
-fn define_all<'a>(
-    labels: &mut Labels<'a>,
+fn define_all(
+    alloc: Global,
+    labels: &mut Labels,
     line: u32,
     at: u128,
-    names: &[&'a [u8]],
+    names: &[&[u8]],
 ) -> Result<(), AsmFault>
     ensures { Leaves labels.new result (define_all line at (map (λ name. name.now) names.now) labels.old) }
 {
     for name in names {
-        define(labels, line, at, *name)?;
+        define(alloc, labels, line, at, *name)?;
     }
     Ok(())
 }
 
 /// Defines the name of a procedure or an object.
-fn define_own<'a>(
-    labels: &mut Labels<'a>,
+fn define_own(
+    alloc: Global,
+    labels: &mut Labels,
     line: u32,
     at: u128,
     statement: &Statement,
-    name: &'a [u8],
+    name: &[u8],
 ) -> Result<(), AsmFault>
     ensures { Leaves labels.new result (define_own line at statement.now name.now labels.old) }
 {
     match *statement {
-        Statement::Procedure | Statement::Object(_) => define(labels, line, at, name),
+        Statement::Procedure | Statement::Object(_) => define(alloc, labels, line, at, name),
         _ => Ok(()),
     }
 }
@@ -89,16 +95,23 @@ impl<'a> Draft<'a> {
     /// Adds the line with this number.
     #[tactic(auto, unfolding(crate::specs::FirstPass::stepped))]
     fn step(&mut self, alloc: Global, line: u32, bytes: &'a [u8]) -> Result<(), AsmFault>
-        requires text_room { self.old.text_end < 2 ^ 100 }
-        requires data_room { self.old.data_end < 2 ^ 100 }
+        requires text_room { text_end self.old < 2 ^ 100 }
+        requires data_room { data_end self.old < 2 ^ 100 }
         ensures value { Leaves self.new result (stepped line self.old bytes.now) }
-        ensures text_grows { OnOk result (self.new.text_end ≤ self.old.text_end + 2 ^ 64) }
-        ensures data_grows { OnOk result (self.new.data_end ≤ self.old.data_end + 2 ^ 64) }
+        ensures text_grows { OnOk result (text_end self.new ≤ text_end self.old + 2 ^ 64) }
+        ensures data_grows { OnOk result (data_end self.new ≤ data_end self.old + 2 ^ 64) }
     {
         let parsed = judged(alloc, line, self.section, self.opened.is_some(), bytes)?;
         let at = self.here();
-        define_all(&mut self.labels, line, at, parsed.labels.as_slice())?;
-        define_own(&mut self.labels, line, at, &parsed.statement, parsed.text)?;
+        define_all(alloc, &mut self.labels, line, at, parsed.labels.as_slice())?;
+        define_own(
+            alloc,
+            &mut self.labels,
+            line,
+            at,
+            &parsed.statement,
+            parsed.text,
+        )?;
         self.apply(line, parsed.statement, parsed.text)?;
         Ok(())
     }

@@ -1,32 +1,36 @@
 //! Statements whose operation is one of many with the same operands.
 
 ghost use Rattle.std.specs.Prelude.{◌≡◌};
-ghost use Rattle.rv_asm.specs.Statements.{base_statement, half_statement, immediate_statement, shift_statement, half_shift_statement, load_statement, store_statement, amo_named, reserve_statement, conditional_statement, amo_statement, atomic_statement};
+ghost use Rattle.std.specs.Option.{option_and_then};
+ghost use Rattle.rv_word.specs.declared.instr.Instr.TheVariants as instr;
+ghost use Rattle.rv_asm.specs.declared.statement.Statement.TheVariants as the;
+ghost use Rattle.rv_asm.specs.Registers.{named};
+ghost use Rattle.rv_asm.specs.Operands.{three_registers, registers_number, register_memory, register_pointer, registers_pointer};
+ghost use Rattle.rv_asm.specs.Operations.{register_ops, register_ops_32, immediate_ops, shift_ops, shift_ops_32, load_ops, store_ops, amo_ops};
+ghost use Rattle.rv_asm.specs.Statements.{◌⇒◌, made_by, accesses, atomics};
 
 use crate::operands::{
     register_memory, register_pointer, registers_number, registers_pointer, three_registers,
 };
 use crate::operations::{
-    atomic_op, atomic_width, base_op, immediate_op, load_op, product_op, quotient_op,
-    register_op_32, shift_op, shift_op_32, store_op,
+    atomic_op, atomic_width, immediate_op, load_op, register_op, register_op_32, shift_op,
+    shift_op_32, store_op,
 };
 use crate::statement::Statement;
 use rv_word::{AmoOp, AtomicWidth, Instr};
 
 /// An operation on two registers.
-#[tactic(auto, unfolding(crate::specs::Statements::base_statement))]
 pub(crate) fn base_statement(name: &[u8], text: &[u8]) -> Option<Statement>
-    ensures { result ≡ base_statement name.now text.now }
+    ensures { result ≡ option_and_then (λ op. (three_registers ⇒ λ r. the.Instruction (instr.Op op r.0 r.1 r.2)) text.now) (named name.now register_ops) }
 {
-    let op = base_op(name).or(product_op(name).or(quotient_op(name)))?;
+    let op = register_op(name)?;
     let (rd, rs1, rs2) = three_registers(text)?;
     Some(Statement::Instruction(Instr::Op { op, rd, rs1, rs2 }))
 }
 
 /// An operation on the low halves of two registers.
-#[tactic(auto, unfolding(crate::specs::Statements::half_statement))]
 pub(crate) fn half_statement(name: &[u8], text: &[u8]) -> Option<Statement>
-    ensures { result ≡ half_statement name.now text.now }
+    ensures { result ≡ option_and_then (λ op. (three_registers ⇒ λ r. the.Instruction (instr.Op32 op r.0 r.1 r.2)) text.now) (named name.now register_ops_32) }
 {
     let op = register_op_32(name)?;
     let (rd, rs1, rs2) = three_registers(text)?;
@@ -34,9 +38,8 @@ pub(crate) fn half_statement(name: &[u8], text: &[u8]) -> Option<Statement>
 }
 
 /// An operation on a register and a number.
-#[tactic(auto, unfolding(crate::specs::Statements::immediate_statement))]
 pub(crate) fn immediate_statement(name: &[u8], text: &[u8]) -> Option<Statement>
-    ensures { result ≡ immediate_statement name.now text.now }
+    ensures { result ≡ option_and_then (λ op. (registers_number ⇒ λ r. the.Numbered (instr.OpImm op r.0 r.1 0) r.2) text.now) (named name.now immediate_ops) }
 {
     let op = immediate_op(name)?;
     let (rd, rs1, number) = registers_number(text)?;
@@ -50,9 +53,8 @@ pub(crate) fn immediate_statement(name: &[u8], text: &[u8]) -> Option<Statement>
 }
 
 /// A shift by a number.
-#[tactic(auto, unfolding(crate::specs::Statements::shift_statement))]
 pub(crate) fn shift_statement(name: &[u8], text: &[u8]) -> Option<Statement>
-    ensures { result ≡ shift_statement name.now text.now }
+    ensures { result ≡ option_and_then (λ op. (registers_number ⇒ λ r. the.Numbered (instr.ShiftImm op r.0 r.1 0) r.2) text.now) (named name.now shift_ops) }
 {
     let op = shift_op(name)?;
     let (rd, rs1, number) = registers_number(text)?;
@@ -61,9 +63,8 @@ pub(crate) fn shift_statement(name: &[u8], text: &[u8]) -> Option<Statement>
 }
 
 /// A shift of a low half by a number.
-#[tactic(auto, unfolding(crate::specs::Statements::half_shift_statement))]
 pub(crate) fn half_shift_statement(name: &[u8], text: &[u8]) -> Option<Statement>
-    ensures { result ≡ half_shift_statement name.now text.now }
+    ensures { result ≡ option_and_then (λ op. (registers_number ⇒ λ r. the.Numbered (instr.ShiftImm32 op r.0 r.1 0) r.2) text.now) (named name.now shift_ops_32) }
 {
     let op = shift_op_32(name)?;
     let (rd, rs1, number) = registers_number(text)?;
@@ -72,9 +73,8 @@ pub(crate) fn half_shift_statement(name: &[u8], text: &[u8]) -> Option<Statement
 }
 
 /// A load.
-#[tactic(auto, unfolding(crate::specs::Statements::load_statement))]
 pub(crate) fn load_statement(name: &[u8], text: &[u8]) -> Option<Statement>
-    ensures { result ≡ load_statement name.now text.now }
+    ensures { result ≡ option_and_then (λ op. (register_memory ⇒ λ r. the.Numbered (instr.Load op r.0 r.2 0) r.1) text.now) (named name.now load_ops) }
 {
     let op = load_op(name)?;
     let (rd, number, rs1) = register_memory(text)?;
@@ -88,9 +88,8 @@ pub(crate) fn load_statement(name: &[u8], text: &[u8]) -> Option<Statement>
 }
 
 /// A store.
-#[tactic(auto, unfolding(crate::specs::Statements::store_statement))]
 pub(crate) fn store_statement(name: &[u8], text: &[u8]) -> Option<Statement>
-    ensures { result ≡ store_statement name.now text.now }
+    ensures { result ≡ option_and_then (λ op. (register_memory ⇒ λ r. the.Numbered (instr.Store op r.2 r.0 0) r.1) text.now) (named name.now store_ops) }
 {
     let op = store_op(name)?;
     let (rs2, number, rs1) = register_memory(text)?;
@@ -104,8 +103,8 @@ pub(crate) fn store_statement(name: &[u8], text: &[u8]) -> Option<Statement>
 }
 
 /// The AMO of this name, which begins with `amo`.
-fn amo_named(name: &[u8]) -> Option<AmoOp>
-    ensures { result ≡ amo_named name.now }
+fn amo_op(name: &[u8]) -> Option<AmoOp>
+    ensures { result ≡ named name.now amo_ops }
 {
     if name.starts_with(b"amo") {
         atomic_op(&name[3..])
@@ -116,7 +115,7 @@ fn amo_named(name: &[u8]) -> Option<AmoOp>
 
 /// `lr` of this width.
 fn reserve_statement(width: AtomicWidth, text: &[u8]) -> Option<Statement>
-    ensures { result ≡ reserve_statement width text.now }
+    ensures { result ≡ (register_pointer ⇒ λ r. the.Instruction (instr.Lr width r.0 r.1 0)) text.now }
 {
     let (rd, rs1) = register_pointer(text)?;
     let instr = Instr::Lr {
@@ -130,7 +129,7 @@ fn reserve_statement(width: AtomicWidth, text: &[u8]) -> Option<Statement>
 
 /// `sc` of this width.
 fn conditional_statement(width: AtomicWidth, text: &[u8]) -> Option<Statement>
-    ensures { result ≡ conditional_statement width text.now }
+    ensures { result ≡ (registers_pointer ⇒ λ r. the.Instruction (instr.Sc width r.0 r.2 r.1 0)) text.now }
 {
     let (rd, rs2, rs1) = registers_pointer(text)?;
     let instr = Instr::Sc {
@@ -145,9 +144,9 @@ fn conditional_statement(width: AtomicWidth, text: &[u8]) -> Option<Statement>
 
 /// The AMO of this width and name.
 fn amo_statement(width: AtomicWidth, name: &[u8], text: &[u8]) -> Option<Statement>
-    ensures { result ≡ amo_statement width name.now text.now }
+    ensures { result ≡ option_and_then (λ op. (registers_pointer ⇒ λ r. the.Instruction (instr.Amo op width r.0 r.2 r.1 0)) text.now) (named name.now amo_ops) }
 {
-    let op = amo_named(name)?;
+    let op = amo_op(name)?;
     let (rd, rs2, rs1) = registers_pointer(text)?;
     let instr = Instr::Amo {
         op,
@@ -160,18 +159,24 @@ fn amo_statement(width: AtomicWidth, name: &[u8], text: &[u8]) -> Option<Stateme
     Some(Statement::Instruction(instr))
 }
 
-/// An atomic access.
-#[tactic(auto, unfolding(crate::specs::Statements::atomic_statement))]
+/// The atomic access of this width and name.
+fn access_statement(width: AtomicWidth, name: &[u8], text: &[u8]) -> Option<Statement>
+    ensures { result ≡ made_by (accesses width) name.now text.now }
+{
+    if name == b"lr".as_slice() {
+        reserve_statement(width, text)
+    } else if name == b"sc".as_slice() {
+        conditional_statement(width, text)
+    } else {
+        amo_statement(width, name, text)
+    }
+}
+
+/// An atomic access, whose width stands behind its name.
 pub(crate) fn atomic_statement(name: &[u8], text: &[u8]) -> Option<Statement>
-    ensures { result ≡ atomic_statement name.now text.now }
+    ensures { result ≡ made_by atomics name.now text.now }
 {
     let (stem, ending) = name.split_at(name.len().saturating_sub(2));
     let width = atomic_width(ending)?;
-    if stem == b"lr".as_slice() {
-        reserve_statement(width, text)
-    } else if stem == b"sc".as_slice() {
-        conditional_statement(width, text)
-    } else {
-        amo_statement(width, stem, text)
-    }
+    access_statement(width, stem, text)
 }

@@ -3,10 +3,10 @@
 ghost use Rattle.std.specs.Prelude.{◌≡◌, ◌++◌, ◌∷◌, [], IfOk, OnOk, map, replicate, false, filter};
 ghost use Rattle.rv_word.specs.Values.{wrap};
 ghost use Rattle.rv_asm.specs.Layout.{value_bytes, data_of, unescaped, escaped_byte};
-ghost use Rattle.rv_asm.specs.DraftSeen.{placed_seen, mark_seen};
+ghost use Rattle.rv_asm.specs.DraftSeen.{placed_seen, declaration_seen};
 ghost use Rattle.rv_asm.specs.Assembly.{ends_after, first_or, symbol_kind, symbol_size, symbol_of, symbols_from, is_own, belongs, belonging, symbols_of, data_bytes, segment, segments_of, entry_at, image_of};
 
-use crate::draft::{DATA_START, Draft, Mark, MarkKind, Placed, TEXT_START};
+use crate::draft::{DATA_START, Declaration, DeclarationKind, Draft, Placed, TEXT_START};
 use crate::layout::padding;
 use crate::statement::{Statement, ValueWidth};
 use pn_types::{Image, PROGRAM_MODULE, Segment, Seq, SymKind, Symbol, Text};
@@ -92,16 +92,16 @@ fn text(alloc: Global, bytes: &[u8]) -> Result<Text, AllocError>
     Ok(Text::from_vec(bytes.to_vec(alloc)?))
 }
 
-/// The ends that a mark leaves: a procedure takes the first.
-fn ends_after<'b>(kind: MarkKind, ends: &'b [u128]) -> &'b [u128]
+/// The ends that a declaration leaves: a procedure takes the first.
+fn ends_after<'b>(kind: DeclarationKind, ends: &'b [u128]) -> &'b [u128]
     ensures { result.now ≡ ends_after kind ends.now }
 {
     match kind {
-        MarkKind::Procedure => match ends.split_first() {
+        DeclarationKind::Procedure => match ends.split_first() {
             Some((_, rest)) => rest,
             None => ends,
         },
-        MarkKind::Object(_) => ends,
+        DeclarationKind::Object(_) => ends,
     }
 }
 
@@ -122,36 +122,36 @@ fn low(number: u128) -> u64
     (number % 0x1_0000_0000_0000_0000) as u64
 }
 
-/// What the symbol of such a mark stands for.
-fn symbol_kind(kind: MarkKind) -> SymKind
+/// What the symbol of such a declaration stands for.
+fn symbol_kind(kind: DeclarationKind) -> SymKind
     ensures { result ≡ symbol_kind kind }
 {
     match kind {
-        MarkKind::Procedure => SymKind::Func,
-        MarkKind::Object(_) => SymKind::Object,
+        DeclarationKind::Procedure => SymKind::Func,
+        DeclarationKind::Object(_) => SymKind::Object,
     }
 }
 
 /// The size of what begins at the address, if the next procedure ends at the first of these.
-fn symbol_size(at: u128, kind: MarkKind, ends: &[u128]) -> u128
+fn symbol_size(at: u128, kind: DeclarationKind, ends: &[u128]) -> u128
     ensures { result ≡ symbol_size at kind ends.now }
 {
     match kind {
-        MarkKind::Procedure => first_or(at, ends).saturating_sub(at),
-        MarkKind::Object(size) => size,
+        DeclarationKind::Procedure => first_or(at, ends).saturating_sub(at),
+        DeclarationKind::Object(size) => size,
     }
 }
 
-/// The symbol of the mark, if the next procedure ends at the first of these.
+/// The symbol of the declaration, if the next procedure ends at the first of these.
 #[tactic(auto, unfolding(crate::specs::Assembly::symbol_of))]
-fn symbol(alloc: Global, mark: &Mark, ends: &[u128]) -> Result<Symbol, AllocError>
-    ensures { IfOk result (λ symbol. symbol ≡ symbol_of (mark_seen mark.now) ends.now) }
+fn symbol(alloc: Global, declaration: &Declaration, ends: &[u128]) -> Result<Symbol, AllocError>
+    ensures { IfOk result (λ symbol. symbol ≡ symbol_of (declaration_seen declaration.now) ends.now) }
 {
-    let name = text(alloc, mark.name)?;
-    let module = text(alloc, mark.module)?;
-    let at = low(mark.at);
-    let kind = symbol_kind(mark.kind);
-    let size = low(symbol_size(mark.at, mark.kind, ends));
+    let name = text(alloc, declaration.name)?;
+    let module = text(alloc, declaration.module)?;
+    let at = low(declaration.at);
+    let kind = symbol_kind(declaration.kind);
+    let size = low(symbol_size(declaration.at, declaration.kind, ends));
     Ok(Symbol {
         name,
         kind,
@@ -182,48 +182,48 @@ fn add_symbols(
     draft: &Draft,
     own: bool,
 ) -> Result<(), AllocError>
-    ensures { OnOk result (symbols.new.items ≡ symbols.old.items ++ belonging own (symbols_from draft.now.ends draft.now.marks)) }
+    ensures { OnOk result (symbols.new.items ≡ symbols.old.items ++ belonging own (symbols_from draft.now.ends draft.now.declarations)) }
 {
     add_belonging(
         alloc,
         symbols,
-        draft.marks.as_slice(),
+        draft.declarations.as_slice(),
         draft.ends.as_slice(),
         own,
     )
 }
 
-/// Adds the symbol of the mark, if it belongs to the program itself, or to another module.
+/// Adds the symbol of the declaration, if it belongs to the program itself, or to another module.
 #[tactic(auto, unfolding(crate::specs::Assembly::symbol_of))]
 fn add_symbol(
     alloc: Global,
     symbols: &mut Vec<Symbol>,
-    mark: &Mark,
+    declaration: &Declaration,
     ends: &[u128],
     own: bool,
 ) -> Result<(), AllocError>
-    ensures { OnOk result (symbols.new.items ≡ symbols.old.items ++ belonging own (symbol_of (mark_seen mark.now) ends.now ∷ [])) }
+    ensures { OnOk result (symbols.new.items ≡ symbols.old.items ++ belonging own (symbol_of (declaration_seen declaration.now) ends.now ∷ [])) }
 {
-    if belongs(own, mark.module) {
-        symbols.push(symbol(alloc, mark, ends)?)?;
+    if belongs(own, declaration.module) {
+        symbols.push(symbol(alloc, declaration, ends)?)?;
     }
     Ok(())
 }
 
-/// Adds the symbols of these marks that belong to the program itself, or to other modules.
+/// Adds the symbols of these declarations that belong to the program itself, or to other modules.
 fn add_belonging(
     alloc: Global,
     symbols: &mut Vec<Symbol>,
-    marks: &[Mark],
+    declarations: &[Declaration],
     ends: &[u128],
     own: bool,
 ) -> Result<(), AllocError>
-    ensures { OnOk result (symbols.new.items ≡ symbols.old.items ++ belonging own (symbols_from ends.now (map mark_seen marks.now))) }
+    ensures { OnOk result (symbols.new.items ≡ symbols.old.items ++ belonging own (symbols_from ends.now (map declaration_seen declarations.now))) }
 {
     let mut left = ends;
-    for mark in marks {
-        add_symbol(alloc, symbols, mark, left, own)?;
-        left = ends_after(mark.kind, left);
+    for declaration in declarations {
+        add_symbol(alloc, symbols, declaration, left, own)?;
+        left = ends_after(declaration.kind, left);
     }
     Ok(())
 }

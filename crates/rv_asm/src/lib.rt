@@ -2,8 +2,8 @@
 //!
 //! What a text stands for is a definition in `specs/`, from the whole down: `Assembly` (the image, and what is wrong with
 //! the whole), `FirstPass` (the lines in order) and `SecondPass` (words, jumps and addresses), `Checks` (where a statement
-//! stands, which numbers fit) and `Layout` (bytes of a statement), `Parsing` (comments, labels, a line), `Statements` and
-//! `Operations` (the tables), `Operands`, `Tokens`, `Numbers`, `Registers` and `Bytes`.
+//! stands, which numbers fit) and `Layout` (bytes of a statement), `Parsing` (comments, labels, a line), `Statements` (the
+//! table of forms) and `Operations` (its mnemonics), `Operands`, `Tokens`, `Numbers`, `Registers` and `Bytes`.
 #![tactic(auto)]
 
 mod addresses;

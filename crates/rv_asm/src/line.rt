@@ -2,18 +2,18 @@
 
 ghost use Rattle.std.specs.Prelude.{◌≡◌, ◌<◌, ◌≤◌, IfOk, IfSome, length, map};
 ghost use Rattle.std.specs.Option.{option_map};
-ghost use Rattle.rv_asm.specs.Parsing.{place_after, starts_comment, code_len, label_at, labels_of, is_parted, statement_at, body_of, line_of};
+ghost use Rattle.rv_asm.specs.Parsing.{quoting_after, starts_comment, code_len, label_at, labels_of, is_parted, statement_at, body_of, line_of};
 ghost use Rattle.rv_asm.specs.Seen.{line_seen};
-ghost use Rattle.rv_asm.specs.declared.line.Place.TheVariants.{Outside};
+ghost use Rattle.rv_asm.specs.declared.line.Quoting.TheVariants.{Outside};
 
 use crate::named::operation;
 use crate::statement::Statement;
 use crate::token::{is_name, skip_blanks, word};
 use std::alloc::{AllocError, Global};
 
-/// Where a byte of a line stands.
+/// Whether a byte of a line stands in a string.
 #[derive(Clone, Copy)]
-enum Place {
+enum Quoting {
     /// Outside a string.
     Outside,
     /// In a string.
@@ -30,23 +30,23 @@ pub(crate) struct ParsedLine<'a> {
     pub(crate) text: &'a [u8],
 }
 
-impl Place {
-    /// The place behind the byte.
-    fn after(self, byte: u8) -> Place
-        ensures { result ≡ place_after self byte }
+impl Quoting {
+    /// What holds behind the byte.
+    fn after(self, byte: u8) -> Quoting
+        ensures { result ≡ quoting_after self byte }
     {
         match self {
-            Place::Outside => if byte == b'"' {
-                Place::Quoted
+            Quoting::Outside => if byte == b'"' {
+                Quoting::Quoted
             } else {
-                Place::Outside
+                Quoting::Outside
             },
-            Place::Quoted => match byte {
-                b'"' => Place::Outside,
-                b'\\' => Place::Escaped,
-                _ => Place::Quoted,
+            Quoting::Quoted => match byte {
+                b'"' => Quoting::Outside,
+                b'\\' => Quoting::Escaped,
+                _ => Quoting::Quoted,
             },
-            Place::Escaped => Place::Quoted,
+            Quoting::Escaped => Quoting::Quoted,
         }
     }
 
@@ -55,8 +55,8 @@ impl Place {
         ensures { result ≡ starts_comment self byte }
     {
         match self {
-            Place::Outside => byte == b'#',
-            Place::Quoted | Place::Escaped => false,
+            Quoting::Outside => byte == b'#',
+            Quoting::Quoted | Quoting::Escaped => false,
         }
     }
 }
@@ -66,12 +66,12 @@ fn code_len(line: &[u8]) -> usize
     ensures len { result ≡ code_len Outside line.now }
     ensures within { result ≤ length line.now }
 {
-    let mut place = Place::Outside;
+    let mut quoting = Quoting::Outside;
     for (i, byte) in line.iter().enumerate() {
-        if place.starts_comment(*byte) {
+        if quoting.starts_comment(*byte) {
             return i;
         }
-        place = place.after(*byte);
+        quoting = quoting.after(*byte);
     }
     line.len()
 }

@@ -1,9 +1,13 @@
 //! Statements with a name or a string, by their names and operands.
 
 ghost use Rattle.std.specs.Prelude.{◌≡◌};
-ghost use Rattle.std.specs.Option.{option_map};
+ghost use Rattle.std.specs.Option.{option_and_then, option_map};
+ghost use Rattle.rv_word.specs.declared.instr.Instr.TheVariants as instr;
+ghost use Rattle.rv_asm.specs.declared.statement.Statement.TheVariants as the;
 ghost use Rattle.rv_asm.specs.Registers.{named};
-ghost use Rattle.rv_asm.specs.Statements.{branch_statement, zero_branch_statement, before_name, name_statement, jal_statement, la_statement, object_statement, ascii_statement, named_single_statement, named_statement, operation};
+ghost use Rattle.rv_asm.specs.Operands.{name_number, one_name, one_string, register_name, registers_name};
+ghost use Rattle.rv_asm.specs.Operations.{branch_ops, zero_branch_ops};
+ghost use Rattle.rv_asm.specs.Statements.{◌⇒◌, Found, joined, made_by, before_name, named_singles, named_forms, operation};
 
 use crate::operands::{name_number, one_name, one_string, register_name, registers_name};
 use crate::operations::{branch_op, zero_branch_op};
@@ -12,9 +16,8 @@ use crate::statement::Statement;
 use rv_word::Instr;
 
 /// A branch.
-#[tactic(auto, unfolding(crate::specs::Statements::branch_statement))]
 fn branch_statement<'a>(name: &[u8], text: &'a [u8]) -> Option<(Statement, &'a [u8])>
-    ensures { option_map (λ found. (found.0, found.1.now)) result ≡ branch_statement name.now text.now }
+    ensures { option_map {U = Found} (λ found. (found.0, found.1.now)) result ≡ option_and_then (λ op. (registers_name ⇒ λ r. (the.Jump (instr.Branch op r.0 r.1 0), r.2)) text.now) (named name.now branch_ops) }
 {
     let op = branch_op(name)?;
     let (rs1, rs2, target) = registers_name(text)?;
@@ -28,9 +31,8 @@ fn branch_statement<'a>(name: &[u8], text: &'a [u8]) -> Option<(Statement, &'a [
 }
 
 /// A branch on a register and zero.
-#[tactic(auto, unfolding(crate::specs::Statements::zero_branch_statement))]
 fn zero_branch_statement<'a>(name: &[u8], text: &'a [u8]) -> Option<(Statement, &'a [u8])>
-    ensures { option_map (λ found. (found.0, found.1.now)) result ≡ zero_branch_statement name.now text.now }
+    ensures { option_map {U = Found} (λ found. (found.0, found.1.now)) result ≡ option_and_then (λ op. (register_name ⇒ λ r. (the.Jump (instr.Branch op r.0 0 0), r.1)) text.now) (named name.now zero_branch_ops) }
 {
     let op = zero_branch_op(name)?;
     let (rs1, target) = register_name(text)?;
@@ -59,9 +61,8 @@ fn before_name(name: &[u8]) -> Option<Statement>
 }
 
 /// A statement that a name alone follows.
-#[tactic(auto, unfolding(crate::specs::Statements::name_statement))]
 fn name_statement<'a>(name: &[u8], text: &'a [u8]) -> Option<(Statement, &'a [u8])>
-    ensures { option_map (λ found. (found.0, found.1.now)) result ≡ name_statement name.now text.now }
+    ensures { option_map {U = Found} (λ found. (found.0, found.1.now)) result ≡ option_and_then (λ statement. (one_name ⇒ λ name. (statement, name)) text.now) (named name.now before_name) }
 {
     let statement = before_name(name)?;
     let operand = one_name(text)?;
@@ -69,45 +70,40 @@ fn name_statement<'a>(name: &[u8], text: &'a [u8]) -> Option<(Statement, &'a [u8
 }
 
 /// `jal rd, NAME`
-#[tactic(auto, unfolding(crate::specs::Statements::jal_statement))]
 fn jal_statement<'a>(text: &'a [u8]) -> Option<(Statement, &'a [u8])>
-    ensures { option_map (λ found. (found.0, found.1.now)) result ≡ jal_statement text.now }
+    ensures { option_map {U = Found} (λ found. (found.0, found.1.now)) result ≡ (register_name ⇒ λ r. (the.Jump (instr.Jal r.0 0), r.1)) text.now }
 {
     let (rd, target) = register_name(text)?;
     Some((Statement::Jump(Instr::Jal { rd, offset: 0 }), target))
 }
 
 /// `la rd, NAME`
-#[tactic(auto, unfolding(crate::specs::Statements::la_statement))]
 fn la_statement<'a>(text: &'a [u8]) -> Option<(Statement, &'a [u8])>
-    ensures { option_map (λ found. (found.0, found.1.now)) result ≡ la_statement text.now }
+    ensures { option_map {U = Found} (λ found. (found.0, found.1.now)) result ≡ (register_name ⇒ λ r. (the.LoadAddress r.0, r.1)) text.now }
 {
     let (rd, target) = register_name(text)?;
     Some((Statement::LoadAddress(rd), target))
 }
 
 /// `.object NAME N`
-#[tactic(auto, unfolding(crate::specs::Statements::object_statement))]
 fn object_statement<'a>(text: &'a [u8]) -> Option<(Statement, &'a [u8])>
-    ensures { option_map (λ found. (found.0, found.1.now)) result ≡ object_statement text.now }
+    ensures { option_map {U = Found} (λ found. (found.0, found.1.now)) result ≡ (name_number ⇒ λ r. (the.Object r.1, r.0)) text.now }
 {
     let (object, size) = name_number(text)?;
     Some((Statement::Object(size), object))
 }
 
 /// `.ascii "text"`
-#[tactic(auto, unfolding(crate::specs::Statements::ascii_statement))]
 fn ascii_statement<'a>(text: &'a [u8]) -> Option<(Statement, &'a [u8])>
-    ensures { option_map (λ found. (found.0, found.1.now)) result ≡ ascii_statement text.now }
+    ensures { option_map {U = Found} (λ found. (found.0, found.1.now)) result ≡ (one_string ⇒ λ bytes. (the.Ascii, bytes)) text.now }
 {
     let bytes = one_string(text)?;
     Some((Statement::Ascii, bytes))
 }
 
 /// A statement with a name or a string whose form no other has.
-#[tactic(auto, unfolding(crate::specs::Statements::named_single_statement))]
 fn named_single_statement<'a>(name: &[u8], text: &'a [u8]) -> Option<(Statement, &'a [u8])>
-    ensures { option_map (λ found. (found.0, found.1.now)) result ≡ named_single_statement name.now text.now }
+    ensures { option_map {U = Found} (λ found. (found.0, found.1.now)) result ≡ made_by named_singles name.now text.now }
 {
     if name == b".object".as_slice() {
         return object_statement(text);
@@ -123,9 +119,8 @@ fn named_single_statement<'a>(name: &[u8], text: &'a [u8]) -> Option<(Statement,
 }
 
 /// A statement with a name or a string.
-#[tactic(auto, unfolding(crate::specs::Statements::named_statement))]
 fn named_statement<'a>(name: &[u8], text: &'a [u8]) -> Option<(Statement, &'a [u8])>
-    ensures { option_map (λ found. (found.0, found.1.now)) result ≡ named_statement name.now text.now }
+    ensures { option_map {U = Found} (λ found. (found.0, found.1.now)) result ≡ made_by (joined named_forms) name.now text.now }
 {
     branch_statement(name, text)
         .or(zero_branch_statement(name, text))
@@ -135,9 +130,8 @@ fn named_statement<'a>(name: &[u8], text: &'a [u8]) -> Option<(Statement, &'a [u
 
 /// A statement by its name and what stands behind it, with the name or the string that it has, else with nothing.
 /// None where it has no form.
-#[tactic(auto, unfolding(crate::specs::Statements::operation))]
 pub(crate) fn operation<'a>(name: &[u8], text: &'a [u8]) -> Option<(Statement, &'a [u8])>
-    ensures { option_map (λ found. (found.0, found.1.now)) result ≡ operation name.now text.now }
+    ensures { option_map {U = Found} (λ found. (found.0, found.1.now)) result ≡ operation name.now text.now }
 {
     match plain_statement(name, text) {
         Some(statement) => Some((statement, &[])),

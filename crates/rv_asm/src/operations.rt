@@ -2,12 +2,12 @@
 
 ghost use Rattle.std.specs.Prelude.{◌≡◌};
 ghost use Rattle.rv_asm.specs.Registers.{named};
-ghost use Rattle.rv_asm.specs.Operations.{base_ops, product_ops, quotient_ops, register_ops_32, immediate_ops, shift_ops, shift_ops_32, load_ops, store_ops, branch_ops, zero_branch_ops, atomic_ops, atomic_widths};
+ghost use Rattle.rv_asm.specs.Operations.{base_ops, product_ops, quotient_ops, register_ops, register_ops_32, immediate_ops, shift_ops, shift_ops_32, load_ops, store_ops, branch_ops, zero_branch_ops, atomic_ops, atomic_widths};
 
 use rv_word::{AmoOp, AtomicWidth, BranchOp, ImmOp, LoadOp, RegOp, RegOp32, ShiftOp, StoreOp};
 
 /// What this name stands for: on two registers.
-pub(crate) fn base_op(name: &[u8]) -> Option<RegOp>
+fn base_op(name: &[u8]) -> Option<RegOp>
     ensures { result ≡ named name.now base_ops }
 {
     match name {
@@ -26,7 +26,7 @@ pub(crate) fn base_op(name: &[u8]) -> Option<RegOp>
 }
 
 /// What this name stands for: a product of two registers.
-pub(crate) fn product_op(name: &[u8]) -> Option<RegOp>
+fn product_op(name: &[u8]) -> Option<RegOp>
     ensures { result ≡ named name.now product_ops }
 {
     if name == b"mulhsu".as_slice() {
@@ -41,7 +41,7 @@ pub(crate) fn product_op(name: &[u8]) -> Option<RegOp>
 }
 
 /// What this name stands for: a quotient or remainder of two registers.
-pub(crate) fn quotient_op(name: &[u8]) -> Option<RegOp>
+fn quotient_op(name: &[u8]) -> Option<RegOp>
     ensures { result ≡ named name.now quotient_ops }
 {
     match name {
@@ -51,6 +51,13 @@ pub(crate) fn quotient_op(name: &[u8]) -> Option<RegOp>
         b"remu" => Some(RegOp::Remu),
         _ => None,
     }
+}
+
+/// What this name stands for: any on two registers.
+pub(crate) fn register_op(name: &[u8]) -> Option<RegOp>
+    ensures { result ≡ named name.now register_ops }
+{
+    base_op(name).or(product_op(name).or(quotient_op(name)))
 }
 
 /// What this name stands for: on the low halves of two registers.

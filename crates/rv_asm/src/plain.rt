@@ -1,8 +1,11 @@
 //! Statements without a name or a string, by their names and operands.
 
 ghost use Rattle.std.specs.Prelude.{◌≡◌};
+ghost use Rattle.std.specs.Option.{option_and_then};
+ghost use Rattle.rv_asm.specs.declared.statement.Statement.TheVariants as the;
 ghost use Rattle.rv_asm.specs.Registers.{named};
-ghost use Rattle.rv_asm.specs.Statements.{fixed, fixed_statement, value_widths, value_statement, plain_statement};
+ghost use Rattle.rv_asm.specs.Operands.{alone, one_number};
+ghost use Rattle.rv_asm.specs.Statements.{◌⇒◌, joined, made_by, fixed, value_widths, plain_forms};
 
 use crate::groups::{
     atomic_statement, base_statement, half_shift_statement, half_statement, immediate_statement,
@@ -47,9 +50,8 @@ fn fixed(name: &[u8]) -> Option<Statement>
 }
 
 /// A statement that no operands follow.
-#[tactic(auto, unfolding(crate::specs::Statements::fixed_statement))]
 fn fixed_statement(name: &[u8], text: &[u8]) -> Option<Statement>
-    ensures { result ≡ fixed_statement name.now text.now }
+    ensures { result ≡ option_and_then (λ statement. alone statement text.now) (named name.now fixed) }
 {
     let statement = fixed(name)?;
     if is_end(text) { Some(statement) } else { None }
@@ -71,9 +73,8 @@ fn value_width(name: &[u8]) -> Option<ValueWidth>
 }
 
 /// A value of some bytes.
-#[tactic(auto, unfolding(crate::specs::Statements::value_statement))]
 fn value_statement(name: &[u8], text: &[u8]) -> Option<Statement>
-    ensures { result ≡ value_statement name.now text.now }
+    ensures { result ≡ option_and_then (λ size. (one_number ⇒ λ n. the.Value size n) text.now) (named name.now value_widths) }
 {
     let width = value_width(name)?;
     let number = one_number(text)?;
@@ -81,9 +82,8 @@ fn value_statement(name: &[u8], text: &[u8]) -> Option<Statement>
 }
 
 /// A statement without a name or a string, by its name and what stands behind it. None where it has no form.
-#[tactic(auto, unfolding(crate::specs::Statements::plain_statement))]
 pub(crate) fn plain_statement(name: &[u8], text: &[u8]) -> Option<Statement>
-    ensures { result ≡ plain_statement name.now text.now }
+    ensures { result ≡ made_by (joined plain_forms) name.now text.now }
 {
     fixed_statement(name, text)
         .or(base_statement(name, text))
