@@ -1,13 +1,14 @@
 -- The readers of words one of which is chosen.
-use Rattle.std.proofs.Common.{◌≡◌, ℕ, Bool, true, false, List, Some, None, refl, sym, ap, ◌∙◌, codes, cond, ◌⊎◌, inl, inr, subst}
+use Rattle.std.proofs.Common.{◌≡◌, ℕ, Bool, true, false, List, [], ◌∷◌, Some, refl, ap, ◌∙◌, cond, subst}
 use Rattle.std.specs.Prelude.{bytes_eq}
+use Rattle.std.specs.List.{AllByRecursion}
 use Rattle.std.proofs.lemmas.Slice.Eq.{bytes_eq-Decides}
 use Rattle.pn_types.specs.declared.compare.Cmp.{Cmp}
 use Rattle.pn_types.specs.declared.compare.Cmp.TheVariants.{Eq, Ne, Lt, Le, Gt, Ge}
-use Rattle.pn_text.specs.Words.{Word, NameWord, NumberWord, QuotedWord, FocusPath, DollarFocus, DollarAll, DollarMetric, DollarValue, DollarArg, SignWord}
+use Rattle.pn_text.specs.Words.{Word, NameWord, NumberWord, DollarFocus, DollarAll, DollarMetric, DollarValue, DollarArg, SignWord}
 use Rattle.pn_text.specs.declared.token.Sign.{Sign}
 use Rattle.pn_text.specs.declared.token.Sign.TheVariants.{PlusPlus, MinusMinus, Assign, Equal, NotEqual, Less, LessEqual, Greater, GreaterEqual}
-use Rattle.mdl_parse.specs.Spots.{IsWord}
+use Rattle.mdl_parse.specs.WordsInText.{IsWord}
 use Rattle.mdl_ast.specs.declared.action.VarName.{VarName}
 use Rattle.mdl_ast.specs.declared.action.VarName.TheVariants.{Named, TheMetric}
 use Rattle.mdl_ast.specs.declared.action.RightSide.{RightSide}
@@ -18,51 +19,35 @@ use Rattle.mdl_ast.specs.declared.block.Set.{Set}
 use Rattle.mdl_ast.specs.declared.block.Set.TheVariants as set
 use Rattle.mdl_parse.specs.declared.change.Change.{Change}
 use Rattle.mdl_parse.specs.declared.change.Change.TheVariants.{Up, Down, Put}
-use Rattle.mdl_parse.specs.Picks.{when, choice_of, event_named, event_of, var_of, right_of, sign_cmp, cmp_of, sign_step, step_of, whole_of}
+use Rattle.mdl_parse.specs.Picks.{row_of, choices, choice_of, events, event_of, var_of, right_of, sign_cmp, cmp_of, sign_step, step_of, whole_of}
 use Rattle.mdl_parse.specs.Readers.{choice_at, event_at, var_at, right_at, cmp_at, step_at, whole_at}
 use Rattle.mdl_parse.specs.Grammar.{keyword, var_word, right_word, cmp_sign, event_name}
+use Rattle.mdl_parse.specs.Shapes.{SetShaped}
 use Rattle.mdl_parse.proofs.Readers.{Reads, closed, any, one as one_word, plainly, leaf_reads}
+use Rattle.mdl_parse.proofs.Options.{of_kind}
 use Rattle.mdl_parse.proofs.Combine.{leaf_any}
-use Rattle.mdl_parse.proofs.LeafRules.{when_some}
 
 -- ---- choices
 
 pub some_is : {A : Type 0} (x y : A) → Some x ≡ Some y → x ≡ y
 some_is x y e = cc
 
-pub chosen : {A : Type 0} (b : Bool) (x y z : A) → cond b x y ≡ z → ((b ≡ true) × (x ≡ z)) ⊎ ((b ≡ false) × (y ≡ z))
-chosen true x y z e = inl (refl, e)
-chosen false x y z e = inr (refl, e)
+-- what a table of names says of a name
+table_is : {A : Type 0} (name_of : A → List ℕ) (rows : List (List ℕ × A)) (name : List ℕ) (a : A) → AllByRecursion (λ row. row.0 ≡ name_of row.1) rows → row_of rows name ≡ Some a → name ≡ name_of a
+table_is name_of [] name a same e = absurd cc
+table_is name_of (row ∷ rows) name a same e = go (bytes_eq name row.0) refl e (λ e. table_is name_of rows name a same.1 e)
+  where
+    go : (b : Bool) → bytes_eq name row.0 ≡ b → cond b (Some row.1) (row_of rows name) ≡ Some a → (row_of rows name ≡ Some a → name ≡ name_of a) → name ≡ name_of a
+    go true h e others = (bytes_eq-Decides name row.0).0 h ∙ same.0 ∙ ap name_of (some_is row.1 a e)
+    go false h e others = others e
 
 -- the first or the second keyword
 abbrev pub choice_word : List ℕ → List ℕ → Bool → Word
 choice_word one other b = keyword (cond b one other)
 
-choice_named : (one other name : List ℕ) (b : Bool) → cond (bytes_eq name one) (Some true) (when (bytes_eq name other) false) ≡ Some b → name ≡ cond b one other
-choice_named one other name b e = elim (chosen (bytes_eq name one) (Some true) (when (bytes_eq name other) false) (Some b) e) [
-  | inl p ↦ first b p.0 p.1
-  | inr p ↦ second b p.1 (when_some (bytes_eq name other) false b p.1)
-]
-  where
-    first : (b : Bool) → bytes_eq name one ≡ true → Some true ≡ Some b → name ≡ cond b one other
-    first true h e = (bytes_eq-Decides name one).0 h
-    first false h e = absurd cc
-
-    second : (b : Bool) → when (bytes_eq name other) false ≡ Some b → bytes_eq name other ≡ true → name ≡ cond b one other
-    second true e h = absurd (let e2 : Some false ≡ Some true = sym (ap (λ (t : Bool). when t false) h) ∙ e in cc)
-    second false e h = (bytes_eq-Decides name other).0 h
-
 choice_picked : (one other : List ℕ) (w : Word) (b : Bool) → choice_of one other w ≡ Some b → w ≡ choice_word one other b
-choice_picked one other (NameWord x) b e = ap NameWord (choice_named one other x b e)
-choice_picked one other (NumberWord x) b e = absurd cc
-choice_picked one other (QuotedWord x) b e = absurd cc
-choice_picked one other (FocusPath x) b e = absurd cc
-choice_picked one other DollarFocus b e = absurd cc
-choice_picked one other DollarAll b e = absurd cc
-choice_picked one other DollarMetric b e = absurd cc
-choice_picked one other DollarValue b e = absurd cc
-choice_picked one other DollarArg b e = absurd cc
-choice_picked one other (SignWord x) b e = absurd cc
+choice_picked one other (NameWord x) b e = ap NameWord (table_is (λ is_one. cond is_one one other) (choices one other) x b (refl, (refl, tt)) e)
+choice_picked one other w b e = absurd cc
 
 choice_again : (one other : List ℕ) → bytes_eq other one ≡ false → (b : Bool) → choice_of one other (choice_word one other b) ≡ Some b
 choice_again one other apart true = rw ((bytes_eq-Decides one one).1 refl) refl
@@ -71,35 +56,9 @@ choice_again one other apart false = rw (apart, (bytes_eq-Decides other other).1
 pub choice_reads : (one other : List ℕ) → bytes_eq other one ≡ false → IsWord (keyword one) → Reads (λ n. choice_at one other) (one_word (choice_word one other)) any closed
 choice_reads one other apart good = leaf_any (choice_of one other) (choice_word one other) (choice_picked one other) (choice_again one other apart) true good
 
-event_named-is : (name : List ℕ) (k : EventKind) → event_named name ≡ Some k → name ≡ event_name k
-event_named-is name k e = elim (chosen (bytes_eq name (codes "entry")) (Some Entry) (cond (bytes_eq name (codes "return")) (Some Return) (cond (bytes_eq name (codes "call")) (Some Call) (when (bytes_eq name (codes "after")) After))) (Some k) e) [
-  | inl p ↦ known (codes "entry") Entry k p.0 refl p.1
-  | inr p ↦ elim (chosen (bytes_eq name (codes "return")) (Some Return) (cond (bytes_eq name (codes "call")) (Some Call) (when (bytes_eq name (codes "after")) After)) (Some k) p.1) [
-    | inl q ↦ known (codes "return") Return k q.0 refl q.1
-    | inr q ↦ elim (chosen (bytes_eq name (codes "call")) (Some Call) (when (bytes_eq name (codes "after")) After) (Some k) q.1) [
-      | inl r ↦ known (codes "call") Call k r.0 refl r.1
-      | inr r ↦ elim (chosen (bytes_eq name (codes "after")) (Some After) None (Some k) r.1) [
-        | inl t ↦ known (codes "after") After k t.0 refl t.1
-        | inr t ↦ absurd cc
-      ]
-    ]
-  ]
-]
-  where
-    known : (text : List ℕ) (found k : EventKind) → bytes_eq name text ≡ true → event_name found ≡ text → Some found ≡ Some k → name ≡ event_name k
-    known text found k h t e = (bytes_eq-Decides name text).0 h ∙ sym t ∙ ap event_name cc
-
 event_picked : (w : Word) (k : EventKind) → event_of w ≡ Some k → w ≡ keyword (event_name k)
-event_picked (NameWord x) k e = ap NameWord (event_named-is x k e)
-event_picked (NumberWord x) k e = absurd cc
-event_picked (QuotedWord x) k e = absurd cc
-event_picked (FocusPath x) k e = absurd cc
-event_picked DollarFocus k e = absurd cc
-event_picked DollarAll k e = absurd cc
-event_picked DollarMetric k e = absurd cc
-event_picked DollarValue k e = absurd cc
-event_picked DollarArg k e = absurd cc
-event_picked (SignWord x) k e = absurd cc
+event_picked (NameWord x) k e = ap NameWord (table_is event_name events x k (refl, (refl, (refl, (refl, tt)))) e)
+event_picked w k e = absurd cc
 
 event_again : (k : EventKind) → event_of (keyword (event_name k)) ≡ Some k
 event_again Entry = refl
@@ -110,19 +69,12 @@ event_again Call = refl
 pub event_reads : Reads (λ n. event_at) (one_word (λ k. keyword (event_name k))) any closed
 event_reads = leaf_any event_of (λ k. keyword (event_name k)) event_picked event_again Entry refl
 
-var_picked : (w : Word) (v : VarName) → var_of w ≡ Some v → w ≡ var_word v
+pub var_picked : (w : Word) (v : VarName) → var_of w ≡ Some v → w ≡ var_word v
 var_picked (NameWord x) v e = ap var_word (some_is (Named x) v e)
-var_picked (NumberWord x) v e = absurd cc
-var_picked (QuotedWord x) v e = absurd cc
-var_picked (FocusPath x) v e = absurd cc
-var_picked DollarFocus v e = absurd cc
-var_picked DollarAll v e = absurd cc
 var_picked DollarMetric v e = ap var_word (some_is TheMetric v e)
-var_picked DollarValue v e = absurd cc
-var_picked DollarArg v e = absurd cc
-var_picked (SignWord x) v e = absurd cc
+var_picked w v e = absurd cc
 
-var_again : (v : VarName) → var_of (var_word v) ≡ Some v
+pub var_again : (v : VarName) → var_of (var_word v) ≡ Some v
 var_again (Named name) = refl
 var_again TheMetric = refl
 
@@ -130,16 +82,9 @@ pub var_reads : Reads (λ n. var_at) (one_word var_word) any closed
 var_reads = leaf_any var_of var_word var_picked var_again TheMetric refl
 
 right_picked : (w : Word) (v : RightSide) → right_of w ≡ Some v → w ≡ right_word v
-right_picked (NameWord x) v e = absurd cc
 right_picked (NumberWord x) v e = ap right_word (some_is (Number x) v e)
-right_picked (QuotedWord x) v e = absurd cc
-right_picked (FocusPath x) v e = absurd cc
-right_picked DollarFocus v e = absurd cc
-right_picked DollarAll v e = absurd cc
-right_picked DollarMetric v e = absurd cc
 right_picked DollarValue v e = ap right_word (some_is Value v e)
-right_picked DollarArg v e = absurd cc
-right_picked (SignWord x) v e = absurd cc
+right_picked w v e = absurd cc
 
 right_again : (v : RightSide) → right_of (right_word v) ≡ Some v
 right_again (Number n) = refl
@@ -163,16 +108,8 @@ cmp_sign-is GreaterEqual c e = ap cmp_word (some_is Ge c e)
 cmp_sign-is sign c e = absurd cc
 
 cmp_picked : (w : Word) (c : Cmp) → cmp_of w ≡ Some c → w ≡ cmp_word c
-cmp_picked (NameWord x) c e = absurd cc
-cmp_picked (NumberWord x) c e = absurd cc
-cmp_picked (QuotedWord x) c e = absurd cc
-cmp_picked (FocusPath x) c e = absurd cc
-cmp_picked DollarFocus c e = absurd cc
-cmp_picked DollarAll c e = absurd cc
-cmp_picked DollarMetric c e = absurd cc
-cmp_picked DollarValue c e = absurd cc
-cmp_picked DollarArg c e = absurd cc
 cmp_picked (SignWord x) c e = cmp_sign-is x c e
+cmp_picked w c e = absurd cc
 
 cmp_again : (c : Cmp) → cmp_of (cmp_word c) ≡ Some c
 cmp_again Eq = refl
@@ -186,74 +123,63 @@ pub cmp_reads : Reads (λ n. cmp_at) (one_word (λ c. SignWord (cmp_sign c))) an
 cmp_reads = leaf_any cmp_of cmp_word cmp_picked cmp_again Eq refl
 
 -- `++` and `--`
-abbrev pub IsStep : Change → Type 0
-IsStep Up = Unit {0}
-IsStep Down = Unit {0}
-IsStep (Put n) = ⊥
+abbrev pub is_put : Change → Bool
+is_put (Put n) = true
+is_put change = false
 
 abbrev pub step_word : Change → Word
 step_word Up = SignWord PlusPlus
 step_word Down = SignWord MinusMinus
 step_word (Put n) = SignWord Assign
 
+abbrev IsStep : Change → Type 0
+IsStep c = (is_put c ≡ false) × Unit {0}
+
 abbrev Stepped : Word → Change → Type 0
 Stepped w c = (w ≡ step_word c) × IsStep c
 
 step_sign-is : (sign : Sign) (c : Change) → sign_step sign ≡ Some c → Stepped (SignWord sign) c
-step_sign-is PlusPlus c e = subst (Stepped (SignWord PlusPlus)) (some_is Up c e) (refl, tt)
-step_sign-is MinusMinus c e = subst (Stepped (SignWord MinusMinus)) (some_is Down c e) (refl, tt)
+step_sign-is PlusPlus c e = subst (Stepped (SignWord PlusPlus)) (some_is Up c e) (refl, (refl, tt))
+step_sign-is MinusMinus c e = subst (Stepped (SignWord MinusMinus)) (some_is Down c e) (refl, (refl, tt))
 step_sign-is sign c e = absurd cc
 
 step_picked : (w : Word) (c : Change) → step_of w ≡ Some c → Stepped w c
-step_picked (NameWord x) c e = absurd cc
-step_picked (NumberWord x) c e = absurd cc
-step_picked (QuotedWord x) c e = absurd cc
-step_picked (FocusPath x) c e = absurd cc
-step_picked DollarFocus c e = absurd cc
-step_picked DollarAll c e = absurd cc
-step_picked DollarMetric c e = absurd cc
-step_picked DollarValue c e = absurd cc
-step_picked DollarArg c e = absurd cc
 step_picked (SignWord x) c e = step_sign-is x c e
+step_picked w c e = absurd cc
 
 step_again : (c : Change) → IsStep c → step_of (step_word c) ≡ Some c
 step_again Up h = refl
 step_again Down h = refl
-step_again (Put n) h = absurd h
+step_again (Put n) h = absurd (let e = h.0 in cc)
 
-pub step_reads : Reads (λ n. step_at) (one_word step_word) (plainly IsStep) closed
-step_reads = leaf_reads step_of step_word IsStep step_picked step_again Up tt refl
+pub step_reads : Reads (λ n. step_at) (one_word step_word) (of_kind is_put any false) closed
+step_reads = leaf_reads step_of step_word IsStep step_picked step_again Up (refl, tt) refl
 
 -- `$focus` and `$all`
-abbrev pub IsWhole : Set → Type 0
-IsWhole set.Focus = Unit {0}
-IsWhole set.All = Unit {0}
-IsWhole (set.Names names) = ⊥
+abbrev pub is_named : Set → Bool
+is_named (set.Names names) = true
+is_named s = false
 
 abbrev pub whole_word : Set → Word
 whole_word set.Focus = DollarFocus
 whole_word set.All = DollarAll
 whole_word (set.Names names) = DollarArg
 
+abbrev IsWhole : Set → Type 0
+IsWhole s = (is_named s ≡ false) × SetShaped s
+
 abbrev Wholly : Word → Set → Type 0
 Wholly w s = (w ≡ whole_word s) × IsWhole s
 
 whole_picked : (w : Word) (s : Set) → whole_of w ≡ Some s → Wholly w s
-whole_picked (NameWord x) s e = absurd cc
-whole_picked (NumberWord x) s e = absurd cc
-whole_picked (QuotedWord x) s e = absurd cc
-whole_picked (FocusPath x) s e = absurd cc
-whole_picked DollarFocus s e = subst (Wholly DollarFocus) (some_is set.Focus s e) (refl, tt)
-whole_picked DollarAll s e = subst (Wholly DollarAll) (some_is set.All s e) (refl, tt)
-whole_picked DollarMetric s e = absurd cc
-whole_picked DollarValue s e = absurd cc
-whole_picked DollarArg s e = absurd cc
-whole_picked (SignWord x) s e = absurd cc
+whole_picked DollarFocus s e = subst (Wholly DollarFocus) (some_is set.Focus s e) (refl, (refl, tt))
+whole_picked DollarAll s e = subst (Wholly DollarAll) (some_is set.All s e) (refl, (refl, tt))
+whole_picked w s e = absurd cc
 
 whole_again : (s : Set) → IsWhole s → whole_of (whole_word s) ≡ Some s
 whole_again set.Focus h = refl
 whole_again set.All h = refl
-whole_again (set.Names names) h = absurd h
+whole_again (set.Names names) h = absurd (let e = h.0 in cc)
 
-pub whole_reads : Reads (λ n. whole_at) (one_word whole_word) (plainly IsWhole) closed
-whole_reads = leaf_reads whole_of whole_word IsWhole whole_picked whole_again set.Focus tt refl
+pub whole_reads : Reads (λ n. whole_at) (one_word whole_word) (of_kind is_named (plainly SetShaped) false) closed
+whole_reads = leaf_reads whole_of whole_word IsWhole whole_picked whole_again set.Focus (refl, tt) refl

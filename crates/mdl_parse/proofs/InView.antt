@@ -2,7 +2,7 @@
 use Rattle.std.proofs.Common.{◌≡◌, ℕ, ◌≤◌, Option, Some, None, List, [], ◌∷◌, length, map, sym, ap, subst, ◌∙◌, arith}
 use Rattle.pn_text.specs.Scans.{Scan, AreSpans}
 use Rattle.pn_text.specs.declared.token.Token.{Token}
-use Rattle.mdl_parse.specs.Spots.{token_spot}
+use Rattle.mdl_parse.specs.WordsInText.{placed_word}
 use Rattle.mdl_parse.specs.Steps.{behind}
 use Rattle.mdl_parse.specs.Gives.{tokens_ahead, HasEnded, StandIn, in_view}
 
@@ -25,9 +25,9 @@ pub advanced_stands : (text : List ℕ) (token next : Option Token) (scan after 
 advanced_stands text None next scan after h e d = record { spans = subst (λ (t : List Token). AreSpans 0 t (length text)) (sym (e ∙ h.ended)) h.spans; ended = d }
 advanced_stands text (Some token) next scan after h e d = record { spans = subst (λ (t : List Token). AreSpans 0 t (length text)) (sym e) (spans_earlier token.to scan.tokens (length text) h.spans.2); ended = d }
 
-pub advanced_spots : (text : List ℕ) (token next : Option Token) (scan after : Scan) → StandIn text token scan → tokens_ahead next after ≡ scan.tokens → (in_view text next after).spots ≡ behind (in_view text token scan).spots
-advanced_spots text None next scan after h e = ap (map (token_spot text)) (e ∙ h.ended)
-advanced_spots text (Some token) next scan after h e = ap (map (token_spot text)) e
+pub advanced_words_ahead : (text : List ℕ) (token next : Option Token) (scan after : Scan) → StandIn text token scan → tokens_ahead next after ≡ scan.tokens → (in_view text next after).words_ahead ≡ behind (in_view text token scan).words_ahead
+advanced_words_ahead text None next scan after h e = ap (map (placed_word text)) (e ∙ h.ended)
+advanced_words_ahead text (Some token) next scan after h e = ap (map (placed_word text)) e
 
 pub new_stands : (text : List ℕ) (token : Option Token) (scan : Scan) (tokens : List Token) → tokens_ahead token scan ≡ tokens → AreSpans 0 tokens (length text) → HasEnded token scan → StandIn text token scan
 new_stands text token scan tokens e h d = record { spans = subst (λ (t : List Token). AreSpans 0 t (length text)) (sym e) h; ended = d }

@@ -2,31 +2,23 @@
 use Rattle.std.proofs.Common.{◌≡◌, ℕ, Bool, true, false, List, [], ◌∷◌, Some, Ok, refl, sym, ap, ◌∙◌, get_or, eq-eqb}
 use Rattle.std.proofs.lemmas.Slice.Eq.{bytes_eq-Decides}
 use Rattle.std.proofs.lemmas.Bool.{eqb-true}
-use Rattle.pn_text.specs.Words.{Word, NameWord, NumberWord, QuotedWord, FocusPath, DollarFocus, DollarAll, DollarMetric, DollarValue, DollarArg, SignWord}
+use Rattle.pn_text.specs.Words.{Word, NameWord, NumberWord, QuotedWord, FocusPath, DollarArg, SignWord}
 use Rattle.pn_text.specs.declared.token.Sign.{Sign}
 use Rattle.pn_text.specs.declared.token.Sign.TheVariants.{OpenBrace, CloseBrace, OpenBracket, CloseBracket, OpenParen, CloseParen, OpenCode, CloseCode, Semicolon, Comma, PlusPlus, MinusMinus, Assign, Equal, NotEqual, Less, LessEqual, Greater, GreaterEqual}
-use Rattle.mdl_parse.specs.Spots.{Starts, IsWord}
+use Rattle.mdl_parse.specs.WordsInText.{Starts, IsWord}
 use Rattle.mdl_parse.specs.Steps.{line_at}
 use Rattle.mdl_parse.specs.Picks.{is_keyword, is_sign, is_arg, sign_number, when, name_of, number_of, quoted_of, path_of}
 use Rattle.mdl_parse.specs.Readers.{keyword_at, sign_at, arg_at, start_at, name_at, number_at, quoted_at, path_at}
 use Rattle.mdl_parse.specs.Grammar.{keyword}
 use Rattle.mdl_parse.proofs.Readers.{Reads, closed, any, one as one_word, made_reads}
-use Rattle.mdl_parse.proofs.Bounded.{lined_at, lined_marks, lined_ok, lined_on, lined_reads}
+use Rattle.mdl_parse.proofs.Bounded.{lined_at, lined_tree_words, lined_ok, lined_on, lined_reads}
 use Rattle.mdl_parse.proofs.Combine.{bind_assoc, leaf_any}
 
 -- ---- keywords and signs
 
 pub is_keyword-true : (text : List ℕ) (w : Word) → is_keyword text w ≡ true → w ≡ keyword text
 is_keyword-true text (NameWord name) h = ap NameWord ((bytes_eq-Decides name text).0 h)
-is_keyword-true text (NumberWord n) h = absurd cc
-is_keyword-true text (QuotedWord t) h = absurd cc
-is_keyword-true text (FocusPath t) h = absurd cc
-is_keyword-true text DollarFocus h = absurd cc
-is_keyword-true text DollarAll h = absurd cc
-is_keyword-true text DollarMetric h = absurd cc
-is_keyword-true text DollarValue h = absurd cc
-is_keyword-true text DollarArg h = absurd cc
-is_keyword-true text (SignWord s) h = absurd cc
+is_keyword-true text w h = absurd cc
 
 pub keyword-is : (text : List ℕ) → is_keyword text (keyword text) ≡ true
 keyword-is text = (bytes_eq-Decides text text).1 refl
@@ -46,9 +38,9 @@ pub start_reads : (text : List ℕ) → IsWord (keyword text) → Reads (λ n. s
 unfolding start_at
 start_reads text good =
     let p = lined_reads (λ n. keyword_at text) (one_word (λ x. keyword text)) any closed (keyword_reads text good) (λ n a h. tt) in
-    made_reads (lined_at (λ n. keyword_at text)) (lined_marks (one_word (λ x. keyword text))) (lined_ok any) (lined_on closed) p
+    made_reads (lined_at (λ n. keyword_at text)) (lined_tree_words (one_word (λ x. keyword text))) (lined_ok any) (lined_on closed) p
     (λ n. start_at text) (λ line. Starts line (keyword text) ∷ []) any closed (λ x. x.0)
-    (λ n spots. sym (bind_assoc (keyword_at text spots) (λ x. Ok ((line_at spots, x.0), x.1)) (λ x. Ok (x.0.0, x.1))))
+    (λ n words_ahead. sym (bind_assoc (keyword_at text words_ahead) (λ x. Ok ((line_at words_ahead, x.0), x.1)) (λ x. Ok (x.0.0, x.1))))
     (λ n a h. refl) (λ n a h. refl) (λ n a h. tt) (λ n b h. ((b, tt), tt, refl)) (λ n k b le h. tt)
 
 signs : List Sign
@@ -82,16 +74,8 @@ pub sign_number-injective : (a b : Sign) → sign_number a ≡ sign_number b →
 sign_number-injective a b e = sym (sign_numbered a) ∙ ap (λ (n : ℕ). get_or signs n OpenBrace) e ∙ sign_numbered b
 
 pub is_sign-true : (sign : Sign) (w : Word) → is_sign sign w ≡ true → w ≡ SignWord sign
-is_sign-true sign (NameWord x) h = absurd cc
-is_sign-true sign (NumberWord x) h = absurd cc
-is_sign-true sign (QuotedWord x) h = absurd cc
-is_sign-true sign (FocusPath x) h = absurd cc
-is_sign-true sign DollarFocus h = absurd cc
-is_sign-true sign DollarAll h = absurd cc
-is_sign-true sign DollarMetric h = absurd cc
-is_sign-true sign DollarValue h = absurd cc
-is_sign-true sign DollarArg h = absurd cc
 is_sign-true sign (SignWord x) h = ap SignWord (sign_number-injective x sign (eqb-true (sign_number x) (sign_number sign) h))
+is_sign-true sign w h = absurd cc
 
 pub sign-is : (sign : Sign) → is_sign sign (SignWord sign) ≡ true
 sign-is sign = eq-eqb (sign_number sign) (sign_number sign) refl
@@ -103,16 +87,8 @@ sign_reads sign = leaf_any (λ word. when (is_sign sign word) tt) (λ x. SignWor
     tt refl
 
 is_arg-true : (w : Word) → is_arg w ≡ true → w ≡ DollarArg
-is_arg-true (NameWord x) h = absurd cc
-is_arg-true (NumberWord x) h = absurd cc
-is_arg-true (QuotedWord x) h = absurd cc
-is_arg-true (FocusPath x) h = absurd cc
-is_arg-true DollarFocus h = absurd cc
-is_arg-true DollarAll h = absurd cc
-is_arg-true DollarMetric h = absurd cc
-is_arg-true DollarValue h = absurd cc
 is_arg-true DollarArg h = refl
-is_arg-true (SignWord x) h = absurd cc
+is_arg-true w h = absurd cc
 
 pub arg_reads : Reads (λ n. arg_at) (one_word (λ x. DollarArg)) any closed
 arg_reads = leaf_any (λ word. when (is_arg word) tt) (λ x. DollarArg) (λ w a e. is_arg-true w (when_some (is_arg w) tt a e)) (λ a. refl) tt refl
@@ -121,60 +97,28 @@ arg_reads = leaf_any (λ word. when (is_arg word) tt) (λ x. DollarArg) (λ w a 
 
 name_picked : (w : Word) (a : List ℕ) → name_of w ≡ Some a → w ≡ NameWord a
 name_picked (NameWord x) a e = ap NameWord cc
-name_picked (NumberWord x) a e = absurd cc
-name_picked (QuotedWord x) a e = absurd cc
-name_picked (FocusPath x) a e = absurd cc
-name_picked DollarFocus a e = absurd cc
-name_picked DollarAll a e = absurd cc
-name_picked DollarMetric a e = absurd cc
-name_picked DollarValue a e = absurd cc
-name_picked DollarArg a e = absurd cc
-name_picked (SignWord x) a e = absurd cc
+name_picked w a e = absurd cc
 
 pub name_reads : Reads (λ n. name_at) (one_word NameWord) any closed
 name_reads = leaf_any name_of NameWord name_picked (λ a. refl) (97 ∷ []) refl
 
 number_picked : (w : Word) (a : ℕ) → number_of w ≡ Some a → w ≡ NumberWord a
-number_picked (NameWord x) a e = absurd cc
 number_picked (NumberWord x) a e = ap NumberWord cc
-number_picked (QuotedWord x) a e = absurd cc
-number_picked (FocusPath x) a e = absurd cc
-number_picked DollarFocus a e = absurd cc
-number_picked DollarAll a e = absurd cc
-number_picked DollarMetric a e = absurd cc
-number_picked DollarValue a e = absurd cc
-number_picked DollarArg a e = absurd cc
-number_picked (SignWord x) a e = absurd cc
+number_picked w a e = absurd cc
 
 pub number_reads : Reads (λ n. number_at) (one_word NumberWord) any closed
 number_reads = leaf_any number_of NumberWord number_picked (λ a. refl) 0 refl
 
 quoted_picked : (w : Word) (a : List ℕ) → quoted_of w ≡ Some a → w ≡ QuotedWord a
-quoted_picked (NameWord x) a e = absurd cc
-quoted_picked (NumberWord x) a e = absurd cc
 quoted_picked (QuotedWord x) a e = ap QuotedWord cc
-quoted_picked (FocusPath x) a e = absurd cc
-quoted_picked DollarFocus a e = absurd cc
-quoted_picked DollarAll a e = absurd cc
-quoted_picked DollarMetric a e = absurd cc
-quoted_picked DollarValue a e = absurd cc
-quoted_picked DollarArg a e = absurd cc
-quoted_picked (SignWord x) a e = absurd cc
+quoted_picked w a e = absurd cc
 
 pub quoted_reads : Reads (λ n. quoted_at) (one_word QuotedWord) any closed
 quoted_reads = leaf_any quoted_of QuotedWord quoted_picked (λ a. refl) [] refl
 
 path_picked : (w : Word) (a : List ℕ) → path_of w ≡ Some a → w ≡ FocusPath a
-path_picked (NameWord x) a e = absurd cc
-path_picked (NumberWord x) a e = absurd cc
-path_picked (QuotedWord x) a e = absurd cc
 path_picked (FocusPath x) a e = ap FocusPath cc
-path_picked DollarFocus a e = absurd cc
-path_picked DollarAll a e = absurd cc
-path_picked DollarMetric a e = absurd cc
-path_picked DollarValue a e = absurd cc
-path_picked DollarArg a e = absurd cc
-path_picked (SignWord x) a e = absurd cc
+path_picked w a e = absurd cc
 
 pub path_reads : Reads (λ n. path_at) (one_word FocusPath) any closed
 path_reads = leaf_any path_of FocusPath path_picked (λ a. refl) (47 ∷ 97 ∷ []) refl

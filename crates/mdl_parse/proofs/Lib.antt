@@ -6,7 +6,6 @@ pub mod Bounded
 pub mod InView
 pub mod Loops
 pub mod Combine
-pub mod Guards
 pub mod LeafRules
 pub mod ChoiceRules
 pub mod ConditionRules
@@ -21,14 +20,11 @@ pub mod Unique
 pub mod OneFault
 pub mod SmallItems
 pub mod ShippedSmall
-pub mod Chains
-pub mod PrintLemmas
-pub mod BlockTexts
+pub mod Tight
 pub mod Relining
 pub mod RelinedItems
 pub mod LinePieces
 pub mod LineWords
 pub mod LineTexts
-pub mod ItemTexts
 pub mod SameLines
 pub mod PrintedAgain

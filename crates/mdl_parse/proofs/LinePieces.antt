@@ -44,6 +44,7 @@ behind_written left [] = refl
 behind_written left (w ∷ words) = ap (λ (t : List ℕ). gap left w ++ (word_text w ++ t)) (behind_written w words)
 
 line_written : (space : List ℕ) (level : ℕ) (words : List Word) (more : List ℕ) → space ++ (line_text (level, words) ++ more) ≡ written (line_pieces (space ++ indent level) words) ++ (next_gap space level words ++ more)
+unfolding line_text
 line_written space level [] more = sym (append_assoc space (indent level ++ codes "\n") more)
 line_written space level (w ∷ words) more =
     let text = word_text w ++ behind_word w words in

@@ -1,16 +1,16 @@
--- Readers of parts that may be there, and of one of two forms.
-use Rattle.std.proofs.Common.{◌≡◌, ℕ, suc, ◌≤◌, Bool, true, false, List, [], ◌∷◌, ◌++◌, Option, Some, None, Ok, Err, refl, sym, ap, subst, ◌∙◌, inl, inr, ◌⊎◌, if◌then◌else◌}
+-- Readers of parts that may be there, and of one of several forms.
+use Rattle.std.proofs.Common.{◌≡◌, ℕ, suc, ◌≤◌, Bool, true, false, List, [], ◌∷◌, ◌++◌, Option, Some, None, Ok, Err, refl, sym, ap, subst, ◌∙◌, inl, inr, if◌then◌else◌}
 use Rattle.pn_text.specs.Words.{Word}
-use Rattle.mdl_parse.specs.Spots.{Spot, Mark, Spells}
-use Rattle.mdl_parse.specs.Steps.{Stop, Read, ◌>>=◌, stop, is_first, option_at}
-use Rattle.mdl_parse.proofs.Rules.{Misses, never, Misses-never, StartsAs, is_first-spelled, first-Misses, bind_ok, bind_err, bind_same, ok_is, Misses-first}
-use Rattle.mdl_parse.proofs.Readers.{Reads, Reads_, Fails, Completed, closed}
+use Rattle.mdl_parse.specs.WordsInText.{PlacedWord, TreeWord, plain_word, Spells}
+use Rattle.mdl_parse.specs.Steps.{Stop, Read, ◌>>=◌, stop, first_word, passes, is_first, option_at}
+use Rattle.mdl_parse.proofs.Rules.{Misses, never, Misses-never, StartsAs, is_first-spelled, first-Misses, fits_word, bind_ok, bind_err, bind_same, ok_is, Misses-first}
+use Rattle.mdl_parse.proofs.Readers.{Reads, Reads_, Fails, Completed, as_well, closed}
 
 -- ---- a part that may be there
 
-abbrev pub option_marks : {A : Type 0} → (A → List Mark) → Option A → List Mark
-option_marks marks None = []
-option_marks marks (Some a) = marks a
+abbrev pub option_tree_words : {A : Type 0} → (A → List TreeWord) → Option A → List TreeWord
+option_tree_words tree_words None = []
+option_tree_words tree_words (Some a) = tree_words a
 
 abbrev pub option_ok : {A : Type 0} → (ℕ → A → Type 0) → ℕ → Option A → Type 0
 option_ok ok n None = Unit {0}
@@ -20,70 +20,73 @@ abbrev pub option_on : {A : Type 0} → (Word → Bool) → Option A → Word �
 option_on first None = first
 option_on first (Some a) = never
 
-pub is_first-same : (first : Word → Bool) (used : List Spot) (x : Spot) (more other : List Spot) → is_first first (used ++ (x ∷ more)) ≡ is_first first (used ++ (x ∷ other))
-is_first-same first [] x more other = refl
-is_first-same first (y ∷ used) x more other = refl
+-- the first word is the same with another word behind the bad one
+first_word_again : (words_ahead used left : List PlacedWord) (x : PlacedWord) (more other : List PlacedWord) → words_ahead ≡ used ++ left → left ≡ x ∷ more → first_word (used ++ (x ∷ other)) ≡ first_word words_ahead
+first_word_again words_ahead used left x more other e l = same used ∙ ap first_word (sym (e ∙ ap (λ (t : List PlacedWord). used ++ t) l))
+  where
+    same : (used : List PlacedWord) → first_word (used ++ (x ∷ other)) ≡ first_word (used ++ (x ∷ more))
+    same [] = refl
+    same (y ∷ used) = refl
 
--- the test answers the same with another word behind the bad one
-pub first_again : (first : Word → Bool) (spots used left : List Spot) (x : Spot) (more other : List Spot) (b : Bool) → spots ≡ used ++ left → left ≡ x ∷ more → is_first first spots ≡ b → is_first first (used ++ (x ∷ other)) ≡ b
-first_again first spots used left x more other b e l h =
-    sym (is_first-same first used x more other) ∙ ap (is_first first) (sym (e ∙ ap (λ (t : List Spot). used ++ t) l)) ∙ h
+-- and so is the answer of a test
+pub first_again : (first : Word → Bool) (words_ahead used left : List PlacedWord) (x : PlacedWord) (more other : List PlacedWord) (b : Bool) → words_ahead ≡ used ++ left → left ≡ x ∷ more → is_first first words_ahead ≡ b → is_first first (used ++ (x ∷ other)) ≡ b
+first_again first words_ahead used left x more other b e l h = ap (passes first) (first_word_again words_ahead used left x more other e l) ∙ h
 
-module _ {A : Type 0} (first : Word → Bool) (r : ℕ → List Spot → Read A) (m : A → List Mark) (ok : ℕ → A → Type 0) (p : Reads r m ok closed)
+module _ {A : Type 0} (first : Word → Bool) (r : ℕ → List PlacedWord → Read A) (m : A → List TreeWord) (ok : ℕ → A → Type 0) (p : Reads r m ok closed)
     (starts : (n : ℕ) (a : A) → ok n a → StartsAs first true (m a)) where
-  option_step : (n : ℕ) (spots : List Spot) → is_first first spots ≡ true → option_at first (r n) spots ≡ (r n spots >>= λ x. Ok (Some x.0, x.1))
+  option_step : (n : ℕ) (words_ahead : List PlacedWord) → is_first first words_ahead ≡ true → option_at first (r n) words_ahead ≡ (r n words_ahead >>= λ x. Ok (Some x.0, x.1))
   unfolding option_at
-  option_step n spots h = rw h refl
+  option_step n words_ahead h = rw h refl
 
-  option_none : (n : ℕ) (spots : List Spot) → is_first first spots ≡ false → option_at first (r n) spots ≡ Ok (None, spots)
+  option_none : (n : ℕ) (words_ahead : List PlacedWord) → is_first first words_ahead ≡ false → option_at first (r n) words_ahead ≡ Ok (None, words_ahead)
   unfolding option_at
-  option_none n spots h = rw h refl
+  option_none n words_ahead h = rw h refl
 
-  option_begun : (n : ℕ) (used : List Spot) → Completed m ok n used → Completed (option_marks m) (option_ok ok) n used
+  option_begun : (n : ℕ) (used : List PlacedWord) → Completed m ok n used → Completed (option_tree_words m) (option_ok ok) n used
   option_begun n used c = record { whole = Some c.whole; tail = c.tail; shaped = c.shaped; spelled = c.spelled; words = c.words }
 
-  option_sound : (n : ℕ) (spots : List Spot) (v : Option A) (rest : List Spot) → option_at first (r n) spots ≡ Ok (v, rest) → Reads_ (option_marks m) (option_ok ok) (option_on first) n spots v rest
-  option_sound n spots v rest e = go (is_first first spots) refl
+  option_sound : (n : ℕ) (words_ahead : List PlacedWord) (v : Option A) (rest : List PlacedWord) → option_at first (r n) words_ahead ≡ Ok (v, rest) → Reads_ (option_tree_words m) (option_ok ok) (option_on first) n words_ahead v rest
+  option_sound n words_ahead v rest e = go (is_first first words_ahead) refl
     where
-      go : (b : Bool) → is_first first spots ≡ b → Reads_ (option_marks m) (option_ok ok) (option_on first) n spots v rest
+      go : (b : Bool) → is_first first words_ahead ≡ b → Reads_ (option_tree_words m) (option_ok ok) (option_on first) n words_ahead v rest
       go true h =
-          let b = bind_ok (r n spots) (λ x. Ok (Some x.0, x.1)) (v, rest) (sym (option_step n spots h) ∙ e) in
-          let s = p.sound n spots b.0.0 b.0.1 b.1 in
-          let made : Reads_ (option_marks m) (option_ok ok) (option_on first) n spots (Some b.0.0) b.0.1 = record { front = s.front; split = s.split; spelled = s.spelled; shaped = s.shaped; ends = Misses-never b.0.1 } in
-          subst (λ (p : Option A × List Spot). Reads_ (option_marks m) (option_ok ok) (option_on first) n spots p.0 p.1) (ok_is (Some b.0.0, b.0.1) (v, rest) b.2) made
+          let b = bind_ok (r n words_ahead) (λ x. Ok (Some x.0, x.1)) (v, rest) (sym (option_step n words_ahead h) ∙ e) in
+          let s = p.sound n words_ahead b.0.0 b.0.1 b.1 in
+          let made : Reads_ (option_tree_words m) (option_ok ok) (option_on first) n words_ahead (Some b.0.0) b.0.1 = record { front = s.front; split = s.split; spelled = s.spelled; shaped = s.shaped; ends = Misses-never b.0.1 } in
+          subst (λ (p : Option A × List PlacedWord). Reads_ (option_tree_words m) (option_ok ok) (option_on first) n words_ahead p.0 p.1) (ok_is (Some b.0.0, b.0.1) (v, rest) b.2) made
       go false h =
-          let made : Reads_ (option_marks m) (option_ok ok) (option_on first) n spots None spots = record { front = []; split = refl; spelled = tt; shaped = tt; ends = Misses-first first spots h } in
-          subst (λ (p : Option A × List Spot). Reads_ (option_marks m) (option_ok ok) (option_on first) n spots p.0 p.1) (ok_is (None, spots) (v, rest) (sym (option_none n spots h) ∙ e)) made
+          let made : Reads_ (option_tree_words m) (option_ok ok) (option_on first) n words_ahead None words_ahead = record { front = []; split = refl; spelled = tt; shaped = tt; ends = Misses-first first words_ahead h } in
+          subst (λ (p : Option A × List PlacedWord). Reads_ (option_tree_words m) (option_ok ok) (option_on first) n words_ahead p.0 p.1) (ok_is (None, words_ahead) (v, rest) (sym (option_none n words_ahead h) ∙ e)) made
 
-  option_whole : (n : ℕ) (v : Option A) (front rest : List Spot) → Spells (option_marks m v) front → option_ok ok n v → Misses (option_on first v) rest → option_at first (r n) (front ++ rest) ≡ Ok (v, rest)
+  option_whole : (n : ℕ) (v : Option A) (front rest : List PlacedWord) → Spells (option_tree_words m v) front → option_ok ok n v → Misses (option_on first v) rest → option_at first (r n) (front ++ rest) ≡ Ok (v, rest)
   option_whole n None [] rest h k miss = option_none n rest (first-Misses first rest miss)
   option_whole n None (x ∷ front) rest h k miss = absurd h
   option_whole n (Some a) front rest h k miss =
       option_step n (front ++ rest) (is_first-spelled first true (m a) front rest h (starts n a k)) ∙ rw (p.whole n a front rest h k miss) refl
 
-  option_fails : (n : ℕ) (spots : List Spot) (s : Stop) → option_at first (r n) spots ≡ Err s → Fails (λ n. option_at first (r n)) (option_marks m) (option_ok ok) n spots s
-  option_fails n spots s e = go (is_first first spots) refl
+  option_fails : (n : ℕ) (words_ahead : List PlacedWord) (s : Stop) → option_at first (r n) words_ahead ≡ Err s → Fails (λ n. option_at first (r n)) (option_tree_words m) (option_ok ok) n words_ahead s
+  option_fails n words_ahead s e = go (is_first first words_ahead) refl
     where
-      go : (b : Bool) → is_first first spots ≡ b → Fails (λ n. option_at first (r n)) (option_marks m) (option_ok ok) n spots s
-      go true h = elim (bind_err (r n spots) (λ x. Ok (Some x.0, x.1)) s (sym (option_step n spots h) ∙ e)) [
-        | inl e1 ↦ let f = p.fails n spots s e1 in record {
+      go : (b : Bool) → is_first first words_ahead ≡ b → Fails (λ n. option_at first (r n)) (option_tree_words m) (option_ok ok) n words_ahead s
+      go true h = elim (bind_err (r n words_ahead) (λ x. Ok (Some x.0, x.1)) s (sym (option_step n words_ahead h) ∙ e)) [
+        | inl e1 ↦ let f = p.fails n words_ahead s e1 in record {
           used = f.used;
           split = f.split;
           ended = f.ended;
           begun = option_begun n f.used f.begun;
-          bad = λ x more l k reach other. option_step k (f.used ++ (x ∷ other)) (first_again first spots f.used s.left x more other true f.split l h)
+          bad = λ x more l k reach other. option_step k (f.used ++ (x ∷ other)) (first_again first words_ahead f.used s.left x more other true f.split l h)
               ∙ bind_same (r k (f.used ++ (x ∷ other))) (λ x. Ok (Some x.0, x.1)) (stop s.why (x ∷ other)) (f.bad x more l k reach other);
           deeper = λ x more l w. option_begun (suc n) (f.used ++ (x ∷ [])) (f.deeper x more l w);
         }
         | inr b ↦ absurd cc
       ]
-      go false h = absurd (let e2 = sym (option_none n spots h) ∙ e in cc)
+      go false h = absurd (let e2 = sym (option_none n words_ahead h) ∙ e in cc)
 
   option_wider : (n k : ℕ) (v : Option A) → n ≤ k → option_ok ok n v → option_ok ok k v
   option_wider n k None le h = tt
   option_wider n k (Some a) le h = p.wider n k a le h
 
-  pub option_reads : Reads (λ n. option_at first (r n)) (option_marks m) (option_ok ok) (option_on first)
+  pub option_reads : Reads (λ n. option_at first (r n)) (option_tree_words m) (option_ok ok) (option_on first)
   option_reads = record {
     sound = option_sound;
     whole = option_whole;
@@ -94,74 +97,58 @@ module _ {A : Type 0} (first : Word → Bool) (r : ℕ → List Spot → Read A)
     some_words = tt;
   }
 
--- ---- one of two forms
+-- ---- one of several forms, by the first word
 
-abbrev pub either_ok : {A : Type 0} → (ℕ → A → Type 0) → (ℕ → A → Type 0) → ℕ → A → Type 0
-either_ok ok1 ok2 n v = ok1 n v ⊎ ok2 n v
+-- the words begin as those of this form do
+abbrev pub BeginsAs : {K : Type 0} → (Option Word → K) → K → List TreeWord → Type 0
+BeginsAs kind_at kind [] = ⊥
+BeginsAs kind_at kind (tree_word ∷ tree_words) = kind_at (Some (plain_word tree_word)) ≡ kind
 
-abbrev pub either_at : {A : Type 0} → (Word → Bool) → (ℕ → List Spot → Read A) → (ℕ → List Spot → Read A) → ℕ → List Spot → Read A
-either_at first r1 r2 n spots = if is_first first spots then r1 n spots else r2 n spots
+abbrev pub of_kind : {K A : Type 0} → (A → K) → (ℕ → A → Type 0) → K → ℕ → A → Type 0
+of_kind kind ok k n a = (kind a ≡ k) × ok n a
 
-module _ {A : Type 0} (first : Word → Bool) (m : A → List Mark) (on : A → Word → Bool)
-    (r1 : ℕ → List Spot → Read A) (ok1 : ℕ → A → Type 0) (p1 : Reads r1 m ok1 on)
-    (r2 : ℕ → List Spot → Read A) (ok2 : ℕ → A → Type 0) (p2 : Reads r2 m ok2 on)
-    (starts : (n : ℕ) (a : A) → ok1 n a → StartsAs first true (m a))
-    (others : (n : ℕ) (a : A) → ok2 n a → StartsAs first false (m a)) where
-  either_first : (n : ℕ) (spots : List Spot) → is_first first spots ≡ true → either_at first r1 r2 n spots ≡ r1 n spots
-  either_first n spots h = rw h refl
+abbrev pub chosen_at : {K A : Type 0} → (Option Word → K) → (K → ℕ → List PlacedWord → Read A) → ℕ → List PlacedWord → Read A
+chosen_at kind_at r n words_ahead = r (kind_at (first_word words_ahead)) n words_ahead
 
-  either_second : (n : ℕ) (spots : List Spot) → is_first first spots ≡ false → either_at first r1 r2 n spots ≡ r2 n spots
-  either_second n spots h = rw h refl
+kind_spelled : {K : Type 0} (kind_at : Option Word → K) (kind : K) (tree_words : List TreeWord) (words_ahead rest : List PlacedWord) → Spells tree_words words_ahead → BeginsAs kind_at kind tree_words → kind_at (first_word (words_ahead ++ rest)) ≡ kind
+kind_spelled kind_at kind [] words_ahead rest h b = absurd b
+kind_spelled kind_at kind (tree_word ∷ tree_words) [] rest h b = absurd h
+kind_spelled kind_at kind (tree_word ∷ tree_words) (placed ∷ words_ahead) rest h b = ap (λ (w : Word). kind_at (Some w)) (fits_word tree_word placed h.0) ∙ b
 
-  begun_first : (n : ℕ) (used : List Spot) → Completed m ok1 n used → Completed m (either_ok ok1 ok2) n used
-  begun_first n used c = record { whole = c.whole; tail = c.tail; shaped = inl c.shaped; spelled = c.spelled; words = c.words }
+pub chosen_reads : {K A : Type 0} (kind_at : Option Word → K) (kind : A → K) {r : K → ℕ → List PlacedWord → Read A} {m : A → List TreeWord} {ok : ℕ → A → Type 0} {on : A → Word → Bool} →
+    ((k : K) → Reads (r k) m (of_kind kind ok k) on) → ((n : ℕ) (a : A) → ok n a → BeginsAs kind_at (kind a) (m a)) → Reads (chosen_at kind_at r) m ok on
+chosen_reads {K} {A} kind_at kind {r} {m} {ok} {on} p begins = record {
+  sound = λ n words_ahead v rest e. let s = (p (kind_at (first_word words_ahead))).sound n words_ahead v rest e in record { front = s.front; split = s.split; spelled = s.spelled; shaped = s.shaped.1; ends = s.ends };
+  whole = λ n v front rest h k miss. ap (λ (j : K). r j n (front ++ rest)) (kind_spelled kind_at (kind v) (m v) front rest h (begins n v k)) ∙ (p (kind v)).whole n v front rest h (refl, k) miss;
+  fails = fails;
+  wider = λ n k v le h. ((p (kind v)).wider n k v le (refl, h)).1;
+  some = (p (kind_at None)).some;
+  some_shaped = λ n. ((p (kind_at None)).some_shaped n).1;
+  some_words = (p (kind_at None)).some_words;
+}
+  where
+    fails : (n : ℕ) (words_ahead : List PlacedWord) (s : Stop) → chosen_at kind_at r n words_ahead ≡ Err s → Fails (chosen_at kind_at r) m ok n words_ahead s
+    fails n words_ahead s e = let f = (p (kind_at (first_word words_ahead))).fails n words_ahead s e in record {
+      used = f.used;
+      split = f.split;
+      ended = f.ended;
+      begun = as_well (λ a h. h.1) f.begun;
+      bad = λ x more l k reach other. ap (λ (o : Option Word). r (kind_at o) k (f.used ++ (x ∷ other))) (first_word_again words_ahead f.used s.left x more other f.split l) ∙ f.bad x more l k reach other;
+      deeper = λ x more l w. as_well (λ a h. h.1) (f.deeper x more l w);
+    }
 
-  begun_second : (n : ℕ) (used : List Spot) → Completed m ok2 n used → Completed m (either_ok ok1 ok2) n used
-  begun_second n used c = record { whole = c.whole; tail = c.tail; shaped = inr c.shaped; spelled = c.spelled; words = c.words }
+-- one of two forms
+abbrev pub either : {A : Type 0} → (ℕ → List PlacedWord → Read A) → (ℕ → List PlacedWord → Read A) → Bool → ℕ → List PlacedWord → Read A
+either one other b n words_ahead = if b then one n words_ahead else other n words_ahead
 
-  either_sound : (n : ℕ) (spots : List Spot) (v : A) (rest : List Spot) → either_at first r1 r2 n spots ≡ Ok (v, rest) → Reads_ m (either_ok ok1 ok2) on n spots v rest
-  either_sound n spots v rest e = go (is_first first spots) refl
-    where
-      go : (b : Bool) → is_first first spots ≡ b → Reads_ m (either_ok ok1 ok2) on n spots v rest
-      go true h = let s = p1.sound n spots v rest (sym (either_first n spots h) ∙ e) in record { front = s.front; split = s.split; spelled = s.spelled; shaped = inl s.shaped; ends = s.ends }
-      go false h = let s = p2.sound n spots v rest (sym (either_second n spots h) ∙ e) in record { front = s.front; split = s.split; spelled = s.spelled; shaped = inr s.shaped; ends = s.ends }
+pub either_reads : {A : Type 0} (first : Word → Bool) (kind : A → Bool) {r1 r2 : ℕ → List PlacedWord → Read A} {m : A → List TreeWord} {ok : ℕ → A → Type 0} {on : A → Word → Bool} →
+    Reads r1 m (of_kind kind ok true) on → Reads r2 m (of_kind kind ok false) on → ((n : ℕ) (a : A) → ok n a → StartsAs first (kind a) (m a)) → Reads (chosen_at (passes first) (either r1 r2)) m ok on
+either_reads first kind {r1} {r2} {m} {ok} {on} p1 p2 starts = chosen_reads (passes first) kind two (λ n a h. begins (kind a) (m a) (starts n a h))
+  where
+    two : (b : Bool) → Reads (either r1 r2 b) m (of_kind kind ok b) on
+    two true = p1
+    two false = p2
 
-  either_whole : (n : ℕ) (v : A) (front rest : List Spot) → Spells (m v) front → either_ok ok1 ok2 n v → Misses (on v) rest → either_at first r1 r2 n (front ++ rest) ≡ Ok (v, rest)
-  either_whole n v front rest h (inl k) miss = either_first n (front ++ rest) (is_first-spelled first true (m v) front rest h (starts n v k)) ∙ p1.whole n v front rest h k miss
-  either_whole n v front rest h (inr k) miss = either_second n (front ++ rest) (is_first-spelled first false (m v) front rest h (others n v k)) ∙ p2.whole n v front rest h k miss
-
-  either_fails : (n : ℕ) (spots : List Spot) (s : Stop) → either_at first r1 r2 n spots ≡ Err s → Fails (either_at first r1 r2) m (either_ok ok1 ok2) n spots s
-  either_fails n spots s e = go (is_first first spots) refl
-    where
-      go : (b : Bool) → is_first first spots ≡ b → Fails (either_at first r1 r2) m (either_ok ok1 ok2) n spots s
-      go true h = let f = p1.fails n spots s (sym (either_first n spots h) ∙ e) in record {
-        used = f.used;
-        split = f.split;
-        ended = f.ended;
-        begun = begun_first n f.used f.begun;
-        bad = λ x more l k reach other. either_first k (f.used ++ (x ∷ other)) (first_again first spots f.used s.left x more other true f.split l h) ∙ f.bad x more l k reach other;
-        deeper = λ x more l w. begun_first (suc n) (f.used ++ (x ∷ [])) (f.deeper x more l w);
-      }
-      go false h = let f = p2.fails n spots s (sym (either_second n spots h) ∙ e) in record {
-        used = f.used;
-        split = f.split;
-        ended = f.ended;
-        begun = begun_second n f.used f.begun;
-        bad = λ x more l k reach other. either_second k (f.used ++ (x ∷ other)) (first_again first spots f.used s.left x more other false f.split l h) ∙ f.bad x more l k reach other;
-        deeper = λ x more l w. begun_second (suc n) (f.used ++ (x ∷ [])) (f.deeper x more l w);
-      }
-
-  either_wider : (n k : ℕ) (v : A) → n ≤ k → either_ok ok1 ok2 n v → either_ok ok1 ok2 k v
-  either_wider n k v le (inl h) = inl (p1.wider n k v le h)
-  either_wider n k v le (inr h) = inr (p2.wider n k v le h)
-
-  pub either_reads : Reads (either_at first r1 r2) m (either_ok ok1 ok2) on
-  either_reads = record {
-    sound = either_sound;
-    whole = either_whole;
-    fails = either_fails;
-    wider = either_wider;
-    some = p1.some;
-    some_shaped = λ n. inl (p1.some_shaped n);
-    some_words = p1.some_words;
-  }
+    begins : (b : Bool) (tree_words : List TreeWord) → StartsAs first b tree_words → BeginsAs (passes first) b tree_words
+    begins b [] h = h
+    begins b (tree_word ∷ tree_words) h = h

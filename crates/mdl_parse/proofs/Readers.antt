@@ -2,20 +2,24 @@
 use Rattle.std.proofs.Common.{◌≡◌, ℕ, suc, ◌≤◌, Bool, false, List, [], ◌∷◌, ◌++◌, Option, Some, None, Ok, Err, refl, sym, ap, subst, ◌∙◌, arith, inl, inr}
 use Rattle.std.proofs.lemmas.List.{append_assoc, append-nil}
 use Rattle.pn_text.specs.Words.{Word}
-use Rattle.mdl_parse.specs.Spots.{IsWord}
-use Rattle.mdl_parse.specs.Spots.{Spot, AreWords, Mark, Goes, Spells}
+use Rattle.mdl_parse.specs.WordsInText.{IsWord}
+use Rattle.mdl_parse.specs.WordsInText.{PlacedWord, AreWords, TreeWord, Goes, Spells}
 use Rattle.mdl_parse.specs.Steps.{Stop, Read, ◌>>=◌, stop, taken, leaf_at}
 use Rattle.mdl_parse.specs.declared.refusal.Refusal.{Refusal}
 use Rattle.mdl_parse.specs.declared.refusal.Refusal.TheVariants.{Unexpected, TooDeep}
-use Rattle.mdl_parse.proofs.Rules.{AreMarks, spots_of, spots_spell, spots_are_words, AreWords-append, AreMarks-append, Spells-append, Spells-parted, Misses, never, Misses-never, Misses-same, StartsAs, is_first-spelled, bind_ok, bind_err, bind_same, ok_is, err_is, Misses-first}
+use Rattle.mdl_parse.proofs.Rules.{AreTreeWords, all_placed_as, placed_spell, placed_are_words, AreWords-append, AreTreeWords-append, Spells-append, Spells-parted, Misses, never, Misses-never, Misses-same, StartsAs, is_first-spelled, bind_ok, bind_err, bind_same, ok_is, err_is, Misses-first}
 
 -- a value that these words can be completed to
-pub record Completed {A : Type 0} (marks : A → List Mark) (ok : ℕ → A → Type 0) (n : ℕ) (used : List Spot) : Type 0 where
+pub record Completed {A : Type 0} (tree_words : A → List TreeWord) (ok : ℕ → A → Type 0) (n : ℕ) (used : List PlacedWord) : Type 0 where
   pub whole : A
-  pub tail : List Spot
+  pub tail : List PlacedWord
   pub shaped : ok n whole
-  pub spelled : Spells (marks whole) (used ++ tail)
+  pub spelled : Spells (tree_words whole) (used ++ tail)
   pub words : AreWords tail
+
+-- the same for values of another kind
+pub as_well : {A : Type 0} {tree_words : A → List TreeWord} {ok ok' : ℕ → A → Type 0} {n k : ℕ} {used : List PlacedWord} → ((a : A) → ok n a → ok' k a) → Completed tree_words ok n used → Completed tree_words ok' k used
+as_well there c = record { whole = c.whole; tail = c.tail; shaped = there c.whole c.shaped; spelled = c.spelled; words = c.words }
 
 -- the limits at which a reader stops at the same word
 abbrev pub Reaches : Refusal → ℕ → ℕ → Type 0
@@ -27,53 +31,53 @@ Reaches-le Unexpected n m h = h
 Reaches-le TooDeep n m h = omega arith
 
 -- the words before the one that doesn't fit can be completed, and with that one nothing is read, whatever follows it
-pub record Fails {A : Type 0} (read : ℕ → List Spot → Read A) (marks : A → List Mark) (ok : ℕ → A → Type 0) (n : ℕ) (spots : List Spot) (s : Stop) : Type 0 where
-  pub used : List Spot
-  pub split : spots ≡ used ++ s.left
-  pub begun : Completed marks ok n used
-  pub bad : (x : Spot) (more : List Spot) → s.left ≡ x ∷ more → (m : ℕ) → Reaches s.why n m → (other : List Spot) → read m (used ++ (x ∷ other)) ≡ Err (stop s.why (x ∷ other))
-  pub deeper : (x : Spot) (more : List Spot) → s.left ≡ x ∷ more → s.why ≡ TooDeep → Completed marks ok (suc n) (used ++ (x ∷ []))
+pub record Fails {A : Type 0} (read : ℕ → List PlacedWord → Read A) (tree_words : A → List TreeWord) (ok : ℕ → A → Type 0) (n : ℕ) (words_ahead : List PlacedWord) (s : Stop) : Type 0 where
+  pub used : List PlacedWord
+  pub split : words_ahead ≡ used ++ s.left
+  pub begun : Completed tree_words ok n used
+  pub bad : (x : PlacedWord) (more : List PlacedWord) → s.left ≡ x ∷ more → (m : ℕ) → Reaches s.why n m → (other : List PlacedWord) → read m (used ++ (x ∷ other)) ≡ Err (stop s.why (x ∷ other))
+  pub deeper : (x : PlacedWord) (more : List PlacedWord) → s.left ≡ x ∷ more → s.why ≡ TooDeep → Completed tree_words ok (suc n) (used ++ (x ∷ []))
   pub ended : s.left ≡ [] → s.why ≡ Unexpected
 
 -- what was read is what these words spell
-pub record Reads_ {A : Type 0} (marks : A → List Mark) (ok : ℕ → A → Type 0) (on : A → Word → Bool) (n : ℕ) (spots : List Spot) (v : A) (rest : List Spot) : Type 0 where
-  pub front : List Spot
-  pub split : spots ≡ front ++ rest
-  pub spelled : Spells (marks v) front
+pub record Reads_ {A : Type 0} (tree_words : A → List TreeWord) (ok : ℕ → A → Type 0) (on : A → Word → Bool) (n : ℕ) (words_ahead : List PlacedWord) (v : A) (rest : List PlacedWord) : Type 0 where
+  pub front : List PlacedWord
+  pub split : words_ahead ≡ front ++ rest
+  pub spelled : Spells (tree_words v) front
   pub shaped : ok n v
   pub ends : Misses (on v) rest
 
 -- a reader of values with these words; `on` are the words that would go on with a value
-pub record Reads {A : Type 0} (read : ℕ → List Spot → Read A) (marks : A → List Mark) (ok : ℕ → A → Type 0) (on : A → Word → Bool) : Type 0 where
-  pub sound : (n : ℕ) (spots : List Spot) (v : A) (rest : List Spot) → read n spots ≡ Ok (v, rest) → Reads_ marks ok on n spots v rest
-  pub whole : (n : ℕ) (v : A) (front rest : List Spot) → Spells (marks v) front → ok n v → Misses (on v) rest → read n (front ++ rest) ≡ Ok (v, rest)
-  pub fails : (n : ℕ) (spots : List Spot) (s : Stop) → read n spots ≡ Err s → Fails read marks ok n spots s
+pub record Reads {A : Type 0} (read : ℕ → List PlacedWord → Read A) (tree_words : A → List TreeWord) (ok : ℕ → A → Type 0) (on : A → Word → Bool) : Type 0 where
+  pub sound : (n : ℕ) (words_ahead : List PlacedWord) (v : A) (rest : List PlacedWord) → read n words_ahead ≡ Ok (v, rest) → Reads_ tree_words ok on n words_ahead v rest
+  pub whole : (n : ℕ) (v : A) (front rest : List PlacedWord) → Spells (tree_words v) front → ok n v → Misses (on v) rest → read n (front ++ rest) ≡ Ok (v, rest)
+  pub fails : (n : ℕ) (words_ahead : List PlacedWord) (s : Stop) → read n words_ahead ≡ Err s → Fails read tree_words ok n words_ahead s
   pub wider : (n m : ℕ) (v : A) → n ≤ m → ok n v → ok m v
   pub some : A
   pub some_shaped : (n : ℕ) → ok n some
-  pub some_words : AreMarks (marks some)
+  pub some_words : AreTreeWords (tree_words some)
 
 -- completing a part completes the whole
-pub completed : {A B : Type 0} (marks : A → List Mark) (ok : ℕ → A → Type 0) (marks' : B → List Mark) (ok' : ℕ → B → Type 0)
-    (to : A → B) (n : ℕ) (front used : List Spot) (post : List Mark) →
+pub completed : {A B : Type 0} (tree_words : A → List TreeWord) (ok : ℕ → A → Type 0) (tree_words' : B → List TreeWord) (ok' : ℕ → B → Type 0)
+    (to : A → B) (n : ℕ) (front used : List PlacedWord) (post : List TreeWord) →
     ((a : A) → ok n a → ok' n (to a)) →
-    ((a : A) (spots : List Spot) → Spells (marks a) spots → Spells (marks' (to a)) (front ++ (spots ++ spots_of post))) →
-    AreMarks post → Completed marks ok n used → Completed marks' ok' n (front ++ used)
-completed marks ok marks' ok' to n front used post shaped spelled good c = record {
+    ((a : A) (words_ahead : List PlacedWord) → Spells (tree_words a) words_ahead → Spells (tree_words' (to a)) (front ++ (words_ahead ++ all_placed_as post))) →
+    AreTreeWords post → Completed tree_words ok n used → Completed tree_words' ok' n (front ++ used)
+completed tree_words ok tree_words' ok' to n front used post shaped spelled good c = record {
   whole = to c.whole;
-  tail = c.tail ++ spots_of post;
+  tail = c.tail ++ all_placed_as post;
   shaped = shaped c.whole c.shaped;
   spelled =
-      let e : (front ++ used) ++ (c.tail ++ spots_of post) ≡ front ++ ((used ++ c.tail) ++ spots_of post) =
-      append_assoc front used (c.tail ++ spots_of post) ∙ ap (λ (t : List Spot). front ++ t) (sym (append_assoc used c.tail (spots_of post))) in
-      subst (Spells (marks' (to c.whole))) (sym e) (spelled c.whole (used ++ c.tail) c.spelled);
-  words = AreWords-append c.tail (spots_of post) c.words (spots_are_words post good);
+      let e : (front ++ used) ++ (c.tail ++ all_placed_as post) ≡ front ++ ((used ++ c.tail) ++ all_placed_as post) =
+      append_assoc front used (c.tail ++ all_placed_as post) ∙ ap (λ (t : List PlacedWord). front ++ t) (sym (append_assoc used c.tail (all_placed_as post))) in
+      subst (Spells (tree_words' (to c.whole))) (sym e) (spelled c.whole (used ++ c.tail) c.spelled);
+  words = AreWords-append c.tail (all_placed_as post) c.words (placed_are_words post good);
 }
 
 -- ---- two, one after the other
 
-abbrev pub pair_marks : {A B : Type 0} → (A → List Mark) → (B → List Mark) → A × B → List Mark
-pair_marks first second p = first p.0 ++ second p.1
+abbrev pub pair_tree_words : {A B : Type 0} → (A → List TreeWord) → (B → List TreeWord) → A × B → List TreeWord
+pair_tree_words first second p = first p.0 ++ second p.1
 
 abbrev pub pair_ok : {A B : Type 0} → (ℕ → A → Type 0) → (ℕ → B → Type 0) → ℕ → A × B → Type 0
 pair_ok first second n p = first n p.0 × second n p.1
@@ -81,52 +85,52 @@ pair_ok first second n p = first n p.0 × second n p.1
 abbrev pub pair_on : {A B : Type 0} → (B → Word → Bool) → A × B → Word → Bool
 pair_on on p = on p.1
 
-abbrev pub pair_at : {A B : Type 0} → (ℕ → List Spot → Read A) → (ℕ → List Spot → Read B) → ℕ → List Spot → Read (A × B)
-pair_at first second n spots = first n spots >>= λ x. second n x.1 >>= λ y. Ok ((x.0, y.0), y.1)
+abbrev pub pair_at : {A B : Type 0} → (ℕ → List PlacedWord → Read A) → (ℕ → List PlacedWord → Read B) → ℕ → List PlacedWord → Read (A × B)
+pair_at first second n words_ahead = first n words_ahead >>= λ x. second n x.1 >>= λ y. Ok ((x.0, y.0), y.1)
 
-module _ {A B : Type 0} (r1 : ℕ → List Spot → Read A) (m1 : A → List Mark) (ok1 : ℕ → A → Type 0) (on1 : A → Word → Bool)
-    (r2 : ℕ → List Spot → Read B) (m2 : B → List Mark) (ok2 : ℕ → B → Type 0) (on2 : B → Word → Bool)
+module _ {A B : Type 0} (r1 : ℕ → List PlacedWord → Read A) (m1 : A → List TreeWord) (ok1 : ℕ → A → Type 0) (on1 : A → Word → Bool)
+    (r2 : ℕ → List PlacedWord → Read B) (m2 : B → List TreeWord) (ok2 : ℕ → B → Type 0) (on2 : B → Word → Bool)
     (p1 : Reads r1 m1 ok1 on1) (p2 : Reads r2 m2 ok2 on2)
-    (parts : (n : ℕ) (a : A) (b : B) (g rest : List Spot) → ok2 n b → Spells (m2 b) g → Misses (on2 b) rest → Misses (on1 a) (g ++ rest)) where
-  pair_step : (n : ℕ) (spots : List Spot) (a : A) (rest : List Spot) → r1 n spots ≡ Ok (a, rest) → pair_at r1 r2 n spots ≡ (r2 n rest >>= λ y. Ok ((a, y.0), y.1))
-  pair_step n spots a rest e = rw e refl
+    (parts : (n : ℕ) (a : A) (b : B) (g rest : List PlacedWord) → ok2 n b → Spells (m2 b) g → Misses (on2 b) rest → Misses (on1 a) (g ++ rest)) where
+  pair_step : (n : ℕ) (words_ahead : List PlacedWord) (a : A) (rest : List PlacedWord) → r1 n words_ahead ≡ Ok (a, rest) → pair_at r1 r2 n words_ahead ≡ (r2 n rest >>= λ y. Ok ((a, y.0), y.1))
+  pair_step n words_ahead a rest e = rw e refl
 
-  pair_sound : (n : ℕ) (spots : List Spot) (v : A × B) (rest : List Spot) → pair_at r1 r2 n spots ≡ Ok (v, rest) → Reads_ (pair_marks m1 m2) (pair_ok ok1 ok2) (pair_on on2) n spots v rest
-  pair_sound n spots v rest e =
-      let b1 = bind_ok (r1 n spots) (λ x. r2 n x.1 >>= λ y. Ok ((x.0, y.0), y.1)) (v, rest) e in
+  pair_sound : (n : ℕ) (words_ahead : List PlacedWord) (v : A × B) (rest : List PlacedWord) → pair_at r1 r2 n words_ahead ≡ Ok (v, rest) → Reads_ (pair_tree_words m1 m2) (pair_ok ok1 ok2) (pair_on on2) n words_ahead v rest
+  pair_sound n words_ahead v rest e =
+      let b1 = bind_ok (r1 n words_ahead) (λ x. r2 n x.1 >>= λ y. Ok ((x.0, y.0), y.1)) (v, rest) e in
       let x = b1.0 in
       let b2 = bind_ok (r2 n x.1) (λ y. Ok ((x.0, y.0), y.1)) (v, rest) b1.2 in
       let y = b2.0 in
-      let s1 = p1.sound n spots x.0 x.1 b1.1 in
+      let s1 = p1.sound n words_ahead x.0 x.1 b1.1 in
       let s2 = p2.sound n x.1 y.0 y.1 b2.1 in
-      let made : Reads_ (pair_marks m1 m2) (pair_ok ok1 ok2) (pair_on on2) n spots (x.0, y.0) y.1 = record {
+      let made : Reads_ (pair_tree_words m1 m2) (pair_ok ok1 ok2) (pair_on on2) n words_ahead (x.0, y.0) y.1 = record {
         front = s1.front ++ s2.front;
-        split = s1.split ∙ ap (λ (t : List Spot). s1.front ++ t) s2.split ∙ sym (append_assoc s1.front s2.front y.1);
+        split = s1.split ∙ ap (λ (t : List PlacedWord). s1.front ++ t) s2.split ∙ sym (append_assoc s1.front s2.front y.1);
         spelled = Spells-append (m1 x.0) (m2 y.0) s1.front s2.front s1.spelled s2.spelled;
         shaped = (s1.shaped, s2.shaped);
         ends = s2.ends;
       } in
-      subst (λ (p : (A × B) × List Spot). Reads_ (pair_marks m1 m2) (pair_ok ok1 ok2) (pair_on on2) n spots p.0 p.1) (ok_is ((x.0, y.0), y.1) (v, rest) b2.2) made
+      subst (λ (p : (A × B) × List PlacedWord). Reads_ (pair_tree_words m1 m2) (pair_ok ok1 ok2) (pair_on on2) n words_ahead p.0 p.1) (ok_is ((x.0, y.0), y.1) (v, rest) b2.2) made
 
-  pair_whole : (n : ℕ) (v : A × B) (front rest : List Spot) → Spells (pair_marks m1 m2 v) front → pair_ok ok1 ok2 n v → Misses (on2 v.1) rest → pair_at r1 r2 n (front ++ rest) ≡ Ok (v, rest)
+  pair_whole : (n : ℕ) (v : A × B) (front rest : List PlacedWord) → Spells (pair_tree_words m1 m2 v) front → pair_ok ok1 ok2 n v → Misses (on2 v.1) rest → pair_at r1 r2 n (front ++ rest) ≡ Ok (v, rest)
   pair_whole n v front rest h k miss =
       let p = Spells-parted (m1 v.0) (m2 v.1) front h in
       let e1 = p1.whole n v.0 p.front (p.behind ++ rest) p.first k.0 (parts n v.0 v.1 p.behind rest k.1 p.second miss) in
       let e2 = p2.whole n v.1 p.behind rest p.second k.1 miss in
-      let whole : front ++ rest ≡ p.front ++ (p.behind ++ rest) = ap (λ (t : List Spot). t ++ rest) p.parts ∙ append_assoc p.front p.behind rest in
+      let whole : front ++ rest ≡ p.front ++ (p.behind ++ rest) = ap (λ (t : List PlacedWord). t ++ rest) p.parts ∙ append_assoc p.front p.behind rest in
       ap (pair_at r1 r2 n) whole ∙ pair_step n (p.front ++ (p.behind ++ rest)) v.0 (p.behind ++ rest) e1 ∙ rw e2 refl
 
-  pair_first : (n : ℕ) (used : List Spot) → Completed m1 ok1 n used → Completed (pair_marks m1 m2) (pair_ok ok1 ok2) n used
-  pair_first n used c = completed m1 ok1 (pair_marks m1 m2) (pair_ok ok1 ok2) (λ a. (a, p2.some)) n [] used (m2 p2.some)
-      (λ a h. (h, p2.some_shaped n)) (λ a spots h. Spells-append (m1 a) (m2 p2.some) spots (spots_of (m2 p2.some)) h (spots_spell (m2 p2.some))) p2.some_words c
+  pair_first : (n : ℕ) (used : List PlacedWord) → Completed m1 ok1 n used → Completed (pair_tree_words m1 m2) (pair_ok ok1 ok2) n used
+  pair_first n used c = completed m1 ok1 (pair_tree_words m1 m2) (pair_ok ok1 ok2) (λ a. (a, p2.some)) n [] used (m2 p2.some)
+      (λ a h. (h, p2.some_shaped n)) (λ a words_ahead h. Spells-append (m1 a) (m2 p2.some) words_ahead (all_placed_as (m2 p2.some)) h (placed_spell (m2 p2.some))) p2.some_words c
 
-  pair_second : (n : ℕ) (a : A) (front used : List Spot) → Spells (m1 a) front → ok1 n a → Completed m2 ok2 n used → Completed (pair_marks m1 m2) (pair_ok ok1 ok2) n (front ++ used)
-  pair_second n a front used h k c = completed m2 ok2 (pair_marks m1 m2) (pair_ok ok1 ok2) (λ b. (a, b)) n front used []
-      (λ b g. (k, g)) (λ b spots g. Spells-append (m1 a) (m2 b) front (spots ++ []) h (rw (append-nil spots) g)) tt c
+  pair_second : (n : ℕ) (a : A) (front used : List PlacedWord) → Spells (m1 a) front → ok1 n a → Completed m2 ok2 n used → Completed (pair_tree_words m1 m2) (pair_ok ok1 ok2) n (front ++ used)
+  pair_second n a front used h k c = completed m2 ok2 (pair_tree_words m1 m2) (pair_ok ok1 ok2) (λ b. (a, b)) n front used []
+      (λ b g. (k, g)) (λ b words_ahead g. Spells-append (m1 a) (m2 b) front (words_ahead ++ []) h (rw (append-nil words_ahead) g)) tt c
 
-  pair_fails_first : (n : ℕ) (spots : List Spot) (s : Stop) → r1 n spots ≡ Err s → Fails (pair_at r1 r2) (pair_marks m1 m2) (pair_ok ok1 ok2) n spots s
-  pair_fails_first n spots s e =
-      let f = p1.fails n spots s e in
+  pair_fails_first : (n : ℕ) (words_ahead : List PlacedWord) (s : Stop) → r1 n words_ahead ≡ Err s → Fails (pair_at r1 r2) (pair_tree_words m1 m2) (pair_ok ok1 ok2) n words_ahead s
+  pair_fails_first n words_ahead s e =
+      let f = p1.fails n words_ahead s e in
       record {
         used = f.used;
         split = f.split;
@@ -136,34 +140,34 @@ module _ {A B : Type 0} (r1 : ℕ → List Spot → Read A) (m1 : A → List Mar
         deeper = λ x more l w. pair_first (suc n) (f.used ++ (x ∷ [])) (f.deeper x more l w);
       }
 
-  pair_fails_second : (n : ℕ) (spots : List Spot) (s : Stop) (a : A) (rest : List Spot) → r1 n spots ≡ Ok (a, rest) → r2 n rest ≡ Err s → Fails (pair_at r1 r2) (pair_marks m1 m2) (pair_ok ok1 ok2) n spots s
-  pair_fails_second n spots s a rest e1 e2 =
-      let s1 = p1.sound n spots a rest e1 in
+  pair_fails_second : (n : ℕ) (words_ahead : List PlacedWord) (s : Stop) (a : A) (rest : List PlacedWord) → r1 n words_ahead ≡ Ok (a, rest) → r2 n rest ≡ Err s → Fails (pair_at r1 r2) (pair_tree_words m1 m2) (pair_ok ok1 ok2) n words_ahead s
+  pair_fails_second n words_ahead s a rest e1 e2 =
+      let s1 = p1.sound n words_ahead a rest e1 in
       let f = p2.fails n rest s e2 in
       record {
         used = s1.front ++ f.used;
-        split = s1.split ∙ ap (λ (t : List Spot). s1.front ++ t) f.split ∙ sym (append_assoc s1.front f.used s.left);
+        split = s1.split ∙ ap (λ (t : List PlacedWord). s1.front ++ t) f.split ∙ sym (append_assoc s1.front f.used s.left);
         ended = f.ended;
         begun = pair_second n a s1.front f.used s1.spelled s1.shaped f.begun;
         bad = λ x more l m reach other.
-            let misses : Misses (on1 a) (f.used ++ (x ∷ more)) = subst (Misses (on1 a)) (f.split ∙ ap (λ (t : List Spot). f.used ++ t) l) s1.ends in
+            let misses : Misses (on1 a) (f.used ++ (x ∷ more)) = subst (Misses (on1 a)) (f.split ∙ ap (λ (t : List PlacedWord). f.used ++ t) l) s1.ends in
             let again = p1.whole m a s1.front (f.used ++ (x ∷ other)) s1.spelled (p1.wider n m a (Reaches-le s.why n m reach) s1.shaped) (Misses-same (on1 a) f.used x more other misses) in
             ap (pair_at r1 r2 m) (append_assoc s1.front f.used (x ∷ other)) ∙ pair_step m (s1.front ++ (f.used ++ (x ∷ other))) a (f.used ++ (x ∷ other)) again
             ∙ bind_same (r2 m (f.used ++ (x ∷ other))) (λ y. Ok ((a, y.0), y.1)) (stop s.why (x ∷ other)) (f.bad x more l m reach other);
-        deeper = λ x more l w. subst (Completed (pair_marks m1 m2) (pair_ok ok1 ok2) (suc n)) (sym (append_assoc s1.front f.used (x ∷ [])))
+        deeper = λ x more l w. subst (Completed (pair_tree_words m1 m2) (pair_ok ok1 ok2) (suc n)) (sym (append_assoc s1.front f.used (x ∷ [])))
             (pair_second (suc n) a s1.front (f.used ++ (x ∷ [])) s1.spelled (p1.wider n (suc n) a (omega arith) s1.shaped) (f.deeper x more l w));
       }
 
-  pair_fails : (n : ℕ) (spots : List Spot) (s : Stop) → pair_at r1 r2 n spots ≡ Err s → Fails (pair_at r1 r2) (pair_marks m1 m2) (pair_ok ok1 ok2) n spots s
-  pair_fails n spots s e = elim (bind_err (r1 n spots) (λ x. r2 n x.1 >>= λ y. Ok ((x.0, y.0), y.1)) s e) [
-    | inl e1 ↦ pair_fails_first n spots s e1
+  pair_fails : (n : ℕ) (words_ahead : List PlacedWord) (s : Stop) → pair_at r1 r2 n words_ahead ≡ Err s → Fails (pair_at r1 r2) (pair_tree_words m1 m2) (pair_ok ok1 ok2) n words_ahead s
+  pair_fails n words_ahead s e = elim (bind_err (r1 n words_ahead) (λ x. r2 n x.1 >>= λ y. Ok ((x.0, y.0), y.1)) s e) [
+    | inl e1 ↦ pair_fails_first n words_ahead s e1
     | inr b ↦ elim (bind_err (r2 n b.0.1) (λ y. Ok ((b.0.0, y.0), y.1)) s b.2) [
-      | inl e2 ↦ pair_fails_second n spots s b.0.0 b.0.1 b.1 e2
+      | inl e2 ↦ pair_fails_second n words_ahead s b.0.0 b.0.1 b.1 e2
       | inr d ↦ absurd cc
     ]
   ]
 
-  pub pair_reads : Reads (pair_at r1 r2) (pair_marks m1 m2) (pair_ok ok1 ok2) (pair_on on2)
+  pub pair_reads : Reads (pair_at r1 r2) (pair_tree_words m1 m2) (pair_ok ok1 ok2) (pair_on on2)
   pair_reads = record {
     sound = pair_sound;
     whole = pair_whole;
@@ -171,7 +175,7 @@ module _ {A B : Type 0} (r1 : ℕ → List Spot → Read A) (m1 : A → List Mar
     wider = λ n m v le h. (p1.wider n m v.0 le h.0, p2.wider n m v.1 le h.1);
     some = (p1.some, p2.some);
     some_shaped = λ n. (p1.some_shaped n, p2.some_shaped n);
-    some_words = AreMarks-append (m1 p1.some) (m2 p2.some) p1.some_words p2.some_words;
+    some_words = AreTreeWords-append (m1 p1.some) (m2 p2.some) p1.some_words p2.some_words;
   }
 
 -- ---- one word
@@ -184,7 +188,7 @@ closed v = never
 abbrev pub any : {A : Type 0} → ℕ → A → Type 0
 any n v = Unit {0}
 
-abbrev pub one : {A : Type 0} → (A → Word) → A → List Mark
+abbrev pub one : {A : Type 0} → (A → Word) → A → List TreeWord
 one word a = Goes (word a) ∷ []
 
 -- well formed whatever the limit
@@ -195,27 +199,27 @@ module _ {A : Type 0} (pick : Word → Option A) (word : A → Word) (ok : A →
     (picked : (w : Word) (a : A) → pick w ≡ Some a → (w ≡ word a) × ok a)
     (again : (a : A) → ok a → pick (word a) ≡ Some a)
     (a0 : A) (shaped0 : ok a0) (good : IsWord (word a0)) where
-  leaf_sound : (n : ℕ) (spots : List Spot) (v : A) (rest : List Spot) → leaf_at pick spots ≡ Ok (v, rest) → Reads_ (one word) (plainly ok) closed n spots v rest
+  leaf_sound : (n : ℕ) (words_ahead : List PlacedWord) (v : A) (rest : List PlacedWord) → leaf_at pick words_ahead ≡ Ok (v, rest) → Reads_ (one word) (plainly ok) closed n words_ahead v rest
   unfolding leaf_at
   leaf_sound n [] v rest e = absurd cc
-  leaf_sound n (spot ∷ spots) v rest e = go (pick spot.word) refl e
+  leaf_sound n (placed ∷ words_ahead) v rest e = go (pick placed.word) refl e
     where
-      go : (o : Option A) → pick spot.word ≡ o → taken o (spot ∷ spots) ≡ Ok (v, rest) → Reads_ (one word) (plainly ok) closed n (spot ∷ spots) v rest
+      go : (o : Option A) → pick placed.word ≡ o → taken o (placed ∷ words_ahead) ≡ Ok (v, rest) → Reads_ (one word) (plainly ok) closed n (placed ∷ words_ahead) v rest
       go None p e = absurd cc
       go (Some a) p e =
-          let made : Reads_ (one word) (plainly ok) closed n (spot ∷ spots) a spots = record { front = spot ∷ []; split = refl; spelled = ((picked spot.word a p).0, tt); shaped = (picked spot.word a p).1; ends = Misses-never spots } in
-          subst (λ (p : A × List Spot). Reads_ (one word) (plainly ok) closed n (spot ∷ spots) p.0 p.1) (ok_is (a, spots) (v, rest) e) made
+          let made : Reads_ (one word) (plainly ok) closed n (placed ∷ words_ahead) a words_ahead = record { front = placed ∷ []; split = refl; spelled = ((picked placed.word a p).0, tt); shaped = (picked placed.word a p).1; ends = Misses-never words_ahead } in
+          subst (λ (p : A × List PlacedWord). Reads_ (one word) (plainly ok) closed n (placed ∷ words_ahead) p.0 p.1) (ok_is (a, words_ahead) (v, rest) e) made
 
-  leaf_whole : (n : ℕ) (v : A) (front rest : List Spot) → Spells (one word v) front → ok v → Misses never rest → leaf_at pick (front ++ rest) ≡ Ok (v, rest)
+  leaf_whole : (n : ℕ) (v : A) (front rest : List PlacedWord) → Spells (one word v) front → ok v → Misses never rest → leaf_at pick (front ++ rest) ≡ Ok (v, rest)
   unfolding leaf_at
   leaf_whole n v [] rest h k m = absurd h
-  leaf_whole n v (spot ∷ []) rest h k m = rw (h.0, again v k) refl
-  leaf_whole n v (spot ∷ x ∷ front) rest h k m = absurd h.1
+  leaf_whole n v (placed ∷ []) rest h k m = rw (h.0, again v k) refl
+  leaf_whole n v (placed ∷ x ∷ front) rest h k m = absurd h.1
 
   leaf_begun : (n : ℕ) → Completed (one word) (plainly ok) n []
-  leaf_begun n = record { whole = a0; tail = spots_of (one word a0); shaped = shaped0; spelled = spots_spell (one word a0); words = spots_are_words (one word a0) (good, tt) }
+  leaf_begun n = record { whole = a0; tail = all_placed_as (one word a0); shaped = shaped0; spelled = placed_spell (one word a0); words = placed_are_words (one word a0) (good, tt) }
 
-  leaf_fails : (n : ℕ) (spots : List Spot) (s : Stop) → leaf_at pick spots ≡ Err s → Fails (λ n. leaf_at pick) (one word) (plainly ok) n spots s
+  leaf_fails : (n : ℕ) (words_ahead : List PlacedWord) (s : Stop) → leaf_at pick words_ahead ≡ Err s → Fails (λ n. leaf_at pick) (one word) (plainly ok) n words_ahead s
   unfolding leaf_at
   leaf_fails n [] s e = subst (Fails (λ n. leaf_at pick) (one word) (plainly ok) n []) (err_is {A = A} (stop Unexpected []) s e) (record {
     used = [];
@@ -225,15 +229,15 @@ module _ {A : Type 0} (pick : Word → Option A) (word : A → Word) (ok : A →
     bad = λ x more l m reach other. absurd cc;
     deeper = λ x more l w. absurd cc;
   })
-  leaf_fails n (spot ∷ spots) s e = go (pick spot.word) refl e
+  leaf_fails n (placed ∷ words_ahead) s e = go (pick placed.word) refl e
     where
-      go : (o : Option A) → pick spot.word ≡ o → taken o (spot ∷ spots) ≡ Err s → Fails (λ n. leaf_at pick) (one word) (plainly ok) n (spot ∷ spots) s
-      go None p e = subst (Fails (λ n. leaf_at pick) (one word) (plainly ok) n (spot ∷ spots)) (err_is {A = A} (stop Unexpected (spot ∷ spots)) s e) (record {
+      go : (o : Option A) → pick placed.word ≡ o → taken o (placed ∷ words_ahead) ≡ Err s → Fails (λ n. leaf_at pick) (one word) (plainly ok) n (placed ∷ words_ahead) s
+      go None p e = subst (Fails (λ n. leaf_at pick) (one word) (plainly ok) n (placed ∷ words_ahead)) (err_is {A = A} (stop Unexpected (placed ∷ words_ahead)) s e) (record {
         used = [];
         split = refl;
         ended = λ l. refl;
         begun = leaf_begun n;
-        bad = λ x more l m reach other. let same : spot ≡ x = cc in subst (λ (y : Spot). leaf_at pick (y ∷ other) ≡ Err (stop Unexpected (y ∷ other))) same (rw p refl);
+        bad = λ x more l m reach other. let same : placed ≡ x = cc in subst (λ (y : PlacedWord). leaf_at pick (y ∷ other) ≡ Err (stop Unexpected (y ∷ other))) same (rw p refl);
         deeper = λ x more l w. absurd cc;
       })
       go (Some a) p e = absurd cc
@@ -251,50 +255,50 @@ module _ {A : Type 0} (pick : Word → Option A) (word : A → Word) (ok : A →
 
 -- ---- a value made of another
 
-module _ {A B : Type 0} (r : ℕ → List Spot → Read A) (m : A → List Mark) (ok : ℕ → A → Type 0) (on : A → Word → Bool) (p : Reads r m ok on)
-    (r' : ℕ → List Spot → Read B) (m' : B → List Mark) (ok' : ℕ → B → Type 0) (on' : B → Word → Bool)
+module _ {A B : Type 0} (r : ℕ → List PlacedWord → Read A) (m : A → List TreeWord) (ok : ℕ → A → Type 0) (on : A → Word → Bool) (p : Reads r m ok on)
+    (r' : ℕ → List PlacedWord → Read B) (m' : B → List TreeWord) (ok' : ℕ → B → Type 0) (on' : B → Word → Bool)
     (to : A → B)
-    (same : (n : ℕ) (spots : List Spot) → r' n spots ≡ (r n spots >>= λ x. Ok (to x.0, x.1)))
-    (marks : (n : ℕ) (a : A) → ok n a → m' (to a) ≡ m a)
+    (same : (n : ℕ) (words_ahead : List PlacedWord) → r' n words_ahead ≡ (r n words_ahead >>= λ x. Ok (to x.0, x.1)))
+    (tree_words : (n : ℕ) (a : A) → ok n a → m' (to a) ≡ m a)
     (ons : (n : ℕ) (a : A) → ok n a → on' (to a) ≡ on a)
     (there : (n : ℕ) (a : A) → ok n a → ok' n (to a))
     (back : (n : ℕ) (b : B) → ok' n b → (a : A) × ok n a × (to a ≡ b))
     (wider' : (n k : ℕ) (b : B) → n ≤ k → ok' n b → ok' k b) where
-  made_sound : (n : ℕ) (spots : List Spot) (v : B) (rest : List Spot) → r' n spots ≡ Ok (v, rest) → Reads_ m' ok' on' n spots v rest
-  made_sound n spots v rest e =
-      let b = bind_ok (r n spots) (λ x. Ok (to x.0, x.1)) (v, rest) (sym (same n spots) ∙ e) in
+  made_sound : (n : ℕ) (words_ahead : List PlacedWord) (v : B) (rest : List PlacedWord) → r' n words_ahead ≡ Ok (v, rest) → Reads_ m' ok' on' n words_ahead v rest
+  made_sound n words_ahead v rest e =
+      let b = bind_ok (r n words_ahead) (λ x. Ok (to x.0, x.1)) (v, rest) (sym (same n words_ahead) ∙ e) in
       let x = b.0 in
-      let s = p.sound n spots x.0 x.1 b.1 in
-      let made : Reads_ m' ok' on' n spots (to x.0) x.1 = record {
+      let s = p.sound n words_ahead x.0 x.1 b.1 in
+      let made : Reads_ m' ok' on' n words_ahead (to x.0) x.1 = record {
         front = s.front;
         split = s.split;
-        spelled = subst (λ (t : List Mark). Spells t s.front) (sym (marks n x.0 s.shaped)) s.spelled;
+        spelled = subst (λ (t : List TreeWord). Spells t s.front) (sym (tree_words n x.0 s.shaped)) s.spelled;
         shaped = there n x.0 s.shaped;
         ends = subst (λ (t : Word → Bool). Misses t x.1) (sym (ons n x.0 s.shaped)) s.ends;
       } in
-      subst (λ (p : B × List Spot). Reads_ m' ok' on' n spots p.0 p.1) (ok_is (to x.0, x.1) (v, rest) b.2) made
+      subst (λ (p : B × List PlacedWord). Reads_ m' ok' on' n words_ahead p.0 p.1) (ok_is (to x.0, x.1) (v, rest) b.2) made
 
-  made_whole : (n : ℕ) (v : B) (front rest : List Spot) → Spells (m' v) front → ok' n v → Misses (on' v) rest → r' n (front ++ rest) ≡ Ok (v, rest)
+  made_whole : (n : ℕ) (v : B) (front rest : List PlacedWord) → Spells (m' v) front → ok' n v → Misses (on' v) rest → r' n (front ++ rest) ≡ Ok (v, rest)
   made_whole n v front rest h k miss =
       let b = back n v k in
       let a = b.0 in
-      let spelled : Spells (m a) front = subst (λ (t : List Mark). Spells t front) (marks n a b.1) (subst (λ (t : B). Spells (m' t) front) (sym b.2) h) in
+      let spelled : Spells (m a) front = subst (λ (t : List TreeWord). Spells t front) (tree_words n a b.1) (subst (λ (t : B). Spells (m' t) front) (sym b.2) h) in
       let misses : Misses (on a) rest = subst (λ (t : Word → Bool). Misses t rest) (ons n a b.1) (subst (λ (t : B). Misses (on' t) rest) (sym b.2) miss) in
       let e : r' n (front ++ rest) ≡ Ok (to a, rest) = same n (front ++ rest) ∙ rw (p.whole n a front rest spelled b.1 misses) refl in
       subst (λ (t : B). r' n (front ++ rest) ≡ Ok (t, rest)) b.2 e
 
-  made_begun : (n : ℕ) (used : List Spot) → Completed m ok n used → Completed m' ok' n used
+  made_begun : (n : ℕ) (used : List PlacedWord) → Completed m ok n used → Completed m' ok' n used
   made_begun n used c = record {
     whole = to c.whole;
     tail = c.tail;
     shaped = there n c.whole c.shaped;
-    spelled = subst (λ (t : List Mark). Spells t (used ++ c.tail)) (sym (marks n c.whole c.shaped)) c.spelled;
+    spelled = subst (λ (t : List TreeWord). Spells t (used ++ c.tail)) (sym (tree_words n c.whole c.shaped)) c.spelled;
     words = c.words;
   }
 
-  made_fails : (n : ℕ) (spots : List Spot) (s : Stop) → r' n spots ≡ Err s → Fails r' m' ok' n spots s
-  made_fails n spots s e = elim (bind_err (r n spots) (λ x. Ok (to x.0, x.1)) s (sym (same n spots) ∙ e)) [
-    | inl e1 ↦ let f = p.fails n spots s e1 in record {
+  made_fails : (n : ℕ) (words_ahead : List PlacedWord) (s : Stop) → r' n words_ahead ≡ Err s → Fails r' m' ok' n words_ahead s
+  made_fails n words_ahead s e = elim (bind_err (r n words_ahead) (λ x. Ok (to x.0, x.1)) s (sym (same n words_ahead) ∙ e)) [
+    | inl e1 ↦ let f = p.fails n words_ahead s e1 in record {
       used = f.used;
       split = f.split;
       ended = f.ended;
@@ -313,14 +317,14 @@ module _ {A B : Type 0} (r : ℕ → List Spot → Read A) (m : A → List Mark)
     wider = wider';
     some = to p.some;
     some_shaped = λ n. there n p.some (p.some_shaped n);
-    some_words = subst AreMarks (sym (marks 0 p.some (p.some_shaped 0))) p.some_words;
+    some_words = subst AreTreeWords (sym (tree_words 0 p.some (p.some_shaped 0))) p.some_words;
   }
 
 -- ---- what goes on with the first doesn't begin the second
 
-pub apart_closed : {A B : Type 0} (m2 : B → List Mark) (ok2 : ℕ → B → Type 0) (on2 : B → Word → Bool) (n : ℕ) (a : A) (b : B) (g rest : List Spot) → ok2 n b → Spells (m2 b) g → Misses (on2 b) rest → Misses (closed a) (g ++ rest)
+pub apart_closed : {A B : Type 0} (m2 : B → List TreeWord) (ok2 : ℕ → B → Type 0) (on2 : B → Word → Bool) (n : ℕ) (a : A) (b : B) (g rest : List PlacedWord) → ok2 n b → Spells (m2 b) g → Misses (on2 b) rest → Misses (closed a) (g ++ rest)
 apart_closed m2 ok2 on2 n a b g rest k h miss = Misses-never (g ++ rest)
 
-pub apart_first : {A B : Type 0} (on1 : A → Word → Bool) (m2 : B → List Mark) (ok2 : ℕ → B → Type 0) (on2 : B → Word → Bool) (first : (n : ℕ) (a : A) (b : B) → ok2 n b → StartsAs (on1 a) false (m2 b))
-    (n : ℕ) (a : A) (b : B) (g rest : List Spot) → ok2 n b → Spells (m2 b) g → Misses (on2 b) rest → Misses (on1 a) (g ++ rest)
+pub apart_first : {A B : Type 0} (on1 : A → Word → Bool) (m2 : B → List TreeWord) (ok2 : ℕ → B → Type 0) (on2 : B → Word → Bool) (first : (n : ℕ) (a : A) (b : B) → ok2 n b → StartsAs (on1 a) false (m2 b))
+    (n : ℕ) (a : A) (b : B) (g rest : List PlacedWord) → ok2 n b → Spells (m2 b) g → Misses (on2 b) rest → Misses (on1 a) (g ++ rest)
 apart_first on1 m2 ok2 on2 first n a b g rest k h miss = Misses-first (on1 a) (g ++ rest) (is_first-spelled (on1 a) false (m2 b) g rest h (first n a b k))

@@ -15,21 +15,21 @@ use Rattle.mdl_ast.specs.declared.block.Insertion.{Insertion}
 use Rattle.mdl_ast.specs.declared.items.Conf.{Conf}
 use Rattle.mdl_ast.specs.declared.items.Item.{Item}
 use Rattle.mdl_ast.specs.declared.items.Item.TheVariants as item
-use Rattle.mdl_parse.specs.Spots.{Spot, Mark, Starts, Goes, IsWord, AreWords, Spells, mark_word, goes, starts, text_spots}
-use Rattle.mdl_parse.specs.Grammar.{left_words, right_word, condition_words, action_words, statement_words, statement_marks, insertion_head, insertion_marks, block_head, block_marks, blocks_marks}
-use Rattle.mdl_parse.specs.ItemGrammar.{metric_head, constraint_head, item_marks, conf_marks}
+use Rattle.mdl_parse.specs.WordsInText.{PlacedWord, TreeWord, Starts, Goes, IsWord, AreWords, Spells, plain_word, goes, starts, placed_words}
+use Rattle.mdl_parse.specs.Grammar.{left_words, right_word, condition_words, action_words, statement_words, statement_tree_words, insertion_head, insertion_tree_words, block_head, block_tree_words, blocks_tree_words}
+use Rattle.mdl_parse.specs.ItemGrammar.{metric_head, constraint_head, item_tree_words, conf_tree_words}
 use Rattle.mdl_parse.specs.Meaning.{IsConf}
 use Rattle.mdl_parse.specs.Shapes.{StatementShaped, InsertionShaped, BlockShaped, BlocksShaped, ItemShaped}
 use Rattle.mdl_parse.proofs.Unique.{text_words}
 
-abbrev MarkIsWord : Mark → Type 0
-MarkIsWord mark = IsWord (mark_word mark)
+abbrev TreeWordIsWord : TreeWord → Type 0
+TreeWordIsWord tree_word = IsWord (plain_word tree_word)
 
-marks_are_words : (marks : List Mark) (spots : List Spot) → Spells marks spots → AreWords spots → AllByRecursion MarkIsWord marks
-marks_are_words [] spots s w = tt
-marks_are_words (mark ∷ marks) [] s w = absurd s
-marks_are_words (Starts line word ∷ marks) (spot ∷ spots) s w = (ap is_word (sym s.0.0) ∙ w.0, marks_are_words marks spots s.1 w.1)
-marks_are_words (Goes word ∷ marks) (spot ∷ spots) s w = (ap is_word (sym s.0) ∙ w.0, marks_are_words marks spots s.1 w.1)
+tree_words_are_words : (tree_words : List TreeWord) (words_ahead : List PlacedWord) → Spells tree_words words_ahead → AreWords words_ahead → AllByRecursion TreeWordIsWord tree_words
+tree_words_are_words [] words_ahead s w = tt
+tree_words_are_words (tree_word ∷ tree_words) [] s w = absurd s
+tree_words_are_words (Starts line word ∷ tree_words) (placed ∷ words_ahead) s w = (ap is_word (sym s.0.0) ∙ w.0, tree_words_are_words tree_words words_ahead s.1 w.1)
+tree_words_are_words (Goes word ∷ tree_words) (placed ∷ words_ahead) s w = (ap is_word (sym s.0) ∙ w.0, tree_words_are_words tree_words words_ahead s.1 w.1)
 
 -- ---- lists
 
@@ -55,11 +55,11 @@ each_alone P f R one (x ∷ xs) h = (one x (front P (f x) (flat_map f xs) h), ea
 
 -- ---- statements
 
-goes_words : (words : List Word) → AllByRecursion MarkIsWord (goes words) → AllByRecursion IsWord words
+goes_words : (words : List Word) → AllByRecursion TreeWordIsWord (goes words) → AllByRecursion IsWord words
 goes_words [] h = tt
 goes_words (word ∷ words) h = (h.0, goes_words words h.1)
 
-starts_words : (line : ℕ) (words : List Word) → AllByRecursion MarkIsWord (starts line words) → AllByRecursion IsWord words
+starts_words : (line : ℕ) (words : List Word) → AllByRecursion TreeWordIsWord (starts line words) → AllByRecursion IsWord words
 starts_words line [] h = tt
 starts_words line (word ∷ words) h = (h.0, goes_words words h.1)
 
@@ -77,7 +77,7 @@ small_action (Put var n) h = leb-true n greatest_number h.1.1.0
 small_action (Start var) h = tt
 small_action (Stop var) h = tt
 
-small_statement : (s : Statement) → AllByRecursion MarkIsWord (statement_marks s) → StatementShaped 16 s → IsSmall s
+small_statement : (s : Statement) → AllByRecursion TreeWordIsWord (statement_tree_words s) → StatementShaped 16 s → IsSmall s
 small_statement s h shaped =
     let words = starts_words s.line (statement_words s) h in
     record {
@@ -88,28 +88,28 @@ small_statement s h shaped =
 
 -- ---- blocks
 
-small_insertion : (i : Insertion) → AllByRecursion MarkIsWord (insertion_marks i) → InsertionShaped 16 i → AllByRecursion IsSmall i.stmts
+small_insertion : (i : Insertion) → AllByRecursion TreeWordIsWord (insertion_tree_words i) → InsertionShaped 16 i → AllByRecursion IsSmall i.stmts
 small_insertion i h shaped =
-    each MarkIsWord statement_marks (StatementShaped 16) IsSmall small_statement i.stmts
-    (front MarkIsWord (flat_map statement_marks i.stmts) _ (back MarkIsWord (starts i.line (insertion_head i)) _ h)) shaped
+    each TreeWordIsWord statement_tree_words (StatementShaped 16) IsSmall small_statement i.stmts
+    (front TreeWordIsWord (flat_map statement_tree_words i.stmts) _ (back TreeWordIsWord (starts i.line (insertion_head i)) _ h)) shaped
 
-small_block : (b : Block) → AllByRecursion MarkIsWord (block_marks b) → BlockShaped 16 b → AllByRecursion (λ i. AllByRecursion IsSmall i.stmts) b.insertions
+small_block : (b : Block) → AllByRecursion TreeWordIsWord (block_tree_words b) → BlockShaped 16 b → AllByRecursion (λ i. AllByRecursion IsSmall i.stmts) b.insertions
 small_block b h shaped =
-    each MarkIsWord insertion_marks (InsertionShaped 16) (λ i. AllByRecursion IsSmall i.stmts) small_insertion b.insertions
-    (front MarkIsWord (flat_map insertion_marks b.insertions) _ (back MarkIsWord (starts b.line (block_head b)) _ h)) shaped.1
+    each TreeWordIsWord insertion_tree_words (InsertionShaped 16) (λ i. AllByRecursion IsSmall i.stmts) small_insertion b.insertions
+    (front TreeWordIsWord (flat_map insertion_tree_words b.insertions) _ (back TreeWordIsWord (starts b.line (block_head b)) _ h)) shaped.1
 
-small_blocks : (blocks : List Block) → AllByRecursion MarkIsWord (blocks_marks blocks) → BlocksShaped 16 blocks → AreSmall blocks
+small_blocks : (blocks : List Block) → AllByRecursion TreeWordIsWord (blocks_tree_words blocks) → BlocksShaped 16 blocks → AreSmall blocks
 small_blocks blocks h shaped =
-    each MarkIsWord block_marks (BlockShaped 16) (λ b. AllByRecursion (λ i. AllByRecursion IsSmall i.stmts) b.insertions) small_block blocks
-    (front MarkIsWord (flat_map block_marks blocks) _ h.1) shaped
+    each TreeWordIsWord block_tree_words (BlockShaped 16) (λ b. AllByRecursion (λ i. AllByRecursion IsSmall i.stmts) b.insertions) small_block blocks
+    (front TreeWordIsWord (flat_map block_tree_words blocks) _ h.1) shaped
 
 -- ---- items
 
-small_item : (i : Item) → AllByRecursion MarkIsWord (item_marks i) → ItemShaped 16 i → HasSmall i
+small_item : (i : Item) → AllByRecursion TreeWordIsWord (item_tree_words i) → ItemShaped 16 i → HasSmall i
 small_item (item.Include i) h shaped = tt
 small_item (item.Sync s) h shaped = tt
-small_item (item.Metric m) h shaped = small_blocks m.blocks (front MarkIsWord (blocks_marks m.blocks) _ (back MarkIsWord (starts m.line (metric_head m)) _ h)) shaped
-small_item (item.Constraint c) h shaped = small_blocks c.blocks (back MarkIsWord (starts c.line (constraint_head c)) _ h) shaped
+small_item (item.Metric m) h shaped = small_blocks m.blocks (front TreeWordIsWord (blocks_tree_words m.blocks) _ (back TreeWordIsWord (starts m.line (metric_head m)) _ h)) shaped
+small_item (item.Constraint c) h shaped = small_blocks c.blocks (back TreeWordIsWord (starts c.line (constraint_head c)) _ h) shaped
 small_item (item.Hypothesis x) h shaped = tt
 small_item (item.Search s) h shaped = tt
 small_item (item.Phase p) h shaped = tt
@@ -117,5 +117,5 @@ small_item (item.Wish w) h shaped = tt
 
 pub small_conf : (text : List ℕ) (c : Conf) → IsConf text c → AllByRecursion HasSmall c.items
 small_conf text c is =
-    each MarkIsWord item_marks (ItemShaped 16) HasSmall small_item c.items
-    (marks_are_words (conf_marks c) (text_spots text) is.spelled.words (text_words text)) is.spelled.shaped
+    each TreeWordIsWord item_tree_words (ItemShaped 16) HasSmall small_item c.items
+    (tree_words_are_words (conf_tree_words c) (placed_words text) is.spelled.words (text_words text)) is.spelled.shaped

@@ -11,16 +11,16 @@ use Rattle.mdl_parse.specs.declared.seen.Seen.{Seen}
 use Rattle.mdl_parse.specs.declared.seen.Seen.TheVariants as seen
 use Rattle.mdl_parse.specs.declared.seen.SeenVar.{SeenVar}
 use Rattle.mdl_parse.specs.declared.seen.SeenVar.TheVariants as var
-use Rattle.mdl_parse.specs.Spots.{Spot, Ahead, token_spot}
+use Rattle.mdl_parse.specs.WordsInText.{PlacedWord, Ahead, placed_word}
 use Rattle.mdl_parse.specs.Steps.{Read, stop}
 
 -- it stops where reading stops, unless memory is wanting
-abbrev pub Stops : {A : Type 0} → Refused_or_memory → List Spot → Read A → Type 0
+abbrev pub Stops : {A : Type 0} → Refused_or_memory → List PlacedWord → Read A → Type 0
 Stops NoMemory rest read = Unit {0}
 Stops (Refused why) rest read = read ≡ Err (stop why rest)
 
 -- it answers what was read, and leaves what is left
-abbrev pub Gives : {A : Type 0} → Result A Refused_or_memory → List Spot → Read A → Type 0
+abbrev pub Gives : {A : Type 0} → Result A Refused_or_memory → List PlacedWord → Read A → Type 0
 Gives (Ok a) rest read = read ≡ Ok (a, rest)
 Gives (Err e) rest read = Stops e rest read
 
@@ -53,7 +53,7 @@ HasEnded None scan = scan.tokens ≡ []
 HasEnded (Some token) scan = Unit {0}
 
 abbrev pub in_view : List ℕ → Option Token → Scan → Ahead
-in_view text token scan = record { spots = map (token_spot text) (tokens_ahead token scan); ending = scan.ending }
+in_view text token scan = record { words_ahead = map (placed_word text) (tokens_ahead token scan); ending = scan.ending }
 
 -- the tokens stand in the text
 pub record StandIn (text : List ℕ) (token : Option Token) (scan : Scan) : Type 0 where

@@ -22,7 +22,7 @@ use Rattle.mdl_ast.specs.declared.block.EventKind.{EventKind}
 use Rattle.mdl_ast.specs.declared.block.EventKind.TheVariants.{Entry, After, Return, Call}
 use Rattle.mdl_ast.specs.declared.block.Insertion.{Insertion}
 use Rattle.mdl_ast.specs.declared.block.Block.{Block}
-use Rattle.mdl_parse.specs.Spots.{Mark, goes, starts}
+use Rattle.mdl_parse.specs.WordsInText.{TreeWord, goes, starts}
 
 -- a keyword
 abbrev pub keyword : List ℕ → Word
@@ -68,8 +68,8 @@ action_words (Stop var) = keyword (codes "stop") ∷ SignWord OpenParen ∷ var_
 abbrev pub statement_words : Statement → List Word
 statement_words s = flat_map condition_words s.conds ++ action_words s.act
 
-abbrev pub statement_marks : Statement → List Mark
-statement_marks s = starts s.line (statement_words s)
+abbrev pub statement_tree_words : Statement → List TreeWord
+statement_tree_words s = starts s.line (statement_words s)
 
 -- ---- insertions and blocks
 
@@ -89,8 +89,8 @@ insertion_head i =
     keyword (if i.prepend then codes "prepend" else codes "append") ∷ keyword (event_name i.kind)
     ∷ (flag_words (codes "constrained") i.constrained ++ (SignWord OpenCode ∷ []))
 
-abbrev pub insertion_marks : Insertion → List Mark
-insertion_marks i = starts i.line (insertion_head i) ++ (flat_map statement_marks i.stmts ++ goes (SignWord CloseCode ∷ []))
+abbrev pub insertion_tree_words : Insertion → List TreeWord
+insertion_tree_words i = starts i.line (insertion_head i) ++ (flat_map statement_tree_words i.stmts ++ goes (SignWord CloseCode ∷ []))
 
 abbrev pub set_words : Set → List Word
 set_words Focus = DollarFocus ∷ []
@@ -100,9 +100,9 @@ set_words (Names names) = SignWord OpenBracket ∷ (names_words names ++ (SignWo
 abbrev pub block_head : Block → List Word
 block_head b = keyword (codes "foreach") ∷ keyword (codes "func") ∷ keyword (codes "in") ∷ (set_words b.set ++ (SignWord OpenBrace ∷ []))
 
-abbrev pub block_marks : Block → List Mark
-block_marks b = starts b.line (block_head b) ++ (flat_map insertion_marks b.insertions ++ goes (SignWord CloseBrace ∷ []))
+abbrev pub block_tree_words : Block → List TreeWord
+block_tree_words b = starts b.line (block_head b) ++ (flat_map insertion_tree_words b.insertions ++ goes (SignWord CloseBrace ∷ []))
 
 -- the blocks of a metric or a constraint
-abbrev pub blocks_marks : List Block → List Mark
-blocks_marks blocks = goes (SignWord OpenBrace ∷ []) ++ (flat_map block_marks blocks ++ goes (SignWord CloseBrace ∷ []))
+abbrev pub blocks_tree_words : List Block → List TreeWord
+blocks_tree_words blocks = goes (SignWord OpenBrace ∷ []) ++ (flat_map block_tree_words blocks ++ goes (SignWord CloseBrace ∷ []))

@@ -1,5 +1,5 @@
 -- The grammar of the items of a configuration, and of the whole.
-use Rattle.std.specs.Prelude.{ℕ, List, [], ◌∷◌, ◌++◌, Option, Some, None, codes, if◌then◌else◌, map}
+use Rattle.std.specs.Prelude.{ℕ, List, [], ◌∷◌, ◌++◌, Option, Some, None, codes, if◌then◌else◌}
 use Rattle.std.specs.List.{flat_map}
 use Rattle.pn_text.specs.Words.{Word, NameWord, NumberWord, QuotedWord, FocusPath, SignWord}
 use Rattle.pn_text.specs.declared.token.Sign.TheVariants.{OpenBrace, CloseBrace, Semicolon}
@@ -14,8 +14,8 @@ use Rattle.mdl_ast.specs.declared.items.PhaseDecl.{PhaseDecl}
 use Rattle.mdl_ast.specs.declared.items.Wish.{Wish}
 use Rattle.mdl_ast.specs.declared.metric.Metric.{Metric}
 use Rattle.mdl_ast.specs.declared.metric.Constraint.{Constraint}
-use Rattle.mdl_parse.specs.Spots.{Mark, mark_word, goes, starts}
-use Rattle.mdl_parse.specs.Grammar.{keyword, names_words, blocks_marks}
+use Rattle.mdl_parse.specs.WordsInText.{TreeWord, goes, starts}
+use Rattle.mdl_parse.specs.Grammar.{keyword, names_words, blocks_tree_words}
 
 -- ---- metrics and constraints
 
@@ -32,16 +32,16 @@ metric_head m =
     ∷ (flat_map reference_words m.constraints
     ++ (keyword (codes "base") ∷ keyword (codes "is") ∷ keyword (if m.timer then codes "timer" else codes "counter") ∷ initially_words m.initially))
 
-abbrev pub metric_marks : Metric → List Mark
-metric_marks m = starts m.line (metric_head m) ++ (blocks_marks m.blocks ++ goes (SignWord CloseBrace ∷ []))
+abbrev pub metric_tree_words : Metric → List TreeWord
+metric_tree_words m = starts m.line (metric_head m) ++ (blocks_tree_words m.blocks ++ goes (SignWord CloseBrace ∷ []))
 
 abbrev pub constraint_head : Constraint → List Word
 constraint_head c =
     keyword (codes "constraint") ∷ NameWord c.name ∷ FocusPath c.path ∷ keyword (codes "is")
     ∷ keyword (if c.replace then codes "replace" else codes "counter") ∷ initially_words c.initially
 
-abbrev pub constraint_marks : Constraint → List Mark
-constraint_marks c = starts c.line (constraint_head c) ++ blocks_marks c.blocks
+abbrev pub constraint_tree_words : Constraint → List TreeWord
+constraint_tree_words c = starts c.line (constraint_head c) ++ blocks_tree_words c.blocks
 
 -- ---- hypotheses
 
@@ -85,20 +85,16 @@ wish_words w =
 
 -- ---- the whole
 
-abbrev pub item_marks : Item → List Mark
-item_marks (item.Include i) = starts i.line (include_words i)
-item_marks (item.Sync s) = starts s.line (sync_words s)
-item_marks (item.Metric m) = metric_marks m
-item_marks (item.Constraint c) = constraint_marks c
-item_marks (item.Hypothesis h) = starts h.line (hypothesis_words h)
-item_marks (item.Search s) = starts s.line (search_words s)
-item_marks (item.Phase p) = starts p.line (phase_words p)
-item_marks (item.Wish w) = starts w.line (wish_words w)
+abbrev pub item_tree_words : Item → List TreeWord
+item_tree_words (item.Include i) = starts i.line (include_words i)
+item_tree_words (item.Sync s) = starts s.line (sync_words s)
+item_tree_words (item.Metric m) = metric_tree_words m
+item_tree_words (item.Constraint c) = constraint_tree_words c
+item_tree_words (item.Hypothesis h) = starts h.line (hypothesis_words h)
+item_tree_words (item.Search s) = starts s.line (search_words s)
+item_tree_words (item.Phase p) = starts p.line (phase_words p)
+item_tree_words (item.Wish w) = starts w.line (wish_words w)
 
 -- The words of a configuration, with the lines that it holds.
-abbrev pub conf_marks : Conf → List Mark
-conf_marks c = flat_map item_marks c.items
-
--- the words alone
-abbrev pub conf_words : Conf → List Word
-conf_words c = map mark_word (conf_marks c)
+abbrev pub conf_tree_words : Conf → List TreeWord
+conf_tree_words c = flat_map item_tree_words c.items

@@ -1,5 +1,6 @@
 -- For proofs alone: readers of the items of a configuration.
 use Rattle.std.specs.Prelude.{ℕ, Bool, List, [], Option, Ok, codes, if◌then◌else◌}
+use Rattle.pn_text.specs.Words.{Word}
 use Rattle.pn_text.specs.declared.token.Sign.TheVariants.{OpenBrace, CloseBrace, Semicolon}
 use Rattle.mdl_ast.specs.declared.items.Item.{Item}
 use Rattle.mdl_ast.specs.declared.items.Item.TheVariants as item
@@ -11,50 +12,50 @@ use Rattle.mdl_ast.specs.declared.items.PhaseDecl.{PhaseDecl}
 use Rattle.mdl_ast.specs.declared.items.Wish.{Wish}
 use Rattle.mdl_ast.specs.declared.metric.Metric.{Metric}
 use Rattle.mdl_ast.specs.declared.metric.Constraint.{Constraint}
-use Rattle.mdl_parse.specs.Spots.{Spot}
+use Rattle.mdl_parse.specs.WordsInText.{PlacedWord}
 use Rattle.mdl_parse.specs.Picks.{is_keyword, is_any}
-use Rattle.mdl_parse.specs.Steps.{Read, ◌>>=◌, is_first, option_at, many_at}
+use Rattle.mdl_parse.specs.Steps.{Read, ◌>>=◌, first_word, passes, is_first, option_at, many_at}
 use Rattle.mdl_parse.specs.Readers.{keyword_at, sign_at, start_at, name_at, number_at, quoted_at, path_at, choice_at}
 use Rattle.mdl_parse.specs.Parts.{names_at, blocks_at}
 
 -- ---- metrics and constraints
 
-unfoldable pub initial_at : List Spot → Read ℕ
-initial_at spots = do
-  word ← keyword_at (codes "initially") spots
+unfoldable pub initial_at : List PlacedWord → Read ℕ
+initial_at words_ahead = do
+  word ← keyword_at (codes "initially") words_ahead
   n ← number_at word.1
   Ok (n.0, n.1)
 
-abbrev pub initially_at : List Spot → Read (Option ℕ)
+abbrev pub initially_at : List PlacedWord → Read (Option ℕ)
 initially_at = option_at (is_keyword (codes "initially")) initial_at
 
-unfoldable pub reference_at : List Spot → Read (List ℕ)
-reference_at spots = do
-  word ← keyword_at (codes "constraint") spots
+unfoldable pub reference_at : List PlacedWord → Read (List ℕ)
+reference_at words_ahead = do
+  word ← keyword_at (codes "constraint") words_ahead
   name ← name_at word.1
   end ← sign_at Semicolon name.1
   Ok (name.0, end.1)
 
-abbrev pub references_at : List Spot → Read (List (List ℕ))
+abbrev pub references_at : List PlacedWord → Read (List (List ℕ))
 references_at = many_at (is_keyword (codes "constraint")) reference_at
 
-unfoldable pub units_at : List Spot → Read (List ℕ)
-units_at spots = do
-  word ← keyword_at (codes "units") spots
+unfoldable pub units_at : List PlacedWord → Read (List ℕ)
+units_at words_ahead = do
+  word ← keyword_at (codes "units") words_ahead
   units ← quoted_at word.1
   end ← sign_at Semicolon units.1
   Ok (units.0, end.1)
 
-unfoldable pub base_at : List Spot → Read Bool
-base_at spots = do
-  word ← keyword_at (codes "base") spots
+unfoldable pub base_at : List PlacedWord → Read Bool
+base_at words_ahead = do
+  word ← keyword_at (codes "base") words_ahead
   of_kind ← keyword_at (codes "is") word.1
   timer ← choice_at (codes "timer") (codes "counter") of_kind.1
   Ok (timer.0, timer.1)
 
-unfoldable pub metric_at : ℕ → List Spot → Read Metric
-metric_at n spots = do
-  line ← start_at (codes "metric") spots
+unfoldable pub metric_at : ℕ → List PlacedWord → Read Metric
+metric_at n words_ahead = do
+  line ← start_at (codes "metric") words_ahead
   name ← name_at line.1
   opened ← sign_at OpenBrace name.1
   units ← units_at opened.1
@@ -65,9 +66,9 @@ metric_at n spots = do
   end ← sign_at CloseBrace blocks.1
   Ok (record { line = line.0; name = name.0; units = units.0; constraints = constraints.0; timer = timer.0; initially = initially.0; blocks = blocks.0 }, end.1)
 
-unfoldable pub constraint_at : ℕ → List Spot → Read Constraint
-constraint_at n spots = do
-  line ← start_at (codes "constraint") spots
+unfoldable pub constraint_at : ℕ → List PlacedWord → Read Constraint
+constraint_at n words_ahead = do
+  line ← start_at (codes "constraint") words_ahead
   name ← name_at line.1
   path ← path_at name.1
   of_kind ← keyword_at (codes "is") path.1
@@ -79,37 +80,37 @@ constraint_at n spots = do
 -- ---- hypotheses
 
 -- a keyword, a name and `;`
-unfoldable pub named_field_at : List ℕ → List Spot → Read (List ℕ)
-named_field_at text spots = do
-  word ← keyword_at text spots
+unfoldable pub named_field_at : List ℕ → List PlacedWord → Read (List ℕ)
+named_field_at text words_ahead = do
+  word ← keyword_at text words_ahead
   name ← name_at word.1
   end ← sign_at Semicolon name.1
   Ok (name.0, end.1)
 
 -- a keyword, a number and `;`
-unfoldable pub number_field_at : List ℕ → List Spot → Read ℕ
-number_field_at text spots = do
-  word ← keyword_at text spots
+unfoldable pub number_field_at : List ℕ → List PlacedWord → Read ℕ
+number_field_at text words_ahead = do
+  word ← keyword_at text words_ahead
   n ← number_at word.1
   end ← sign_at Semicolon n.1
   Ok (n.0, end.1)
 
-abbrev pub parent_at : List Spot → Read (Option (List ℕ))
+abbrev pub parent_at : List PlacedWord → Read (Option (List ℕ))
 parent_at = option_at (is_keyword (codes "parent")) (named_field_at (codes "parent"))
 
-unfoldable pub axis_names_at : List Spot → Read (List (List ℕ))
-axis_names_at spots = do
-  word ← keyword_at (codes "axes") spots
+unfoldable pub axis_names_at : List PlacedWord → Read (List (List ℕ))
+axis_names_at words_ahead = do
+  word ← keyword_at (codes "axes") words_ahead
   names ← names_at word.1
   end ← sign_at Semicolon names.1
   Ok (names.0, end.1)
 
-unfoldable pub axes_at : List Spot → Read (List (List ℕ))
-axes_at spots = if is_first (is_keyword (codes "axes")) spots then axis_names_at spots else Ok ([], spots)
+unfoldable pub axes_at : List PlacedWord → Read (List (List ℕ))
+axes_at words_ahead = if is_first (is_keyword (codes "axes")) words_ahead then axis_names_at words_ahead else Ok ([], words_ahead)
 
-unfoldable pub hypothesis_at : List Spot → Read Hypothesis
-hypothesis_at spots = do
-  line ← start_at (codes "hypothesis") spots
+unfoldable pub hypothesis_at : List PlacedWord → Read Hypothesis
+hypothesis_at words_ahead = do
+  line ← start_at (codes "hypothesis") words_ahead
   name ← name_at line.1
   opened ← sign_at OpenBrace name.1
   parent ← parent_at opened.1
@@ -121,23 +122,23 @@ hypothesis_at spots = do
 
 -- ---- the other items
 
-unfoldable pub include_at : List Spot → Read Include
-include_at spots = do
-  line ← start_at (codes "include") spots
+unfoldable pub include_at : List PlacedWord → Read Include
+include_at words_ahead = do
+  line ← start_at (codes "include") words_ahead
   metrics ← choice_at (codes "metrics") (codes "hypotheses") line.1
   end ← sign_at Semicolon metrics.1
   Ok (record { line = line.0; metrics = metrics.0 }, end.1)
 
-unfoldable pub sync_at : List Spot → Read SyncDecl
-sync_at spots = do
-  line ← start_at (codes "sync") spots
+unfoldable pub sync_at : List PlacedWord → Read SyncDecl
+sync_at words_ahead = do
+  line ← start_at (codes "sync") words_ahead
   name ← name_at line.1
   end ← sign_at Semicolon name.1
   Ok (record { line = line.0; name = name.0 }, end.1)
 
-unfoldable pub search_at : List Spot → Read SearchDecl
-search_at spots = do
-  line ← start_at (codes "search") spots
+unfoldable pub search_at : List PlacedWord → Read SearchDecl
+search_at words_ahead = do
+  line ← start_at (codes "search") words_ahead
   opened ← sign_at OpenBrace line.1
   window ← number_field_at (codes "window") opened.1
   cost ← number_field_at (codes "cost") window.1
@@ -145,16 +146,16 @@ search_at spots = do
   end ← sign_at CloseBrace observed.1
   Ok (record { line = line.0; window = window.0; cost = cost.0; observed = observed.0 }, end.1)
 
-unfoldable pub phase_at : List Spot → Read PhaseDecl
-phase_at spots = do
-  line ← start_at (codes "phase") spots
+unfoldable pub phase_at : List PlacedWord → Read PhaseDecl
+phase_at words_ahead = do
+  line ← start_at (codes "phase") words_ahead
   name ← name_at line.1
   at ← number_field_at (codes "at") name.1
   Ok (record { line = line.0; name = name.0; at = at.0 }, at.1)
 
-unfoldable pub wish_at : List Spot → Read Wish
-wish_at spots = do
-  line ← start_at (codes "at") spots
+unfoldable pub wish_at : List PlacedWord → Read Wish
+wish_at words_ahead = do
+  line ← start_at (codes "at") words_ahead
   at ← number_at line.1
   show ← choice_at (codes "show") (codes "drop") at.1
   metric ← name_at show.1
@@ -168,16 +169,41 @@ wish_at spots = do
 abbrev pub as_item : {A : Type 0} → (A → Item) → Read A → Read Item
 as_item to read = read >>= λ x. Ok (to x.0, x.1)
 
-unfoldable pub item_at : ℕ → List Spot → Read Item
-item_at n spots =
-    if is_first (is_keyword (codes "include")) spots then as_item item.Include (include_at spots)
-    else if is_first (is_keyword (codes "sync")) spots then as_item item.Sync (sync_at spots)
-    else if is_first (is_keyword (codes "metric")) spots then as_item item.Metric (metric_at n spots)
-    else if is_first (is_keyword (codes "constraint")) spots then as_item item.Constraint (constraint_at n spots)
-    else if is_first (is_keyword (codes "hypothesis")) spots then as_item item.Hypothesis (hypothesis_at spots)
-    else if is_first (is_keyword (codes "search")) spots then as_item item.Search (search_at spots)
-    else if is_first (is_keyword (codes "phase")) spots then as_item item.Phase (phase_at spots)
-    else as_item item.Wish (wish_at spots)
+-- the kinds of items
+pub data ItemKind : Type 0 where
+  Includes : ItemKind
+  Syncs : ItemKind
+  Metrics : ItemKind
+  Constraints : ItemKind
+  Hypotheses : ItemKind
+  Searches : ItemKind
+  Phases : ItemKind
+  Wishes : ItemKind
 
-abbrev pub items_at : ℕ → List Spot → Read (List Item)
+-- the kind of item that a word begins
+abbrev pub kind_at : Option Word → ItemKind
+kind_at word =
+    if passes (is_keyword (codes "include")) word then Includes
+    else if passes (is_keyword (codes "sync")) word then Syncs
+    else if passes (is_keyword (codes "metric")) word then Metrics
+    else if passes (is_keyword (codes "constraint")) word then Constraints
+    else if passes (is_keyword (codes "hypothesis")) word then Hypotheses
+    else if passes (is_keyword (codes "search")) word then Searches
+    else if passes (is_keyword (codes "phase")) word then Phases
+    else Wishes
+
+abbrev pub kind_read : ItemKind → ℕ → List PlacedWord → Read Item
+kind_read Includes n words_ahead = as_item item.Include (include_at words_ahead)
+kind_read Syncs n words_ahead = as_item item.Sync (sync_at words_ahead)
+kind_read Metrics n words_ahead = as_item item.Metric (metric_at n words_ahead)
+kind_read Constraints n words_ahead = as_item item.Constraint (constraint_at n words_ahead)
+kind_read Hypotheses n words_ahead = as_item item.Hypothesis (hypothesis_at words_ahead)
+kind_read Searches n words_ahead = as_item item.Search (search_at words_ahead)
+kind_read Phases n words_ahead = as_item item.Phase (phase_at words_ahead)
+kind_read Wishes n words_ahead = as_item item.Wish (wish_at words_ahead)
+
+unfoldable pub item_at : ℕ → List PlacedWord → Read Item
+item_at n words_ahead = kind_read (kind_at (first_word words_ahead)) n words_ahead
+
+abbrev pub items_at : ℕ → List PlacedWord → Read (List Item)
 items_at n = many_at is_any (item_at n)

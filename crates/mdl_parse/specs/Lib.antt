@@ -1,4 +1,4 @@
-pub mod Spots
+pub mod WordsInText
 pub mod Steps
 pub mod Actions
 pub mod Picks
@@ -13,5 +13,6 @@ pub mod Meaning
 pub mod Ends
 pub mod Printing
 pub mod PrintParts
+pub mod Tight
 pub mod ButLines
 pub mod Shipped

@@ -11,8 +11,8 @@ use Rattle.mdl_parse.specs.declared.fault.SyntaxKind.{SyntaxKind}
 use Rattle.mdl_parse.specs.declared.fault.SyntaxKind.TheVariants as kind
 use Rattle.mdl_parse.specs.declared.fault.ParseFault.{ParseFault}
 use Rattle.mdl_parse.specs.declared.fault.ParseFault.TheVariants.{NoMemory, At}
-use Rattle.mdl_parse.specs.Spots.{Spot, AreWords, Spells, text_spots}
-use Rattle.mdl_parse.specs.ItemGrammar.{conf_marks}
+use Rattle.mdl_parse.specs.WordsInText.{PlacedWord, AreWords, Spells, placed_words}
+use Rattle.mdl_parse.specs.ItemGrammar.{conf_tree_words}
 use Rattle.mdl_parse.specs.Shapes.{IsShaped}
 
 -- the most conditions that a statement has
@@ -20,30 +20,30 @@ abbrev pub most_conditions : ℕ
 most_conditions = 16
 
 -- the words are those of the configuration, in which at most n conditions stand before a statement
-pub record AreOf (n : ℕ) (spots : List Spot) (c : Conf) : Type 0 where
-  pub words : Spells (conf_marks c) spots
+pub record AreOf (n : ℕ) (words_ahead : List PlacedWord) (c : Conf) : Type 0 where
+  pub words : Spells (conf_tree_words c) words_ahead
   pub shaped : IsShaped n c
 
 -- the words are the beginning of those of some configuration
-pub record Begin (n : ℕ) (spots : List Spot) : Type 0 where
+pub record Begin (n : ℕ) (words_ahead : List PlacedWord) : Type 0 where
   pub whole : Conf
-  pub tail : List Spot
+  pub tail : List PlacedWord
   pub words : AreWords tail
-  pub spelled : AreOf n (spots ++ tail) whole
+  pub spelled : AreOf n (words_ahead ++ tail) whole
 
 -- The text spells the configuration.
 pub record IsConf (text : List ℕ) (c : Conf) : Type 0 where
   pub last : Place
   pub end : (tokens_of text).ending ≡ AtEnd last
-  pub spelled : AreOf most_conditions (text_spots text) c
+  pub spelled : AreOf most_conditions (placed_words text) c
 
 -- ---- faults
 
 -- the first word that can't follow those before it: no configuration goes on with it, or only one in which a statement
 -- has more conditions than it may have
-abbrev pub CantFollow : Refusal → List Spot → Type 0
-CantFollow refusal.Unexpected spots = (n : ℕ) → Begin n spots → ⊥
-CantFollow refusal.TooDeep spots = (Begin most_conditions spots → ⊥) × Begin (most_conditions + 1) spots
+abbrev pub CantFollow : Refusal → List PlacedWord → Type 0
+CantFollow refusal.Unexpected words_ahead = (n : ℕ) → Begin n words_ahead → ⊥
+CantFollow refusal.TooDeep words_ahead = (Begin most_conditions words_ahead → ⊥) × Begin (most_conditions + 1) words_ahead
 
 abbrev pub refusal_kind : Refusal → SyntaxKind
 refusal_kind refusal.Unexpected = kind.Unexpected
@@ -57,14 +57,14 @@ lex_kind (lex.BigNumber place) = kind.BigNumber
 -- The first fault of a text, which stands at this line and column.
 pub data IsFault (text : List ℕ) : ℕ → ℕ → SyntaxKind → Type 0 where
   -- a word can't follow those before it
-  AtWord : (before : List Spot) (spot : Spot) (after : List Spot) (why : Refusal) → text_spots text ≡ before ++ (spot ∷ after) →
-      Begin most_conditions before → CantFollow why (before ++ (spot ∷ [])) → IsFault text spot.line spot.col (refusal_kind why)
+  AtWord : (before : List PlacedWord) (placed : PlacedWord) (after : List PlacedWord) (why : Refusal) → placed_words text ≡ before ++ (placed ∷ after) →
+      Begin most_conditions before → CantFollow why (before ++ (placed ∷ [])) → IsFault text placed.line placed.col (refusal_kind why)
   -- the words have no fault, but behind them stands something that is no word
-  AtBytes : (fault : LexFault) → (tokens_of text).ending ≡ AtFault fault → Begin most_conditions (text_spots text) →
+  AtBytes : (fault : LexFault) → (tokens_of text).ending ≡ AtFault fault → Begin most_conditions (placed_words text) →
       IsFault text (fault_place fault).line (fault_place fault).col (lex_kind fault)
   -- the end comes too early
-  AtLast : (last : Place) → (tokens_of text).ending ≡ AtEnd last → Begin most_conditions (text_spots text) →
-      ((c : Conf) → AreOf most_conditions (text_spots text) c → ⊥) → IsFault text last.line last.col kind.Unexpected
+  AtLast : (last : Place) → (tokens_of text).ending ≡ AtEnd last → Begin most_conditions (placed_words text) →
+      ((c : Conf) → AreOf most_conditions (placed_words text) c → ⊥) → IsFault text last.line last.col kind.Unexpected
 
 -- the answer is that fault, unless memory is wanting
 abbrev pub Faults : List ℕ → ParseFault → Type 0

@@ -1,5 +1,5 @@
 -- Which words may stand at a place of the grammar, and what each means there.
-use Rattle.std.specs.Prelude.{ℕ, Bool, true, false, ◌||◌, ◌==◌, List, Option, Some, None, bytes_eq, codes, is_some, if◌then◌else◌}
+use Rattle.std.specs.Prelude.{ℕ, Bool, true, false, ◌||◌, ◌==◌, List, [], ◌∷◌, Option, Some, None, bytes_eq, codes, is_some, if◌then◌else◌}
 use Rattle.pn_types.specs.declared.compare.Cmp.{Cmp}
 use Rattle.pn_types.specs.declared.compare.Cmp.TheVariants.{Eq, Ne, Lt, Le, Gt, Ge}
 use Rattle.pn_text.specs.Words.{Word, NameWord, NumberWord, QuotedWord, FocusPath, DollarFocus, DollarAll, DollarMetric, DollarValue, DollarArg, SignWord}
@@ -80,9 +80,17 @@ path_of word = None
 
 -- ---- choices
 
+-- what a table of names says of a name
+abbrev pub row_of : {A : Type 0} → List (List ℕ × A) → List ℕ → Option A
+row_of [] name = None
+row_of (row ∷ rows) name = if bytes_eq name row.0 then Some row.1 else row_of rows name
+
 -- one of two keywords: whether it is the first
+abbrev pub choices : List ℕ → List ℕ → List (List ℕ × Bool)
+choices one other = (one, true) ∷ (other, false) ∷ []
+
 abbrev pub choice_of : List ℕ → List ℕ → Word → Option Bool
-choice_of one other (NameWord name) = if bytes_eq name one then Some true else when (bytes_eq name other) false
+choice_of one other (NameWord name) = row_of (choices one other) name
 choice_of one other word = None
 
 -- `++` or `--`
@@ -100,12 +108,11 @@ whole_of DollarFocus = Some Focus
 whole_of DollarAll = Some All
 whole_of word = None
 
+abbrev pub events : List (List ℕ × EventKind)
+events = (codes "entry", Entry) ∷ (codes "return", Return) ∷ (codes "call", Call) ∷ (codes "after", After) ∷ []
+
 abbrev pub event_named : List ℕ → Option EventKind
-event_named name =
-    if bytes_eq name (codes "entry") then Some Entry
-    else if bytes_eq name (codes "return") then Some Return
-    else if bytes_eq name (codes "call") then Some Call
-    else when (bytes_eq name (codes "after")) After
+event_named = row_of events
 
 abbrev pub event_of : Word → Option EventKind
 event_of (NameWord name) = event_named name

@@ -75,7 +75,7 @@ indent (suc level) = codes "  " ++ indent level
 abbrev pub Line : Type 0
 Line = ℕ × List Word
 
-abbrev pub line_text : Line → List ℕ
+unfoldable pub line_text : Line → List ℕ
 line_text line = indent line.0 ++ (words_text line.1 ++ codes "\n")
 
 -- ---- the lines of each part
@@ -92,11 +92,14 @@ block_lines level b = (level, block_head b) ∷ (map (insertion_line (level + 1)
 abbrev pub base_words : Metric → List Word
 base_words m = keyword (codes "base") ∷ keyword (codes "is") ∷ keyword (if m.timer then codes "timer" else codes "counter") ∷ (initially_words m.initially ++ (SignWord OpenBrace ∷ []))
 
+abbrev pub reference_line : List ℕ → Line
+reference_line name = (1, reference_words name)
+
 abbrev pub metric_lines : Metric → List Line
 metric_lines m =
     (0, keyword (codes "metric") ∷ NameWord m.name ∷ SignWord OpenBrace ∷ [])
     ∷ (1, keyword (codes "units") ∷ QuotedWord m.units ∷ SignWord Semicolon ∷ [])
-    ∷ (map (λ name. (1, reference_words name)) m.constraints
+    ∷ (map reference_line m.constraints
     ++ ((1, base_words m) ∷ (flat_map (block_lines 2) m.blocks ++ (close_line 1 ∷ close_line 0 ∷ []))))
 
 abbrev pub constraint_lines : Constraint → List Line

@@ -7,55 +7,55 @@ use Rattle.mdl_ast.specs.declared.action.RightSide.{RightSide}
 use Rattle.mdl_ast.specs.declared.block.EventKind.{EventKind}
 use Rattle.mdl_ast.specs.declared.block.Set.{Set}
 use Rattle.mdl_parse.specs.declared.change.Change.{Change}
-use Rattle.mdl_parse.specs.Spots.{Spot}
+use Rattle.mdl_parse.specs.WordsInText.{PlacedWord}
 use Rattle.mdl_parse.specs.Picks.{is_keyword, is_sign, is_arg, when, name_of, number_of, quoted_of, path_of, choice_of, step_of, event_of, var_of, right_of, cmp_of, whole_of}
 use Rattle.mdl_parse.specs.Steps.{Read, ◌>>=◌, line_at, leaf_at}
 
-abbrev pub keyword_at : List ℕ → List Spot → Read (Unit {0})
+abbrev pub keyword_at : List ℕ → List PlacedWord → Read (Unit {0})
 keyword_at text = leaf_at (λ word. when (is_keyword text word) tt)
 
-abbrev pub sign_at : Sign → List Spot → Read (Unit {0})
+abbrev pub sign_at : Sign → List PlacedWord → Read (Unit {0})
 sign_at sign = leaf_at (λ word. when (is_sign sign word) tt)
 
-abbrev pub arg_at : List Spot → Read (Unit {0})
+abbrev pub arg_at : List PlacedWord → Read (Unit {0})
 arg_at = leaf_at (λ word. when (is_arg word) tt)
 
 -- a keyword, and the line on which it stands
-unfoldable pub start_at : List ℕ → List Spot → Read ℕ
-start_at text spots = do
-  end ← keyword_at text spots
-  Ok (line_at spots, end.1)
+unfoldable pub start_at : List ℕ → List PlacedWord → Read ℕ
+start_at text words_ahead = do
+  end ← keyword_at text words_ahead
+  Ok (line_at words_ahead, end.1)
 
-abbrev pub name_at : List Spot → Read (List ℕ)
+abbrev pub name_at : List PlacedWord → Read (List ℕ)
 name_at = leaf_at name_of
 
-abbrev pub number_at : List Spot → Read ℕ
+abbrev pub number_at : List PlacedWord → Read ℕ
 number_at = leaf_at number_of
 
-abbrev pub quoted_at : List Spot → Read (List ℕ)
+abbrev pub quoted_at : List PlacedWord → Read (List ℕ)
 quoted_at = leaf_at quoted_of
 
-abbrev pub path_at : List Spot → Read (List ℕ)
+abbrev pub path_at : List PlacedWord → Read (List ℕ)
 path_at = leaf_at path_of
 
 -- whether the first of two keywords stands there
-abbrev pub choice_at : List ℕ → List ℕ → List Spot → Read Bool
+abbrev pub choice_at : List ℕ → List ℕ → List PlacedWord → Read Bool
 choice_at one other = leaf_at (choice_of one other)
 
-abbrev pub step_at : List Spot → Read Change
+abbrev pub step_at : List PlacedWord → Read Change
 step_at = leaf_at step_of
 
-abbrev pub event_at : List Spot → Read EventKind
+abbrev pub event_at : List PlacedWord → Read EventKind
 event_at = leaf_at event_of
 
-abbrev pub var_at : List Spot → Read VarName
+abbrev pub var_at : List PlacedWord → Read VarName
 var_at = leaf_at var_of
 
-abbrev pub cmp_at : List Spot → Read Cmp
+abbrev pub cmp_at : List PlacedWord → Read Cmp
 cmp_at = leaf_at cmp_of
 
-abbrev pub right_at : List Spot → Read RightSide
+abbrev pub right_at : List PlacedWord → Read RightSide
 right_at = leaf_at right_of
 
-abbrev pub whole_at : List Spot → Read Set
+abbrev pub whole_at : List PlacedWord → Read Set
 whole_at = leaf_at whole_of

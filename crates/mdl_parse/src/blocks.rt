@@ -17,7 +17,7 @@ impl<'a> Words<'a> {
     /// Passes the keyword if it is in view, and says whether it was.
     #[tactic(auto, unfolding(crate::specs::Parts::flag_at))]
     fn flag(&mut self, text: &[u8]) -> Result<bool, Stop>
-        ensures read { Gives result self.new.spots (flag_at text.now self.old.spots) }
+        ensures read { Gives result self.new.words_ahead (flag_at text.now self.old.words_ahead) }
         ensures ending { self.new.ending ≡ self.old.ending }
     {
         if self.is_keyword(text) {
@@ -28,8 +28,9 @@ impl<'a> Words<'a> {
     }
 
     /// Passes all statements that stand here.
+    #[tactic(auto, using(crate::proofs::Loops::loop_shorter, crate::proofs::Loops::loop_more, crate::proofs::Loops::loop_all, crate::proofs::Loops::loop_stops, crate::proofs::BlockRules::statements_loop))]
     fn statements(&mut self, alloc: Global, most: usize) -> Result<Seq<Statement>, Stop>
-        ensures read { Gives result self.new.spots (many_at is_var (statement_at most) self.old.spots) }
+        ensures read { Gives result self.new.words_ahead (many_at is_var (statement_at most) self.old.words_ahead) }
         ensures ending { self.new.ending ≡ self.old.ending }
     {
         let mut statements = Vec::new(alloc);
@@ -43,7 +44,7 @@ impl<'a> Words<'a> {
     /// Passes an insertion.
     #[tactic(auto, unfolding(crate::specs::Parts::insertion_at))]
     fn insertion(&mut self, alloc: Global, most: usize) -> Result<Insertion, Stop>
-        ensures read { Gives result self.new.spots (insertion_at most self.old.spots) }
+        ensures read { Gives result self.new.words_ahead (insertion_at most self.old.words_ahead) }
         ensures ending { self.new.ending ≡ self.old.ending }
     {
         let line = self.line();
@@ -63,8 +64,9 @@ impl<'a> Words<'a> {
     }
 
     /// Passes all insertions that stand here.
+    #[tactic(auto, using(crate::proofs::Loops::loop_shorter, crate::proofs::Loops::loop_more, crate::proofs::Loops::loop_all, crate::proofs::Loops::loop_stops, crate::proofs::BlockRules::insertions_loop))]
     fn insertions(&mut self, alloc: Global, most: usize) -> Result<Seq<Insertion>, Stop>
-        ensures read { Gives result self.new.spots (many_at is_insertion (insertion_at most) self.old.spots) }
+        ensures read { Gives result self.new.words_ahead (many_at is_insertion (insertion_at most) self.old.words_ahead) }
         ensures ending { self.new.ending ≡ self.old.ending }
     {
         let mut insertions = Vec::new(alloc);
@@ -78,7 +80,7 @@ impl<'a> Words<'a> {
     /// Passes a comma and a name.
     #[tactic(auto, unfolding(crate::specs::Parts::another_at))]
     fn another(&mut self, alloc: Global) -> Result<Text, Stop>
-        ensures read { Gives result self.new.spots (another_at self.old.spots) }
+        ensures read { Gives result self.new.words_ahead (another_at self.old.words_ahead) }
         ensures ending { self.new.ending ≡ self.old.ending }
     {
         self.sign(Sign::Comma)?;
@@ -86,8 +88,9 @@ impl<'a> Words<'a> {
     }
 
     /// Passes names between commas, at least one.
+    #[tactic(auto, using(crate::proofs::Loops::loop_shorter, crate::proofs::Loops::loop_more, crate::proofs::Loops::loop_all, crate::proofs::Loops::loop_stops, crate::proofs::BlockRules::names_loop, crate::proofs::NameLoop::names_begin, crate::proofs::NameLoop::names_stop))]
     pub(crate) fn names(&mut self, alloc: Global) -> Result<Seq<Text>, Stop>
-        ensures read { Gives result self.new.spots (names_at self.old.spots) }
+        ensures read { Gives result self.new.words_ahead (names_at self.old.words_ahead) }
         ensures ending { self.new.ending ≡ self.old.ending }
     {
         let mut names = Vec::new(alloc);
@@ -103,7 +106,7 @@ impl<'a> Words<'a> {
     /// Passes names in brackets.
     #[tactic(auto, unfolding(crate::specs::Parts::named_at))]
     fn named(&mut self, alloc: Global) -> Result<Set, Stop>
-        ensures read { Gives result self.new.spots (named_at self.old.spots) }
+        ensures read { Gives result self.new.words_ahead (named_at self.old.words_ahead) }
         ensures ending { self.new.ending ≡ self.old.ending }
     {
         self.sign(Sign::OpenBracket)?;
@@ -115,7 +118,7 @@ impl<'a> Words<'a> {
     /// Passes a set of procedures.
     #[tactic(auto, unfolding(crate::specs::Parts::set_at))]
     fn set(&mut self, alloc: Global) -> Result<Set, Stop>
-        ensures read { Gives result self.new.spots (set_at self.old.spots) }
+        ensures read { Gives result self.new.words_ahead (set_at self.old.words_ahead) }
         ensures ending { self.new.ending ≡ self.old.ending }
     {
         if self.is_sign(Sign::OpenBracket) {
@@ -128,7 +131,7 @@ impl<'a> Words<'a> {
     /// Passes a block.
     #[tactic(auto, unfolding(crate::specs::Parts::block_at))]
     fn block(&mut self, alloc: Global, most: usize) -> Result<Block, Stop>
-        ensures read { Gives result self.new.spots (block_at most self.old.spots) }
+        ensures read { Gives result self.new.words_ahead (block_at most self.old.words_ahead) }
         ensures ending { self.new.ending ≡ self.old.ending }
     {
         let line = self.start(b"foreach")?;
@@ -146,8 +149,9 @@ impl<'a> Words<'a> {
     }
 
     /// Passes all blocks that stand here.
+    #[tactic(auto, using(crate::proofs::Loops::loop_shorter, crate::proofs::Loops::loop_more, crate::proofs::Loops::loop_all, crate::proofs::Loops::loop_stops, crate::proofs::BlockRules::blocks_loop))]
     fn all_blocks(&mut self, alloc: Global, most: usize) -> Result<Seq<Block>, Stop>
-        ensures read { Gives result self.new.spots (many_at (is_keyword (codes "foreach")) (block_at most) self.old.spots) }
+        ensures read { Gives result self.new.words_ahead (many_at (is_keyword (codes "foreach")) (block_at most) self.old.words_ahead) }
         ensures ending { self.new.ending ≡ self.old.ending }
     {
         let mut blocks = Vec::new(alloc);
@@ -161,7 +165,7 @@ impl<'a> Words<'a> {
     /// Passes the blocks of a metric or a constraint, in braces.
     #[tactic(auto, unfolding(crate::specs::Parts::blocks_at))]
     pub(crate) fn blocks(&mut self, alloc: Global, most: usize) -> Result<Seq<Block>, Stop>
-        ensures read { Gives result self.new.spots (blocks_at most self.old.spots) }
+        ensures read { Gives result self.new.words_ahead (blocks_at most self.old.words_ahead) }
         ensures ending { self.new.ending ≡ self.old.ending }
     {
         self.sign(Sign::OpenBrace)?;

@@ -15,7 +15,7 @@ impl<'a> Words<'a> {
     /// Passes an include.
     #[tactic(auto, unfolding(crate::specs::Items::include_at))]
     fn include(&mut self) -> Result<Include, Stop>
-        ensures read { Gives result self.new.spots (include_at self.old.spots) }
+        ensures read { Gives result self.new.words_ahead (include_at self.old.words_ahead) }
         ensures ending { self.new.ending ≡ self.old.ending }
     {
         let line = self.start(b"include")?;
@@ -27,7 +27,7 @@ impl<'a> Words<'a> {
     /// Passes a beginning of object names.
     #[tactic(auto, unfolding(crate::specs::Items::sync_at))]
     fn sync(&mut self, alloc: Global) -> Result<SyncDecl, Stop>
-        ensures read { Gives result self.new.spots (sync_at self.old.spots) }
+        ensures read { Gives result self.new.words_ahead (sync_at self.old.words_ahead) }
         ensures ending { self.new.ending ≡ self.old.ending }
     {
         let line = self.start(b"sync")?;
@@ -39,7 +39,7 @@ impl<'a> Words<'a> {
     /// Passes how the search goes.
     #[tactic(auto, unfolding(crate::specs::Items::search_at))]
     fn search(&mut self) -> Result<SearchDecl, Stop>
-        ensures read { Gives result self.new.spots (search_at self.old.spots) }
+        ensures read { Gives result self.new.words_ahead (search_at self.old.words_ahead) }
         ensures ending { self.new.ending ≡ self.old.ending }
     {
         let line = self.start(b"search")?;
@@ -59,7 +59,7 @@ impl<'a> Words<'a> {
     /// Passes a phase.
     #[tactic(auto, unfolding(crate::specs::Items::phase_at))]
     fn phase(&mut self, alloc: Global) -> Result<PhaseDecl, Stop>
-        ensures read { Gives result self.new.spots (phase_at self.old.spots) }
+        ensures read { Gives result self.new.words_ahead (phase_at self.old.words_ahead) }
         ensures ending { self.new.ending ≡ self.old.ending }
     {
         let line = self.start(b"phase")?;
@@ -71,7 +71,7 @@ impl<'a> Words<'a> {
     /// Passes a wish.
     #[tactic(auto, unfolding(crate::specs::Items::wish_at))]
     fn wish(&mut self, alloc: Global) -> Result<Wish, Stop>
-        ensures read { Gives result self.new.spots (wish_at self.old.spots) }
+        ensures read { Gives result self.new.words_ahead (wish_at self.old.words_ahead) }
         ensures ending { self.new.ending ≡ self.old.ending }
     {
         let line = self.start(b"at")?;
@@ -92,7 +92,7 @@ impl<'a> Words<'a> {
     /// Passes an item.
     #[tactic(auto, unfolding(crate::specs::Items::item_at))]
     fn item(&mut self, alloc: Global, most: usize) -> Result<Item, Stop>
-        ensures read { Gives result self.new.spots (item_at most self.old.spots) }
+        ensures read { Gives result self.new.words_ahead (item_at most self.old.words_ahead) }
         ensures ending { self.new.ending ≡ self.old.ending }
     {
         if self.is_keyword(b"include") {
@@ -120,8 +120,9 @@ impl<'a> Words<'a> {
     }
 
     /// Passes all items, up to the end.
+    #[tactic(auto, using(crate::proofs::Loops::loop_shorter, crate::proofs::Loops::loop_more, crate::proofs::Loops::loop_all, crate::proofs::Loops::loop_stops, crate::proofs::AllItems::items_loop))]
     pub(crate) fn items(&mut self, alloc: Global, most: usize) -> Result<Seq<Item>, Stop>
-        ensures read { Gives result self.new.spots (items_at most self.old.spots) }
+        ensures read { Gives result self.new.words_ahead (items_at most self.old.words_ahead) }
         ensures ending { self.new.ending ≡ self.old.ending }
     {
         let mut items = Vec::new(alloc);

@@ -41,7 +41,7 @@ impl<'a> Words<'a> {
     /// Passes the keyword.
     #[tactic(auto, unfolding(crate::specs::Steps::leaf_at))]
     pub(crate) fn keyword(&mut self, text: &[u8]) -> Result<(), Stop>
-        ensures read { Gives result self.new.spots (keyword_at text.now self.old.spots) }
+        ensures read { Gives result self.new.words_ahead (keyword_at text.now self.old.words_ahead) }
         ensures ending { self.new.ending ≡ self.old.ending }
     {
         if let Some(word) = self.word()
@@ -56,7 +56,7 @@ impl<'a> Words<'a> {
     /// Passes the keyword with which a part begins, and gives its line.
     #[tactic(auto, unfolding(crate::specs::Readers::start_at))]
     pub(crate) fn start(&mut self, text: &[u8]) -> Result<u32, Stop>
-        ensures read { Gives result self.new.spots (start_at text.now self.old.spots) }
+        ensures read { Gives result self.new.words_ahead (start_at text.now self.old.words_ahead) }
         ensures ending { self.new.ending ≡ self.old.ending }
     {
         let line = self.line();
@@ -67,7 +67,7 @@ impl<'a> Words<'a> {
     /// Passes the sign.
     #[tactic(auto, unfolding(crate::specs::Steps::leaf_at))]
     pub(crate) fn sign(&mut self, sign: Sign) -> Result<(), Stop>
-        ensures read { Gives result self.new.spots (sign_at sign self.old.spots) }
+        ensures read { Gives result self.new.words_ahead (sign_at sign self.old.words_ahead) }
         ensures ending { self.new.ending ≡ self.old.ending }
     {
         if let Some(word) = self.word()
@@ -82,7 +82,7 @@ impl<'a> Words<'a> {
     /// Passes `$arg`.
     #[tactic(auto, unfolding(crate::specs::Steps::leaf_at))]
     pub(crate) fn arg(&mut self) -> Result<(), Stop>
-        ensures read { Gives result self.new.spots (arg_at self.old.spots) }
+        ensures read { Gives result self.new.words_ahead (arg_at self.old.words_ahead) }
         ensures ending { self.new.ending ≡ self.old.ending }
     {
         if let Some(word) = self.word()
@@ -97,7 +97,7 @@ impl<'a> Words<'a> {
     /// Passes a name.
     #[tactic(auto, unfolding(crate::specs::Steps::leaf_at))]
     pub(crate) fn name(&mut self, alloc: Global) -> Result<Text, Stop>
-        ensures read { Gives result self.new.spots (name_at self.old.spots) }
+        ensures read { Gives result self.new.words_ahead (name_at self.old.words_ahead) }
         ensures ending { self.new.ending ≡ self.old.ending }
     {
         let Some(name) = self.word().and_then(Seen::name) else {
@@ -111,7 +111,7 @@ impl<'a> Words<'a> {
     /// Passes a string, and gives the text between its quotes.
     #[tactic(auto, unfolding(crate::specs::Steps::leaf_at))]
     pub(crate) fn quoted(&mut self, alloc: Global) -> Result<Text, Stop>
-        ensures read { Gives result self.new.spots (quoted_at self.old.spots) }
+        ensures read { Gives result self.new.words_ahead (quoted_at self.old.words_ahead) }
         ensures ending { self.new.ending ≡ self.old.ending }
     {
         let Some(quoted) = self.word().and_then(Seen::quoted) else {
@@ -125,7 +125,7 @@ impl<'a> Words<'a> {
     /// Passes a focus.
     #[tactic(auto, unfolding(crate::specs::Steps::leaf_at))]
     pub(crate) fn path(&mut self, alloc: Global) -> Result<Text, Stop>
-        ensures read { Gives result self.new.spots (path_at self.old.spots) }
+        ensures read { Gives result self.new.words_ahead (path_at self.old.words_ahead) }
         ensures ending { self.new.ending ≡ self.old.ending }
     {
         let Some(path) = self.word().and_then(Seen::path) else {
@@ -139,7 +139,7 @@ impl<'a> Words<'a> {
     /// Passes a number.
     #[tactic(auto, unfolding(crate::specs::Steps::leaf_at))]
     pub(crate) fn number(&mut self) -> Result<u32, Stop>
-        ensures read { Gives result self.new.spots (number_at self.old.spots) }
+        ensures read { Gives result self.new.words_ahead (number_at self.old.words_ahead) }
         ensures ending { self.new.ending ≡ self.old.ending }
     {
         let Some(number) = self.word().and_then(Seen::number) else {
@@ -152,7 +152,7 @@ impl<'a> Words<'a> {
     /// Passes the name of a kind of points.
     #[tactic(auto, unfolding(crate::specs::Steps::leaf_at))]
     pub(crate) fn event(&mut self) -> Result<EventKind, Stop>
-        ensures read { Gives result self.new.spots (event_at self.old.spots) }
+        ensures read { Gives result self.new.words_ahead (event_at self.old.words_ahead) }
         ensures ending { self.new.ending ≡ self.old.ending }
     {
         let Some(event) = self.word().and_then(Seen::event) else {
@@ -165,7 +165,7 @@ impl<'a> Words<'a> {
     /// Passes a comparison.
     #[tactic(auto, unfolding(crate::specs::Steps::leaf_at))]
     pub(crate) fn cmp(&mut self) -> Result<Cmp, Stop>
-        ensures read { Gives result self.new.spots (cmp_at self.old.spots) }
+        ensures read { Gives result self.new.words_ahead (cmp_at self.old.words_ahead) }
         ensures ending { self.new.ending ≡ self.old.ending }
     {
         let Some(cmp) = self.word().and_then(Seen::cmp) else {
@@ -178,7 +178,7 @@ impl<'a> Words<'a> {
     /// Passes the right side of a condition.
     #[tactic(auto, unfolding(crate::specs::Steps::leaf_at))]
     pub(crate) fn right(&mut self) -> Result<RightSide, Stop>
-        ensures read { Gives result self.new.spots (right_at self.old.spots) }
+        ensures read { Gives result self.new.words_ahead (right_at self.old.words_ahead) }
         ensures ending { self.new.ending ≡ self.old.ending }
     {
         let Some(right) = self.word().and_then(Seen::right) else {
@@ -191,7 +191,7 @@ impl<'a> Words<'a> {
     /// Passes `++` or `--`.
     #[tactic(auto, unfolding(crate::specs::Steps::leaf_at))]
     pub(crate) fn step(&mut self) -> Result<Change, Stop>
-        ensures read { Gives result self.new.spots (step_at self.old.spots) }
+        ensures read { Gives result self.new.words_ahead (step_at self.old.words_ahead) }
         ensures ending { self.new.ending ≡ self.old.ending }
     {
         let Some(step) = self.word().and_then(Seen::step) else {
@@ -204,7 +204,7 @@ impl<'a> Words<'a> {
     /// Passes `$focus` or `$all`.
     #[tactic(auto, unfolding(crate::specs::Steps::leaf_at))]
     pub(crate) fn whole(&mut self) -> Result<Set, Stop>
-        ensures read { Gives result self.new.spots (whole_at self.old.spots) }
+        ensures read { Gives result self.new.words_ahead (whole_at self.old.words_ahead) }
         ensures ending { self.new.ending ≡ self.old.ending }
     {
         let Some(whole) = self.word().and_then(Seen::whole) else {
@@ -217,7 +217,7 @@ impl<'a> Words<'a> {
     /// Passes one of two keywords, and says whether it was the first.
     #[tactic(auto, unfolding(crate::specs::Steps::leaf_at))]
     pub(crate) fn choice(&mut self, one: &[u8], other: &[u8]) -> Result<bool, Stop>
-        ensures read { Gives result self.new.spots (choice_at one.now other.now self.old.spots) }
+        ensures read { Gives result self.new.words_ahead (choice_at one.now other.now self.old.words_ahead) }
         ensures ending { self.new.ending ≡ self.old.ending }
     {
         let Some(word) = self.word() else {
@@ -233,7 +233,7 @@ impl<'a> Words<'a> {
     /// Passes a variable.
     #[tactic(auto, unfolding(crate::specs::Steps::leaf_at))]
     pub(crate) fn var(&mut self, alloc: Global) -> Result<VarName, Stop>
-        ensures read { Gives result self.new.spots (var_at self.old.spots) }
+        ensures read { Gives result self.new.words_ahead (var_at self.old.words_ahead) }
         ensures ending { self.new.ending ≡ self.old.ending }
     {
         let Some(seen) = self.word().and_then(Seen::var) else {

@@ -4,8 +4,10 @@
 mod blocks;
 mod change;
 mod fault;
+mod gaps;
 mod items;
 mod leaves;
+mod line;
 mod metrics;
 mod parsing;
 mod print_blocks;

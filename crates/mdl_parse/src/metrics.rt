@@ -15,7 +15,7 @@ impl<'a> Words<'a> {
     /// Passes the value at first, where it is written.
     #[tactic(auto, unfolding(crate::specs::Items::initial_at, crate::specs::Steps::option_at))]
     fn initially(&mut self) -> Result<Option<u32>, Stop>
-        ensures read { Gives result self.new.spots (initially_at self.old.spots) }
+        ensures read { Gives result self.new.words_ahead (initially_at self.old.words_ahead) }
         ensures ending { self.new.ending ≡ self.old.ending }
     {
         if self.is_keyword(b"initially") {
@@ -29,7 +29,7 @@ impl<'a> Words<'a> {
     /// Passes the name of a constraint that a metric takes.
     #[tactic(auto, unfolding(crate::specs::Items::reference_at))]
     fn reference(&mut self, alloc: Global) -> Result<Text, Stop>
-        ensures read { Gives result self.new.spots (reference_at self.old.spots) }
+        ensures read { Gives result self.new.words_ahead (reference_at self.old.words_ahead) }
         ensures ending { self.new.ending ≡ self.old.ending }
     {
         self.keyword(b"constraint")?;
@@ -39,8 +39,9 @@ impl<'a> Words<'a> {
     }
 
     /// Passes all names of constraints that stand here.
+    #[tactic(auto, using(crate::proofs::Loops::loop_shorter, crate::proofs::Loops::loop_more, crate::proofs::Loops::loop_all, crate::proofs::Loops::loop_stops, crate::proofs::ItemRules::references_loop))]
     fn references(&mut self, alloc: Global) -> Result<Seq<Text>, Stop>
-        ensures read { Gives result self.new.spots (references_at self.old.spots) }
+        ensures read { Gives result self.new.words_ahead (references_at self.old.words_ahead) }
         ensures ending { self.new.ending ≡ self.old.ending }
     {
         let mut names = Vec::new(alloc);
@@ -54,7 +55,7 @@ impl<'a> Words<'a> {
     /// Passes the unit of a metric.
     #[tactic(auto, unfolding(crate::specs::Items::units_at))]
     fn units(&mut self, alloc: Global) -> Result<Text, Stop>
-        ensures read { Gives result self.new.spots (units_at self.old.spots) }
+        ensures read { Gives result self.new.words_ahead (units_at self.old.words_ahead) }
         ensures ending { self.new.ending ≡ self.old.ending }
     {
         self.keyword(b"units")?;
@@ -66,7 +67,7 @@ impl<'a> Words<'a> {
     /// Passes what a metric is, and says whether it is a timer.
     #[tactic(auto, unfolding(crate::specs::Items::base_at))]
     fn base(&mut self) -> Result<bool, Stop>
-        ensures read { Gives result self.new.spots (base_at self.old.spots) }
+        ensures read { Gives result self.new.words_ahead (base_at self.old.words_ahead) }
         ensures ending { self.new.ending ≡ self.old.ending }
     {
         self.keyword(b"base")?;
@@ -77,7 +78,7 @@ impl<'a> Words<'a> {
     /// Passes a metric.
     #[tactic(auto, unfolding(crate::specs::Items::metric_at))]
     pub(crate) fn metric(&mut self, alloc: Global, most: usize) -> Result<Metric, Stop>
-        ensures read { Gives result self.new.spots (metric_at most self.old.spots) }
+        ensures read { Gives result self.new.words_ahead (metric_at most self.old.words_ahead) }
         ensures ending { self.new.ending ≡ self.old.ending }
     {
         let line = self.start(b"metric")?;
@@ -103,7 +104,7 @@ impl<'a> Words<'a> {
     /// Passes a constraint.
     #[tactic(auto, unfolding(crate::specs::Items::constraint_at))]
     pub(crate) fn constraint(&mut self, alloc: Global, most: usize) -> Result<Constraint, Stop>
-        ensures read { Gives result self.new.spots (constraint_at most self.old.spots) }
+        ensures read { Gives result self.new.words_ahead (constraint_at most self.old.words_ahead) }
         ensures ending { self.new.ending ≡ self.old.ending }
     {
         let line = self.start(b"constraint")?;
@@ -126,7 +127,7 @@ impl<'a> Words<'a> {
     /// Passes the keyword, a name and `;`.
     #[tactic(auto, unfolding(crate::specs::Items::named_field_at))]
     fn named_field(&mut self, alloc: Global, text: &[u8]) -> Result<Text, Stop>
-        ensures read { Gives result self.new.spots (named_field_at text.now self.old.spots) }
+        ensures read { Gives result self.new.words_ahead (named_field_at text.now self.old.words_ahead) }
         ensures ending { self.new.ending ≡ self.old.ending }
     {
         self.keyword(text)?;
@@ -138,7 +139,7 @@ impl<'a> Words<'a> {
     /// Passes the keyword, a number and `;`.
     #[tactic(auto, unfolding(crate::specs::Items::number_field_at))]
     pub(crate) fn number_field(&mut self, text: &[u8]) -> Result<u32, Stop>
-        ensures read { Gives result self.new.spots (number_field_at text.now self.old.spots) }
+        ensures read { Gives result self.new.words_ahead (number_field_at text.now self.old.words_ahead) }
         ensures ending { self.new.ending ≡ self.old.ending }
     {
         self.keyword(text)?;
@@ -150,7 +151,7 @@ impl<'a> Words<'a> {
     /// Passes the parent of a hypothesis, where it is written.
     #[tactic(auto, unfolding(crate::specs::Steps::option_at))]
     fn parent(&mut self, alloc: Global) -> Result<Option<Text>, Stop>
-        ensures read { Gives result self.new.spots (parent_at self.old.spots) }
+        ensures read { Gives result self.new.words_ahead (parent_at self.old.words_ahead) }
         ensures ending { self.new.ending ≡ self.old.ending }
     {
         if self.is_keyword(b"parent") {
@@ -163,7 +164,7 @@ impl<'a> Words<'a> {
     /// Passes the axes of a hypothesis; none where they aren't written.
     #[tactic(auto, unfolding(crate::specs::Items::axes_at, crate::specs::Items::axis_names_at))]
     fn axes(&mut self, alloc: Global) -> Result<Seq<Text>, Stop>
-        ensures read { Gives result self.new.spots (axes_at self.old.spots) }
+        ensures read { Gives result self.new.words_ahead (axes_at self.old.words_ahead) }
         ensures ending { self.new.ending ≡ self.old.ending }
     {
         if self.is_keyword(b"axes") {
@@ -178,7 +179,7 @@ impl<'a> Words<'a> {
     /// Passes a hypothesis.
     #[tactic(auto, unfolding(crate::specs::Items::hypothesis_at))]
     pub(crate) fn hypothesis(&mut self, alloc: Global) -> Result<Hypothesis, Stop>
-        ensures read { Gives result self.new.spots (hypothesis_at self.old.spots) }
+        ensures read { Gives result self.new.words_ahead (hypothesis_at self.old.words_ahead) }
         ensures ending { self.new.ending ≡ self.old.ending }
     {
         let line = self.start(b"hypothesis")?;

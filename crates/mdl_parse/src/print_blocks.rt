@@ -1,118 +1,85 @@
 //! The canonical text of insertions and blocks.
 
-ghost use Rattle.std.specs.Prelude.{◌≡◌, ◌++◌, ◌+◌, ◌<◌, ◌^◌, OnOk, if◌then◌else◌};
-ghost use Rattle.mdl_parse.specs.Grammar.{event_name};
-ghost use Rattle.mdl_parse.specs.Printing.{indent};
-ghost use Rattle.mdl_parse.specs.PrintParts.{others_text, names_text, set_text, statements_text, insertion_head_text, insertion_text, insertions_text, close_text, block_head_text, block_text, blocks_text};
+ghost use Rattle.std.specs.Prelude.{◌≡◌, ◌++◌, ◌+◌, ◌<◌, ◌^◌, map, OnOk};
+ghost use Rattle.std.specs.List.{flat_map};
+ghost use Rattle.mdl_parse.specs.Grammar.{names_words, event_name, insertion_head, set_words, block_head};
+ghost use Rattle.mdl_parse.specs.PrintParts.{others_words};
+ghost use Rattle.mdl_parse.specs.Printing.{line_text, insertion_line, block_lines};
 
-use crate::print_statements::add_statement;
-use mdl_ast::{Block, EventKind, Insertion, Set, Statement};
+use crate::line::{Line, add_close, one_of};
+use crate::print_statements::add_statements;
+use crate::seen::Seen::{DollarAll, DollarFocus, Name, Sign};
+use mdl_ast::{Block, EventKind, Insertion, Set};
+use pn_text::Sign::{CloseBracket, CloseCode, Comma, OpenBrace, OpenBracket, OpenCode};
 use pn_types::{NoMemory, Text};
 use std::alloc::Global;
 
-/// Adds two spaces for each level.
-pub(crate) fn add_indent(out: &mut Vec<u8>, level: usize) -> Result<(), NoMemory>
-    ensures { OnOk result (out.new.items ≡ out.old.items ++ indent level) }
-{
-    'levels: for _ in 0..level {
-        out.extend_from_slice(b"  ")?;
-    }
-    Ok(())
-}
-
 /// Adds names, each behind a comma.
-fn add_others(out: &mut Vec<u8>, names: &[Text]) -> Result<(), NoMemory>
-    ensures { OnOk result (out.new.items ≡ out.old.items ++ others_text names.now) }
+fn add_others<'a>(line: &mut Line<'a>, names: &'a [Text]) -> Result<(), NoMemory>
+    ensures { OnOk result (line.new ≡ line.old ++ flat_map others_words names.now) }
 {
     for name in names {
-        out.extend_from_slice(b", ")?;
-        out.extend_from_slice(name.bytes())?;
+        line.add(&[Sign(Comma), Name(name.bytes())])?;
     }
     Ok(())
 }
 
 /// Adds names between commas.
-pub(crate) fn add_names(out: &mut Vec<u8>, names: &[Text]) -> Result<(), NoMemory>
-    ensures { OnOk result (out.new.items ≡ out.old.items ++ names_text names.now) }
+pub(crate) fn add_names<'a>(line: &mut Line<'a>, names: &'a [Text]) -> Result<(), NoMemory>
+    ensures { OnOk result (line.new ≡ line.old ++ names_words names.now) }
 {
     match names.split_first() {
         Some((first, others)) => {
-            out.extend_from_slice(first.bytes())?;
-            add_others(out, others)?;
-            Ok(())
+            line.add(&[Name(first.bytes())])?;
+            add_others(line, others)
         }
         None => Ok(()),
     }
 }
 
 /// Adds a set of procedures.
-#[tactic(auto, unfolding(crate::specs::PrintParts::set_text))]
-fn add_set(out: &mut Vec<u8>, set: &Set) -> Result<(), NoMemory>
-    ensures { OnOk result (out.new.items ≡ out.old.items ++ set_text set.now) }
+fn add_set<'a>(line: &mut Line<'a>, set: &'a Set) -> Result<(), NoMemory>
+    ensures { OnOk result (line.new ≡ line.old ++ set_words set.now) }
 {
     match set {
-        Set::Focus => out.extend_from_slice(b"$focus"),
-        Set::All => out.extend_from_slice(b"$all"),
+        Set::Focus => line.add(&[DollarFocus]),
+        Set::All => line.add(&[DollarAll]),
         Set::Names(names) => {
-            out.extend_from_slice(b"[")?;
-            add_names(out, names.as_slice())?;
-            out.extend_from_slice(b"]")?;
-            Ok(())
+            line.add(&[Sign(OpenBracket)])?;
+            add_names(line, names.as_slice())?;
+            line.add(&[Sign(CloseBracket)])
         }
     }
 }
 
-/// Adds the name of a kind of points.
-fn add_event(out: &mut Vec<u8>, kind: EventKind) -> Result<(), NoMemory>
-    ensures { OnOk result (out.new.items ≡ out.old.items ++ event_name kind) }
+/// The name of a kind of points.
+fn event_name(kind: EventKind) -> &'static [u8]
+    ensures { result.now ≡ event_name kind }
 {
     match kind {
-        EventKind::Entry => out.extend_from_slice(b"entry"),
-        EventKind::After => out.extend_from_slice(b"after"),
-        EventKind::Return => out.extend_from_slice(b"return"),
-        EventKind::Call => out.extend_from_slice(b"call"),
-    }
-}
-
-/// Adds one of two texts.
-pub(crate) fn add_choice(
-    out: &mut Vec<u8>,
-    is_one: bool,
-    one: &[u8],
-    other: &[u8],
-) -> Result<(), NoMemory>
-    ensures { OnOk result (out.new.items ≡ out.old.items ++ (if is_one then one.now else other.now)) }
-{
-    if is_one {
-        out.extend_from_slice(one)
-    } else {
-        out.extend_from_slice(other)
+        EventKind::Entry => b"entry",
+        EventKind::After => b"after",
+        EventKind::Return => b"return",
+        EventKind::Call => b"call",
     }
 }
 
 /// Adds how an insertion begins.
-fn add_insertion_head(out: &mut Vec<u8>, insertion: &Insertion) -> Result<(), NoMemory>
-    ensures { OnOk result (out.new.items ≡ out.old.items ++ insertion_head_text insertion.now) }
+fn add_insertion_head<'a>(line: &mut Line<'a>, insertion: &Insertion) -> Result<(), NoMemory>
+    ensures { OnOk result (line.new ≡ line.old ++ insertion_head insertion.now) }
 {
-    add_choice(out, insertion.prepend, b"prepend ", b"append ")?;
-    add_event(out, insertion.kind)?;
-    add_choice(out, insertion.constrained, b" constrained (*", b" (*")?;
-    Ok(())
-}
-
-/// Adds statements, each behind a space.
-fn add_statements(
-    alloc: Global,
-    out: &mut Vec<u8>,
-    statements: &[Statement],
-) -> Result<(), NoMemory>
-    ensures { OnOk result (out.new.items ≡ out.old.items ++ statements_text statements.now) }
-{
-    for statement in statements {
-        out.extend_from_slice(b" ")?;
-        add_statement(alloc, out, statement)?;
+    let place = one_of(insertion.prepend, b"prepend", b"append");
+    let kind = event_name(insertion.kind);
+    if insertion.constrained {
+        line.add(&[
+            Name(place),
+            Name(kind),
+            Name(b"constrained"),
+            Sign(OpenCode),
+        ])
+    } else {
+        line.add(&[Name(place), Name(kind), Sign(OpenCode)])
     }
-    Ok(())
 }
 
 /// Adds the line of an insertion.
@@ -122,33 +89,13 @@ fn add_insertion(
     level: usize,
     insertion: &Insertion,
 ) -> Result<(), NoMemory>
-    ensures { OnOk result (out.new.items ≡ out.old.items ++ insertion_text level insertion.now) }
+    ensures { OnOk result (out.new.items ≡ out.old.items ++ line_text (insertion_line level insertion.now)) }
 {
-    add_indent(out, level)?;
-    add_insertion_head(out, insertion)?;
-    add_statements(alloc, out, insertion.stmts.as_slice())?;
-    out.extend_from_slice(b" *)\n")?;
-    Ok(())
-}
-
-/// Adds the line of a closing brace.
-pub(crate) fn add_close(out: &mut Vec<u8>, level: usize) -> Result<(), NoMemory>
-    ensures { OnOk result (out.new.items ≡ out.old.items ++ close_text level) }
-{
-    add_indent(out, level)?;
-    out.extend_from_slice(b"}\n")?;
-    Ok(())
-}
-
-/// Adds the line with which a block begins.
-fn add_block_head(out: &mut Vec<u8>, level: usize, block: &Block) -> Result<(), NoMemory>
-    ensures { OnOk result (out.new.items ≡ out.old.items ++ block_head_text level block.now) }
-{
-    add_indent(out, level)?;
-    out.extend_from_slice(b"foreach func in ")?;
-    add_set(out, &block.set)?;
-    out.extend_from_slice(b" {\n")?;
-    Ok(())
+    let mut line = Line::new(alloc);
+    add_insertion_head(&mut line, insertion)?;
+    add_statements(&mut line, insertion.stmts.as_slice())?;
+    line.add(&[Sign(CloseCode)])?;
+    line.write(alloc, out, level)
 }
 
 /// Adds the lines of insertions.
@@ -158,7 +105,7 @@ fn add_insertions(
     level: usize,
     insertions: &[Insertion],
 ) -> Result<(), NoMemory>
-    ensures { OnOk result (out.new.items ≡ out.old.items ++ insertions_text level insertions.now) }
+    ensures { OnOk result (out.new.items ≡ out.old.items ++ flat_map line_text (map (insertion_line level) insertions.now)) }
 {
     for insertion in insertions {
         add_insertion(alloc, out, level, insertion)?;
@@ -166,19 +113,35 @@ fn add_insertions(
     Ok(())
 }
 
+/// Adds the line with which a block begins.
+fn add_block_head(
+    alloc: Global,
+    out: &mut Vec<u8>,
+    level: usize,
+    block: &Block,
+) -> Result<(), NoMemory>
+    ensures { OnOk result (out.new.items ≡ out.old.items ++ line_text (level, block_head block.now)) }
+{
+    let mut line = Line::new(alloc);
+    line.add(&[Name(b"foreach"), Name(b"func"), Name(b"in")])?;
+    add_set(&mut line, &block.set)?;
+    line.add(&[Sign(OpenBrace)])?;
+    line.write(alloc, out, level)
+}
+
 /// Adds the lines of a block.
-#[tactic(auto, unfolding(crate::specs::PrintParts::block_text))]
+#[tactic(auto, using(crate::proofs::LineTexts::lines_text))]
 fn add_block(alloc: Global, out: &mut Vec<u8>, level: usize, block: &Block) -> Result<(), NoMemory>
     requires { level + 1 < 2 ^ 64 }
-    ensures { OnOk result (out.new.items ≡ out.old.items ++ block_text level block.now) }
+    ensures { OnOk result (out.new.items ≡ out.old.items ++ flat_map line_text (block_lines level block.now)) }
 {
-    add_block_head(out, level, block)?;
+    add_block_head(alloc, out, level, block)?;
     add_insertions(alloc, out, level + 1, block.insertions.as_slice())?;
-    add_close(out, level)?;
-    Ok(())
+    add_close(alloc, out, level)
 }
 
 /// Adds the lines of blocks.
+#[tactic(auto, using(crate::proofs::LineTexts::lines_text))]
 pub(crate) fn add_blocks(
     alloc: Global,
     out: &mut Vec<u8>,
@@ -186,7 +149,7 @@ pub(crate) fn add_blocks(
     blocks: &[Block],
 ) -> Result<(), NoMemory>
     requires { level + 1 < 2 ^ 64 }
-    ensures { OnOk result (out.new.items ≡ out.old.items ++ blocks_text level blocks.now) }
+    ensures { OnOk result (out.new.items ≡ out.old.items ++ flat_map line_text (flat_map (block_lines level) blocks.now)) }
 {
     for block in blocks {
         add_block(alloc, out, level, block)?;

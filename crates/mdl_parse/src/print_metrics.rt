@@ -1,165 +1,184 @@
-//! The canonical text of metrics, constraints, hypotheses and the search.
+//! The canonical text of metrics, constraints and hypotheses.
 
-ghost use Rattle.std.specs.Prelude.{◌≡◌, ◌++◌, OnOk};
-ghost use Rattle.std.specs.Fmt.{decimal};
-ghost use Rattle.mdl_parse.specs.PrintParts.{references_text, initially_text, metric_head_text, base_text, metric_text, constraint_head_text, constraint_text, parent_text, axes_text, hypothesis_head_text, tested_text, hypothesis_text, search_text};
+ghost use Rattle.std.specs.Prelude.{◌≡◌, ◌++◌, [], ◌∷◌, map, OnOk};
+ghost use Rattle.std.specs.List.{flat_map};
+ghost use Rattle.pn_text.specs.Words.{NameWord, SignWord};
+ghost use Rattle.pn_text.specs.declared.token.Sign.TheVariants.{OpenBrace, Semicolon};
+ghost use Rattle.mdl_parse.specs.Grammar.{keyword};
+ghost use Rattle.mdl_parse.specs.ItemGrammar.{initially_words, constraint_head, parent_words, axes_words};
+ghost use Rattle.mdl_parse.specs.PrintParts.{constraint_kind};
+ghost use Rattle.mdl_parse.specs.Printing.{line_text, reference_line, base_words, metric_lines, constraint_lines, some_line, hypothesis_lines};
 
-use crate::print_blocks::{add_blocks, add_choice, add_names};
-use mdl_ast::{Constraint, Hypothesis, Metric, SearchDecl};
-use pn_types::{NoMemory, Text};
+use crate::line::{Line, add_close, add_line, one_of};
+use crate::print_blocks::{add_blocks, add_names};
+use crate::print_items::add_number;
+use crate::seen::Seen::{Name, Number, Path, Quoted, Sign};
+use mdl_ast::{Constraint, Hypothesis, Metric};
+use pn_text::Sign::{OpenBrace, Semicolon};
+use pn_types::{NoMemory, Seq, Text};
 use std::alloc::Global;
 
-/// Adds a number behind a text.
-fn add_field(alloc: Global, out: &mut Vec<u8>, front: &[u8], number: u32) -> Result<(), NoMemory>
-    ensures { OnOk result (out.new.items ≡ out.old.items ++ (front.now ++ decimal number)) }
+/// Adds a field with a name.
+fn add_name<'a>(
+    alloc: Global,
+    out: &mut Vec<u8>,
+    field: &'a [u8],
+    name: &'a Text,
+) -> Result<(), NoMemory>
+    ensures { OnOk result (out.new.items ≡ out.old.items ++ line_text (1, keyword field.now ∷ NameWord name.now ∷ SignWord Semicolon ∷ [])) }
 {
-    let text = format!(in alloc; "{number}")?;
-    out.extend_from_slice(front)?;
-    out.extend_from_slice(text.as_bytes())?;
-    Ok(())
+    add_line(
+        alloc,
+        out,
+        1,
+        &[Name(field), Name(name.bytes()), Sign(Semicolon)],
+    )
+}
+
+/// Adds the line with which a part of this name begins.
+fn add_opening<'a>(
+    alloc: Global,
+    out: &mut Vec<u8>,
+    part: &'a [u8],
+    name: &'a Text,
+) -> Result<(), NoMemory>
+    ensures { OnOk result (out.new.items ≡ out.old.items ++ line_text (0, keyword part.now ∷ NameWord name.now ∷ SignWord OpenBrace ∷ [])) }
+{
+    add_line(
+        alloc,
+        out,
+        0,
+        &[Name(part), Name(name.bytes()), Sign(OpenBrace)],
+    )
+}
+
+/// Adds the line of a constraint that a metric takes.
+fn add_reference(alloc: Global, out: &mut Vec<u8>, name: &Text) -> Result<(), NoMemory>
+    ensures { OnOk result (out.new.items ≡ out.old.items ++ line_text (reference_line name.now)) }
+{
+    add_name(alloc, out, b"constraint", name)
 }
 
 /// Adds the lines of the constraints that a metric takes.
-fn add_references(out: &mut Vec<u8>, names: &[Text]) -> Result<(), NoMemory>
-    ensures { OnOk result (out.new.items ≡ out.old.items ++ references_text names.now) }
+fn add_references(alloc: Global, out: &mut Vec<u8>, names: &[Text]) -> Result<(), NoMemory>
+    ensures { OnOk result (out.new.items ≡ out.old.items ++ flat_map line_text (map reference_line names.now)) }
 {
     for name in names {
-        out.extend_from_slice(b"  constraint ")?;
-        out.extend_from_slice(name.bytes())?;
-        out.extend_from_slice(b";\n")?;
+        add_reference(alloc, out, name)?;
     }
     Ok(())
 }
 
-/// Adds the end of a line that says what something is at first.
-#[tactic(auto, unfolding(crate::specs::PrintParts::initially_text))]
-fn add_initially(alloc: Global, out: &mut Vec<u8>, initially: Option<u32>) -> Result<(), NoMemory>
-    ensures { OnOk result (out.new.items ≡ out.old.items ++ initially_text initially) }
+/// Adds what something is at first, where it is written.
+fn add_initially(line: &mut Line<'_>, initially: Option<u32>) -> Result<(), NoMemory>
+    ensures { OnOk result (line.new ≡ line.old ++ initially_words initially) }
 {
     match initially {
-        Some(number) => {
-            add_field(alloc, out, b" initially ", number)?;
-            out.extend_from_slice(b" {\n")?;
-            Ok(())
-        }
-        None => out.extend_from_slice(b" {\n"),
+        Some(number) => line.add(&[Name(b"initially"), Number(number)]),
+        None => Ok(()),
     }
-}
-
-/// Adds how a metric begins.
-fn add_metric_head(out: &mut Vec<u8>, metric: &Metric) -> Result<(), NoMemory>
-    ensures { OnOk result (out.new.items ≡ out.old.items ++ metric_head_text metric.now) }
-{
-    out.extend_from_slice(b"metric ")?;
-    out.extend_from_slice(metric.name.bytes())?;
-    out.extend_from_slice(b" {\n  units \"")?;
-    out.extend_from_slice(metric.units.bytes())?;
-    out.extend_from_slice(b"\";\n")?;
-    Ok(())
 }
 
 /// Adds the line that says what a metric is.
 fn add_base(alloc: Global, out: &mut Vec<u8>, metric: &Metric) -> Result<(), NoMemory>
-    ensures { OnOk result (out.new.items ≡ out.old.items ++ base_text metric.now) }
+    ensures { OnOk result (out.new.items ≡ out.old.items ++ line_text (1, base_words metric.now)) }
 {
-    add_choice(out, metric.timer, b"  base is timer", b"  base is counter")?;
-    add_initially(alloc, out, metric.initially)?;
-    Ok(())
+    let kind = one_of(metric.timer, b"timer", b"counter");
+    let mut line = Line::new(alloc);
+    line.add(&[Name(b"base"), Name(b"is"), Name(kind)])?;
+    add_initially(&mut line, metric.initially)?;
+    line.add(&[Sign(OpenBrace)])?;
+    line.write(alloc, out, 1)
 }
 
 /// Adds a metric.
+#[tactic(auto, using(crate::proofs::LineTexts::lines_text))]
 pub(crate) fn add_metric(alloc: Global, out: &mut Vec<u8>, metric: &Metric) -> Result<(), NoMemory>
-    ensures { OnOk result (out.new.items ≡ out.old.items ++ metric_text metric.now) }
+    ensures { OnOk result (out.new.items ≡ out.old.items ++ flat_map line_text (metric_lines metric.now)) }
 {
-    add_metric_head(out, metric)?;
-    add_references(out, metric.constraints.as_slice())?;
+    let units = metric.units.bytes();
+    add_opening(alloc, out, b"metric", &metric.name)?;
+    add_line(
+        alloc,
+        out,
+        1,
+        &[Name(b"units"), Quoted(units), Sign(Semicolon)],
+    )?;
+    add_references(alloc, out, metric.constraints.as_slice())?;
     add_base(alloc, out, metric)?;
     add_blocks(alloc, out, 2, metric.blocks.as_slice())?;
-    out.extend_from_slice(b"  }\n}\n")?;
-    Ok(())
+    add_close(alloc, out, 1)?;
+    add_close(alloc, out, 0)
 }
 
-/// Adds how a constraint begins.
+/// Adds what a constraint is.
+fn add_constraint_kind<'a>(line: &mut Line<'a>, constraint: &'a Constraint) -> Result<(), NoMemory>
+    ensures { OnOk result (line.new ≡ line.old ++ constraint_kind constraint.now) }
+{
+    let name = constraint.name.bytes();
+    let path = constraint.path.bytes();
+    let kind = one_of(constraint.replace, b"replace", b"counter");
+    line.add(&[
+        Name(b"constraint"),
+        Name(name),
+        Path(path),
+        Name(b"is"),
+        Name(kind),
+    ])
+}
+
+/// Adds the line with which a constraint begins.
 fn add_constraint_head(
     alloc: Global,
     out: &mut Vec<u8>,
     constraint: &Constraint,
 ) -> Result<(), NoMemory>
-    ensures { OnOk result (out.new.items ≡ out.old.items ++ constraint_head_text constraint.now) }
+    ensures { OnOk result (out.new.items ≡ out.old.items ++ line_text (0, constraint_head constraint.now ++ (SignWord OpenBrace ∷ []))) }
 {
-    out.extend_from_slice(b"constraint ")?;
-    out.extend_from_slice(constraint.name.bytes())?;
-    out.extend_from_slice(b" ")?;
-    out.extend_from_slice(constraint.path.bytes())?;
-    add_choice(out, constraint.replace, b" is replace", b" is counter")?;
-    add_initially(alloc, out, constraint.initially)?;
-    Ok(())
+    let mut line = Line::new(alloc);
+    add_constraint_kind(&mut line, constraint)?;
+    add_initially(&mut line, constraint.initially)?;
+    line.add(&[Sign(OpenBrace)])?;
+    line.write(alloc, out, 0)
 }
 
 /// Adds a constraint.
+#[tactic(auto, using(crate::proofs::LineTexts::lines_text))]
 pub(crate) fn add_constraint(
     alloc: Global,
     out: &mut Vec<u8>,
     constraint: &Constraint,
 ) -> Result<(), NoMemory>
-    ensures { OnOk result (out.new.items ≡ out.old.items ++ constraint_text constraint.now) }
+    ensures { OnOk result (out.new.items ≡ out.old.items ++ flat_map line_text (constraint_lines constraint.now)) }
 {
     add_constraint_head(alloc, out, constraint)?;
     add_blocks(alloc, out, 1, constraint.blocks.as_slice())?;
-    out.extend_from_slice(b"}\n")?;
-    Ok(())
+    add_close(alloc, out, 0)
 }
 
 /// Adds the line of a hypothesis' parent, if it has one.
-#[tactic(auto, unfolding(crate::specs::PrintParts::parent_text))]
-fn add_parent(out: &mut Vec<u8>, parent: &Option<Text>) -> Result<(), NoMemory>
-    ensures { OnOk result (out.new.items ≡ out.old.items ++ parent_text parent.now) }
+fn add_parent(alloc: Global, out: &mut Vec<u8>, parent: &Option<Text>) -> Result<(), NoMemory>
+    ensures { OnOk result (out.new.items ≡ out.old.items ++ flat_map line_text (some_line 1 (parent_words parent.now))) }
 {
     match parent {
-        Some(name) => {
-            out.extend_from_slice(b"  parent ")?;
-            out.extend_from_slice(name.bytes())?;
-            out.extend_from_slice(b";\n")?;
-            Ok(())
-        }
+        Some(name) => add_name(alloc, out, b"parent", name),
         None => Ok(()),
     }
 }
 
 /// Adds the line of the axes, if there are any.
-#[tactic(auto, unfolding(crate::specs::PrintParts::axes_text))]
-fn add_axes(out: &mut Vec<u8>, axes: &[Text]) -> Result<(), NoMemory>
-    ensures { OnOk result (out.new.items ≡ out.old.items ++ axes_text axes.now) }
+fn add_axes(alloc: Global, out: &mut Vec<u8>, axes: &Seq<Text>) -> Result<(), NoMemory>
+    ensures { OnOk result (out.new.items ≡ out.old.items ++ flat_map line_text (some_line 1 (axes_words axes.now))) }
 {
+    let axes = axes.as_slice();
     if axes.is_empty() {
         return Ok(());
     }
-    out.extend_from_slice(b"  axes ")?;
-    add_names(out, axes)?;
-    out.extend_from_slice(b";\n")?;
-    Ok(())
-}
-
-/// Adds how a hypothesis begins.
-fn add_hypothesis_head(out: &mut Vec<u8>, hypothesis: &Hypothesis) -> Result<(), NoMemory>
-    ensures { OnOk result (out.new.items ≡ out.old.items ++ hypothesis_head_text hypothesis.now) }
-{
-    out.extend_from_slice(b"hypothesis ")?;
-    out.extend_from_slice(hypothesis.name.bytes())?;
-    out.extend_from_slice(b" {\n")?;
-    add_parent(out, &hypothesis.parent)?;
-    Ok(())
-}
-
-/// Adds the lines of what a hypothesis tests.
-fn add_tested(alloc: Global, out: &mut Vec<u8>, hypothesis: &Hypothesis) -> Result<(), NoMemory>
-    ensures { OnOk result (out.new.items ≡ out.old.items ++ tested_text hypothesis.now) }
-{
-    out.extend_from_slice(b"  metric ")?;
-    out.extend_from_slice(hypothesis.metric.bytes())?;
-    add_field(alloc, out, b";\n  threshold ", hypothesis.threshold)?;
-    out.extend_from_slice(b";\n")?;
-    Ok(())
+    let mut line = Line::new(alloc);
+    line.add(&[Name(b"axes")])?;
+    add_names(&mut line, axes)?;
+    line.add(&[Sign(Semicolon)])?;
+    line.write(alloc, out, 1)
 }
 
 /// Adds a hypothesis.
@@ -168,26 +187,13 @@ pub(crate) fn add_hypothesis(
     out: &mut Vec<u8>,
     hypothesis: &Hypothesis,
 ) -> Result<(), NoMemory>
-    ensures { OnOk result (out.new.items ≡ out.old.items ++ hypothesis_text hypothesis.now) }
+    ensures { OnOk result (out.new.items ≡ out.old.items ++ flat_map line_text (hypothesis_lines hypothesis.now)) }
 {
-    add_hypothesis_head(out, hypothesis)?;
-    add_tested(alloc, out, hypothesis)?;
-    add_axes(out, hypothesis.axes.as_slice())?;
-    out.extend_from_slice(b"}\n")?;
-    Ok(())
-}
-
-/// Adds how the search goes.
-pub(crate) fn add_search(
-    alloc: Global,
-    out: &mut Vec<u8>,
-    search: &SearchDecl,
-) -> Result<(), NoMemory>
-    ensures { OnOk result (out.new.items ≡ out.old.items ++ search_text search.now) }
-{
-    add_field(alloc, out, b"search {\n  window ", search.window)?;
-    add_field(alloc, out, b";\n  cost ", search.cost)?;
-    add_field(alloc, out, b";\n  observed ", search.observed)?;
-    out.extend_from_slice(b";\n}\n")?;
+    add_opening(alloc, out, b"hypothesis", &hypothesis.name)?;
+    add_parent(alloc, out, &hypothesis.parent)?;
+    add_name(alloc, out, b"metric", &hypothesis.metric)?;
+    add_number(alloc, out, b"threshold", hypothesis.threshold)?;
+    add_axes(alloc, out, &hypothesis.axes)?;
+    add_close(alloc, out, 0)?;
     Ok(())
 }

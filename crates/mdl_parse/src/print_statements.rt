@@ -1,120 +1,147 @@
-//! The canonical text of statements.
+//! The words of statements.
 
-ghost use Rattle.std.specs.Prelude.{◌≡◌, ◌++◌, OnOk};
-ghost use Rattle.pn_text.specs.Writing.{word_text};
-ghost use Rattle.pn_text.specs.Signs.{sign_text};
+ghost use Rattle.std.specs.Prelude.{◌≡◌, [], ◌∷◌, ◌++◌, OnOk};
+ghost use Rattle.std.specs.List.{flat_map};
+ghost use Rattle.pn_text.specs.Words.{NameWord, SignWord};
+ghost use Rattle.pn_text.specs.declared.token.Sign.TheVariants.{OpenParen, CloseParen, Semicolon};
+ghost use Rattle.mdl_parse.specs.Gives.{word_seen};
 ghost use Rattle.mdl_parse.specs.Grammar.{var_word, left_words, cmp_sign, right_word, condition_words, action_words, statement_words};
-ghost use Rattle.mdl_parse.specs.Printing.{words_text};
 
+use crate::line::Line;
+use crate::seen::Seen;
+use crate::seen::Seen::{DollarArg, DollarMetric, DollarValue, Name, Number};
 use mdl_ast::{Action, Condition, LeftName, RightSide, Statement, VarName};
+use pn_text::Sign;
 use pn_types::{Cmp, NoMemory};
-use std::alloc::Global;
 
-/// Adds a variable.
-fn add_var(out: &mut Vec<u8>, var: &VarName) -> Result<(), NoMemory>
-    ensures { OnOk result (out.new.items ≡ out.old.items ++ word_text (var_word var.now)) }
+/// A variable.
+fn var_word(var: &VarName) -> Seen<'_>
+    ensures { word_seen result ≡ var_word var.now }
 {
     match var {
-        VarName::Named(name) => out.extend_from_slice(name.bytes()),
-        VarName::TheMetric => out.extend_from_slice(b"$metric"),
+        VarName::Named(name) => Name(name.bytes()),
+        VarName::TheMetric => DollarMetric,
+    }
+}
+
+/// The sign of a comparison.
+fn cmp_sign(cmp: Cmp) -> Sign
+    ensures { result ≡ cmp_sign cmp }
+{
+    match cmp {
+        Cmp::Eq => Sign::Equal,
+        Cmp::Ne => Sign::NotEqual,
+        Cmp::Lt => Sign::Less,
+        Cmp::Le => Sign::LessEqual,
+        Cmp::Gt => Sign::Greater,
+        Cmp::Ge => Sign::GreaterEqual,
+    }
+}
+
+/// The right side of a condition.
+fn right_word(right: RightSide) -> Seen<'static>
+    ensures { word_seen result ≡ right_word right }
+{
+    match right {
+        RightSide::Number(number) => Number(number),
+        RightSide::Value => DollarValue,
     }
 }
 
 /// Adds the left side of a condition.
-fn add_left(alloc: Global, out: &mut Vec<u8>, left: &LeftName) -> Result<(), NoMemory>
-    ensures { OnOk result (out.new.items ≡ out.old.items ++ words_text (left_words left.now)) }
+fn add_left<'a>(line: &mut Line<'a>, left: &'a LeftName) -> Result<(), NoMemory>
+    ensures { OnOk result (line.new ≡ line.old ++ left_words left.now) }
 {
     match left {
-        LeftName::Variable(var) => {
-            add_var(out, var)?;
-            Ok(())
-        }
-        LeftName::Argument(number) => {
-            let number = *number;
-            let text = format!(in alloc; "$arg[{number}]")?;
-            out.extend_from_slice(text.as_bytes())?;
-            Ok(())
-        }
-    }
-}
-
-/// Adds a comparison.
-fn add_cmp(out: &mut Vec<u8>, cmp: Cmp) -> Result<(), NoMemory>
-    ensures { OnOk result (out.new.items ≡ out.old.items ++ sign_text (cmp_sign cmp)) }
-{
-    out.extend_from_slice(cmp.text())
-}
-
-/// Adds the right side of a condition.
-fn add_right(alloc: Global, out: &mut Vec<u8>, right: RightSide) -> Result<(), NoMemory>
-    ensures { OnOk result (out.new.items ≡ out.old.items ++ word_text (right_word right)) }
-{
-    match right {
-        RightSide::Number(number) => {
-            let text = format!(in alloc; "{number}")?;
-            out.extend_from_slice(text.as_bytes())?;
-            Ok(())
-        }
-        RightSide::Value => out.extend_from_slice(b"$value"),
+        LeftName::Variable(var) => line.add(&[var_word(var)]),
+        LeftName::Argument(number) => line.add(&[
+            DollarArg,
+            Seen::Sign(Sign::OpenBracket),
+            Number(*number),
+            Seen::Sign(Sign::CloseBracket),
+        ]),
     }
 }
 
 /// Adds a condition.
-#[tactic(auto, using(crate::proofs::PrintLemmas::condition_text))]
-fn add_condition(alloc: Global, out: &mut Vec<u8>, condition: &Condition) -> Result<(), NoMemory>
-    ensures { OnOk result (out.new.items ≡ out.old.items ++ words_text (condition_words condition.now)) }
+fn add_condition<'a>(line: &mut Line<'a>, condition: &'a Condition) -> Result<(), NoMemory>
+    ensures { OnOk result (line.new ≡ line.old ++ condition_words condition.now) }
 {
-    out.extend_from_slice(b"if (")?;
-    add_left(alloc, out, &condition.left)?;
-    out.extend_from_slice(b" ")?;
-    add_cmp(out, condition.cmp)?;
-    out.extend_from_slice(b" ")?;
-    add_right(alloc, out, condition.right)?;
-    out.extend_from_slice(b")")?;
+    line.add(&[Name(b"if"), Seen::Sign(Sign::OpenParen)])?;
+    add_left(line, &condition.left)?;
+    line.add(&[
+        Seen::Sign(cmp_sign(condition.cmp)),
+        right_word(condition.right),
+        Seen::Sign(Sign::CloseParen),
+    ])
+}
+
+/// Adds conditions.
+fn add_conditions<'a>(line: &mut Line<'a>, conditions: &'a [Condition]) -> Result<(), NoMemory>
+    ensures { OnOk result (line.new ≡ line.old ++ flat_map condition_words conditions.now) }
+{
+    for condition in conditions {
+        add_condition(line, condition)?;
+    }
     Ok(())
 }
 
-/// Adds a variable between two texts.
-fn add_around(out: &mut Vec<u8>, front: &[u8], var: &VarName, behind: &[u8]) -> Result<(), NoMemory>
-    ensures { OnOk result (out.new.items ≡ out.old.items ++ (front.now ++ (word_text (var_word var.now) ++ behind.now))) }
+/// Adds the start or the stop of a timer.
+fn add_timed<'a>(line: &mut Line<'a>, text: &'static [u8], var: &'a VarName) -> Result<(), NoMemory>
+    ensures { OnOk result (line.new ≡ line.old ++ (NameWord text.now ∷ SignWord OpenParen ∷ var_word var.now ∷ SignWord CloseParen ∷ SignWord Semicolon ∷ [])) }
 {
-    out.extend_from_slice(front)?;
-    add_var(out, var)?;
-    out.extend_from_slice(behind)?;
-    Ok(())
+    line.add(&[
+        Name(text),
+        Seen::Sign(Sign::OpenParen),
+        var_word(var),
+        Seen::Sign(Sign::CloseParen),
+        Seen::Sign(Sign::Semicolon),
+    ])
 }
 
 /// Adds what a statement does.
-#[tactic(auto, using(crate::proofs::PrintLemmas::action_text))]
-fn add_action(alloc: Global, out: &mut Vec<u8>, action: &Action) -> Result<(), NoMemory>
-    ensures { OnOk result (out.new.items ≡ out.old.items ++ words_text (action_words action.now)) }
+fn add_action<'a>(line: &mut Line<'a>, action: &'a Action) -> Result<(), NoMemory>
+    ensures { OnOk result (line.new ≡ line.old ++ action_words action.now) }
 {
     match action {
-        Action::Up(var) => add_around(out, b"", var, b"++;"),
-        Action::Down(var) => add_around(out, b"", var, b"--;"),
-        Action::Put(var, number) => {
-            let number = *number;
-            let text = format!(in alloc; " = {number};")?;
-            add_around(out, b"", var, text.as_bytes())
-        }
-        Action::Start(var) => add_around(out, b"start(", var, b");"),
-        Action::Stop(var) => add_around(out, b"stop(", var, b");"),
+        Action::Up(var) => line.add(&[
+            var_word(var),
+            Seen::Sign(Sign::PlusPlus),
+            Seen::Sign(Sign::Semicolon),
+        ]),
+        Action::Down(var) => line.add(&[
+            var_word(var),
+            Seen::Sign(Sign::MinusMinus),
+            Seen::Sign(Sign::Semicolon),
+        ]),
+        Action::Put(var, number) => line.add(&[
+            var_word(var),
+            Seen::Sign(Sign::Assign),
+            Number(*number),
+            Seen::Sign(Sign::Semicolon),
+        ]),
+        Action::Start(var) => add_timed(line, b"start", var),
+        Action::Stop(var) => add_timed(line, b"stop", var),
     }
 }
 
 /// Adds a statement.
-#[tactic(auto, using(crate::proofs::PrintLemmas::statement_text))]
-pub(crate) fn add_statement(
-    alloc: Global,
-    out: &mut Vec<u8>,
-    statement: &Statement,
-) -> Result<(), NoMemory>
-    ensures { OnOk result (out.new.items ≡ out.old.items ++ words_text (statement_words statement.now)) }
+fn add_statement<'a>(line: &mut Line<'a>, statement: &'a Statement) -> Result<(), NoMemory>
+    ensures { OnOk result (line.new ≡ line.old ++ statement_words statement.now) }
 {
-    for condition in statement.conds.as_slice() {
-        add_condition(alloc, out, condition)?;
-        out.extend_from_slice(b" ")?;
+    add_conditions(line, statement.conds.as_slice())?;
+    add_action(line, &statement.act)
+}
+
+/// Adds statements.
+pub(crate) fn add_statements<'a>(
+    line: &mut Line<'a>,
+    statements: &'a [Statement],
+) -> Result<(), NoMemory>
+    ensures { OnOk result (line.new ≡ line.old ++ flat_map statement_words statements.now) }
+{
+    for statement in statements {
+        add_statement(line, statement)?;
     }
-    add_action(alloc, out, &statement.act)?;
     Ok(())
 }

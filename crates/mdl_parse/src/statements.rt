@@ -16,7 +16,7 @@ impl<'a> Words<'a> {
     /// Passes an argument: `$arg [ NUMBER ]`.
     #[tactic(auto, unfolding(crate::specs::Parts::argument_at))]
     fn argument(&mut self) -> Result<LeftName, Stop>
-        ensures read { Gives result self.new.spots (argument_at self.old.spots) }
+        ensures read { Gives result self.new.words_ahead (argument_at self.old.words_ahead) }
         ensures ending { self.new.ending ≡ self.old.ending }
     {
         self.arg()?;
@@ -29,7 +29,7 @@ impl<'a> Words<'a> {
     /// Passes the left side of a condition.
     #[tactic(auto, unfolding(crate::specs::Parts::left_at, crate::specs::Parts::variable_at))]
     fn left(&mut self, alloc: Global) -> Result<LeftName, Stop>
-        ensures read { Gives result self.new.spots (left_at self.old.spots) }
+        ensures read { Gives result self.new.words_ahead (left_at self.old.words_ahead) }
         ensures ending { self.new.ending ≡ self.old.ending }
     {
         if self.is_arg() {
@@ -42,7 +42,7 @@ impl<'a> Words<'a> {
     /// Passes a condition: `if ( left cmp right )`.
     #[tactic(auto, unfolding(crate::specs::Parts::condition_at))]
     fn condition(&mut self, alloc: Global) -> Result<Condition, Stop>
-        ensures read { Gives result self.new.spots (condition_at self.old.spots) }
+        ensures read { Gives result self.new.words_ahead (condition_at self.old.words_ahead) }
         ensures ending { self.new.ending ≡ self.old.ending }
     {
         self.keyword(b"if")?;
@@ -57,7 +57,7 @@ impl<'a> Words<'a> {
     /// Passes what is done with a variable.
     #[tactic(auto, unfolding(crate::specs::Parts::change_at, crate::specs::Parts::put_at))]
     fn change(&mut self) -> Result<Change, Stop>
-        ensures read { Gives result self.new.spots (change_at self.old.spots) }
+        ensures read { Gives result self.new.words_ahead (change_at self.old.words_ahead) }
         ensures ending { self.new.ending ≡ self.old.ending }
     {
         if self.is_sign(Sign::Assign) {
@@ -71,7 +71,7 @@ impl<'a> Words<'a> {
     /// Passes a change of a variable: `var++;`, `var--;` or `var = NUMBER;`.
     #[tactic(auto, unfolding(crate::specs::Parts::changed_at))]
     fn changed(&mut self, alloc: Global) -> Result<Action, Stop>
-        ensures read { Gives result self.new.spots (changed_at self.old.spots) }
+        ensures read { Gives result self.new.words_ahead (changed_at self.old.words_ahead) }
         ensures ending { self.new.ending ≡ self.old.ending }
     {
         let var = self.var(alloc)?;
@@ -83,7 +83,7 @@ impl<'a> Words<'a> {
     /// Passes the start or the stop of a timer.
     #[tactic(auto, unfolding(crate::specs::Parts::timed_at))]
     fn timed(&mut self, alloc: Global) -> Result<Action, Stop>
-        ensures read { Gives result self.new.spots (timed_at self.old.spots) }
+        ensures read { Gives result self.new.words_ahead (timed_at self.old.words_ahead) }
         ensures ending { self.new.ending ≡ self.old.ending }
     {
         let start = self.choice(b"start", b"stop")?;
@@ -97,7 +97,7 @@ impl<'a> Words<'a> {
     /// Passes what a statement does.
     #[tactic(auto, unfolding(crate::specs::Parts::action_at))]
     fn action(&mut self, alloc: Global) -> Result<Action, Stop>
-        ensures read { Gives result self.new.spots (action_at self.old.spots) }
+        ensures read { Gives result self.new.words_ahead (action_at self.old.words_ahead) }
         ensures ending { self.new.ending ≡ self.old.ending }
     {
         if self.is_timing() {
@@ -109,7 +109,7 @@ impl<'a> Words<'a> {
 
     /// Passes the conditions of a statement, of which there are at most so many.
     fn conditions(&mut self, alloc: Global, most: usize) -> Result<Seq<Condition>, Stop>
-        ensures read { Gives result self.new.spots (conditions_at most self.old.spots) }
+        ensures read { Gives result self.new.words_ahead (conditions_at most self.old.words_ahead) }
         ensures ending { self.new.ending ≡ self.old.ending }
     {
         let mut conds = Vec::new(alloc);
@@ -126,7 +126,7 @@ impl<'a> Words<'a> {
     /// Passes a statement with at most so many conditions.
     #[tactic(auto, unfolding(crate::specs::Parts::statement_at))]
     pub(crate) fn statement(&mut self, alloc: Global, most: usize) -> Result<Statement, Stop>
-        ensures read { Gives result self.new.spots (statement_at most self.old.spots) }
+        ensures read { Gives result self.new.words_ahead (statement_at most self.old.words_ahead) }
         ensures ending { self.new.ending ≡ self.old.ending }
     {
         let line = self.line();

@@ -3,7 +3,7 @@
 ghost use Rattle.std.specs.Prelude.{◌≡◌, ◌+◌, ◌<◌, ◌^◌, length};
 ghost use Rattle.std.specs.Option.{option_map};
 ghost use Rattle.pn_text.specs.Words.{without_quotes};
-ghost use Rattle.mdl_parse.specs.Spots.{ahead};
+ghost use Rattle.mdl_parse.specs.WordsInText.{ahead};
 ghost use Rattle.mdl_parse.specs.Steps.{first_word, behind, line_at};
 ghost use Rattle.mdl_parse.specs.Ends.{unread_of, fault_of};
 ghost use Rattle.mdl_parse.specs.Gives.{word_seen, tokens_ahead, HasEnded};
@@ -23,7 +23,7 @@ pub(crate) struct Words<'a> {
 }
 
 impl<'a> Model for Words<'a> {
-    ghost use Rattle.mdl_parse.specs.Spots.{Ahead};
+    ghost use Rattle.mdl_parse.specs.WordsInText.{Ahead};
     ghost use Rattle.mdl_parse.specs.Gives.{in_view, StandIn};
 
     ghost Value = { Ahead };
@@ -72,7 +72,7 @@ impl<'a> Words<'a> {
 
     /// The line of the word in view, and 0 at the end.
     pub(crate) fn line(&self) -> u32
-        ensures { result ≡ line_at self.now.spots }
+        ensures { result ≡ line_at self.now.words_ahead }
     {
         match self.token {
             Some(token) => token.line,
@@ -82,7 +82,7 @@ impl<'a> Words<'a> {
 
     /// The word in view, and None at the end.
     pub(crate) fn word(&self) -> Option<Seen<'a>>
-        ensures { option_map word_seen result ≡ first_word self.now.spots }
+        ensures { option_map word_seen result ≡ first_word self.now.words_ahead }
     {
         let token = self.token?;
         let text = &self.text[token.from..token.to];
@@ -102,7 +102,7 @@ impl<'a> Words<'a> {
 
     /// Passes the word in view.
     pub(crate) fn advance(&mut self)
-        ensures spots { self.new.spots ≡ behind self.old.spots }
+        ensures words_ahead { self.new.words_ahead ≡ behind self.old.words_ahead }
         ensures ending { self.new.ending ≡ self.old.ending }
     {
         self.token = next_token(&mut self.scanner);

@@ -7,9 +7,9 @@ use Rattle.mdl_parse.proofs.words.Words.all_blocks.Given as goal
 
 abbrev pub invariant-each : goal.invariant-each
 invariant-each l = record {
-  read : many_at (is_keyword (codes "foreach")) (block_at l.most) l.fn.self.spots ≡ with_front l.blocks.items (many_at (is_keyword (codes "foreach")) (block_at l.most) l.self.spots);
+  read : many_at (is_keyword (codes "foreach")) (block_at l.most) l.fn.self.words_ahead ≡ with_front l.blocks.items (many_at (is_keyword (codes "foreach")) (block_at l.most) l.self.words_ahead);
   ending : l.self.ending ≡ l.fn.self.ending;
 }
 
 abbrev pub decreases-each : goal.decreases-each
-decreases-each l = length l.self.spots
+decreases-each l = length l.self.words_ahead

@@ -7,9 +7,9 @@ use Rattle.mdl_parse.proofs.words.Words.insertions.Given as goal
 
 abbrev pub invariant-insertions : goal.invariant-insertions
 invariant-insertions l = record {
-  read : many_at is_insertion (insertion_at l.most) l.fn.self.spots ≡ with_front l.insertions.items (many_at is_insertion (insertion_at l.most) l.self.spots);
+  read : many_at is_insertion (insertion_at l.most) l.fn.self.words_ahead ≡ with_front l.insertions.items (many_at is_insertion (insertion_at l.most) l.self.words_ahead);
   ending : l.self.ending ≡ l.fn.self.ending;
 }
 
 abbrev pub decreases-insertions : goal.decreases-insertions
-decreases-insertions l = length l.self.spots
+decreases-insertions l = length l.self.words_ahead

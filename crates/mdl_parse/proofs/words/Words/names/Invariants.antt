@@ -8,9 +8,9 @@ use Rattle.mdl_parse.proofs.words.Words.names.Given as goal
 
 abbrev pub invariant-names : goal.invariant-names
 invariant-names l = record {
-  read : names_at l.fn.self.spots ≡ with_front l.names.items (many_at (is_sign Comma) another_at l.self.spots);
+  read : names_at l.fn.self.words_ahead ≡ with_front l.names.items (many_at (is_sign Comma) another_at l.self.words_ahead);
   ending : l.self.ending ≡ l.fn.self.ending;
 }
 
 abbrev pub decreases-names : goal.decreases-names
-decreases-names l = length l.self.spots
+decreases-names l = length l.self.words_ahead

@@ -7,9 +7,9 @@ use Rattle.mdl_parse.proofs.words.Words.statements.Given as goal
 
 abbrev pub invariant-statements : goal.invariant-statements
 invariant-statements l = record {
-  read : many_at is_var (statement_at l.most) l.fn.self.spots ≡ with_front l.statements.items (many_at is_var (statement_at l.most) l.self.spots);
+  read : many_at is_var (statement_at l.most) l.fn.self.words_ahead ≡ with_front l.statements.items (many_at is_var (statement_at l.most) l.self.words_ahead);
   ending : l.self.ending ≡ l.fn.self.ending;
 }
 
 abbrev pub decreases-statements : goal.decreases-statements
-decreases-statements l = length l.self.spots
+decreases-statements l = length l.self.words_ahead
