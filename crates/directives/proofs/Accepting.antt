@@ -6,9 +6,9 @@ use Rattle.mdl_ast.specs.declared.items.Item.TheVariants.{Include, Sync, Metric,
 use Rattle.mdl_ast.specs.declared.items.Hypothesis.{Hypothesis as TheHypothesis}
 use Rattle.mdl_ast.specs.declared.items.Include.{Include as TheInclude}
 use Rattle.resource_tree.specs.Resources.{Resources}
-use Rattle.mdl_check.specs.Spots.{Spot, Entry, spot, entry, spots}
+use Rattle.mdl_check.specs.Placed.{PlacedItem, Entry, placed, entry, placed_items}
 use Rattle.mdl_check.specs.Rules.{is_include}
-use Rattle.mdl_check.specs.Checking.{first_fault, HasFocus, HaveFoci, AreEntries, spot_of, checked_of, prefixes_of}
+use Rattle.mdl_check.specs.Checking.{first_fault, HasFocus, HaveFoci, AreEntries, placed_of, checked_of, prefixes_of}
 use Rattle.directives.specs.declared.directive.Directive.{Directive}
 use Rattle.directives.specs.declared.directive.DirectiveAct.{DirectiveAct}
 use Rattle.directives.specs.declared.fault.DirectiveKind.{DirectiveKind}
@@ -17,22 +17,22 @@ use Rattle.directives.specs.Applying.{IsAccepted}
 use Rattle.directives.proofs.Stripped.{tally, strip, stripped, named, is_lost, Fine, hyps_of}
 use Rattle.directives.proofs.Faultless.{Each, each_from, each_to, is_other, others, others_each}
 use Rattle.directives.proofs.FineItems.{takes, one_include, fine_from, each_again}
-use Rattle.directives.proofs.Spread.{by_item, spots_by_item, spread_same, bare_spots, strip_spot, hyp_include, plain_same, expanded_plain, spot_include, fewer_includes, keep, count_spots, sync_spot}
+use Rattle.directives.proofs.Spread.{by_item, placed_by_item, spread_same, bare_placed, placed_stripped, hyp_include, plain_same, expanded_plain, placed_include, fewer_includes, keep, count_placed, placed_sync}
 use Rattle.directives.proofs.Acting.{fine_acted, few_acted, hidden_acted, acted_alike}
 use Rattle.directives.specs.Rounds.{go_on_in_rounds, directed_in_rounds}
 
 -- ---- entries and their places
 
-hyps_at : (es : List Entry) → hyps_of es ≡ flat_map strip_spot (map spot_of es)
+hyps_at : (es : List Entry) → hyps_of es ≡ flat_map placed_stripped (map placed_of es)
 hyps_at [] = refl
 hyps_at (e ∷ es) = ap (λ (l : List TheHypothesis). strip e.item ++ l) (hyps_at es)
 
-others_at : (es : List Entry) → map spot_of (others es) ≡ flat_map keep (map spot_of es)
+others_at : (es : List Entry) → map placed_of (others es) ≡ flat_map keep (map placed_of es)
 others_at [] = refl
 others_at (e ∷ es) = by (is_other e.item) (others_at es)
   where
-    by : (b : Bool) → map spot_of (others es) ≡ flat_map keep (map spot_of es) → map spot_of (cond b (e ∷ others es) (others es)) ≡ cond b (spot_of e ∷ []) [] ++ flat_map keep (map spot_of es)
-    by true k = ap (λ (l : List Spot). spot_of e ∷ l) k
+    by : (b : Bool) → map placed_of (others es) ≡ flat_map keep (map placed_of es) → map placed_of (cond b (e ∷ others es) (others es)) ≡ cond b (placed_of e ∷ []) [] ++ flat_map keep (map placed_of es)
+    by true k = ap (λ (l : List PlacedItem). placed_of e ∷ l) k
     by false k = k
 
 takes_one : (item : Item) (rest : List Item) → length (hyp_include item ++ rest) ≡ cond (is_include false item) 1 0 + length rest
@@ -49,9 +49,9 @@ takes_one (Search s) rest = omega arith
 takes_one (Phase p) rest = omega arith
 takes_one (Wish w) rest = omega arith
 
-takes_at : (es : List Entry) → tally takes es ≡ length (flat_map spot_include (map spot_of es))
+takes_at : (es : List Entry) → tally takes es ≡ length (flat_map placed_include (map placed_of es))
 takes_at [] = refl
-takes_at (e ∷ es) = omega (arith, takes_at es, takes_one e.item (flat_map spot_include (map spot_of es)))
+takes_at (e ∷ es) = omega (arith, takes_at es, takes_one e.item (flat_map placed_include (map placed_of es)))
 
 foci_of_others : (t : Resources) (es : List Entry) → HaveFoci t es → HaveFoci t (others es)
 foci_of_others t [] h = tt
@@ -73,27 +73,27 @@ no_focus t (Phase p) e = refl
 no_focus t (Wish w) e = absurd cc
 
 -- the items at these places, where the others among them have their foci
-pub record Entered (t : Resources) (ss : List Spot) (o : List Entry) : Type 0 where
+pub record Entered (t : Resources) (ss : List PlacedItem) (o : List Entry) : Type 0 where
   pub entries : List Entry
-  pub places : map spot_of entries ≡ ss
+  pub places : map placed_of entries ≡ ss
   pub foci : HaveFoci t entries
   pub among : others entries ≡ o
 
-entered : (t : Resources) (ss : List Spot) (o : List Entry) → map spot_of o ≡ flat_map keep ss → HaveFoci t o → Entered t ss o
+entered : (t : Resources) (ss : List PlacedItem) (o : List Entry) → map placed_of o ≡ flat_map keep ss → HaveFoci t o → Entered t ss o
 entered t [] [] h f = record { entries = []; places = refl; foci = tt; among = refl }
 entered t [] (e ∷ o) h f = absurd cc
 entered t (s ∷ ss) o h f = by (is_other s.item) refl o h f (λ p k g. entered t ss p k g)
   where
-    by : (b : Bool) → is_other s.item ≡ b → (o : List Entry) → map spot_of o ≡ cond b (s ∷ []) [] ++ flat_map keep ss → HaveFoci t o → ((p : List Entry) → map spot_of p ≡ flat_map keep ss → HaveFoci t p → Entered t ss p) → Entered t (s ∷ ss) o
+    by : (b : Bool) → is_other s.item ≡ b → (o : List Entry) → map placed_of o ≡ cond b (s ∷ []) [] ++ flat_map keep ss → HaveFoci t o → ((p : List Entry) → map placed_of p ≡ flat_map keep ss → HaveFoci t p → Entered t ss p) → Entered t (s ∷ ss) o
     by true e [] h f more = absurd cc
     by true e (x ∷ o) h f more =
-        let first : spot_of x ≡ s = cc in
-        let rest : map spot_of o ≡ flat_map keep ss = cc in
+        let first : placed_of x ≡ s = cc in
+        let rest : map placed_of o ≡ flat_map keep ss = cc in
         let m = more o rest f.1 in
-        let other : is_other x.item ≡ true = ap (λ (y : Spot). is_other y.item) first ∙ e in
+        let other : is_other x.item ≡ true = ap (λ (y : PlacedItem). is_other y.item) first ∙ e in
         record {
           entries = x ∷ m.entries;
-          places = ap (λ (y : Spot). y ∷ map spot_of m.entries) first ∙ ap (λ (l : List Spot). s ∷ l) m.places;
+          places = ap (λ (y : PlacedItem). y ∷ map placed_of m.entries) first ∙ ap (λ (l : List PlacedItem). s ∷ l) m.places;
           foci = (f.0, m.foci);
           among = ap (λ (b : Bool). cond b (x ∷ others m.entries) (others m.entries)) other ∙ ap (λ (l : List Entry). x ∷ l) m.among;
         }
@@ -101,7 +101,7 @@ entered t (s ∷ ss) o h f = by (is_other s.item) refl o h f (λ p k g. entered 
         let m = more o h f in
         record {
           entries = entry s.line s.item None ∷ m.entries;
-          places = ap (λ (l : List Spot). s ∷ l) m.places;
+          places = ap (λ (l : List PlacedItem). s ∷ l) m.places;
           foci = (no_focus t s.item e, m.foci);
           among = ap (λ (b : Bool). cond b (entry s.line s.item None ∷ others m.entries) (others m.entries)) e ∙ m.among;
         }
@@ -111,48 +111,48 @@ entered t (s ∷ ss) o h f = by (is_other s.item) refl o h f (λ p k g. entered 
 record Ready (shipped : List Item) (o : List Entry) (n : ℕ) (prefixes : List (List ℕ)) (items : List Item) : Type 0 where
   fine : Fine o n (stripped items)
   plain : flat_map hyp_include items ≡ []
-  kept : flat_map keep (spots shipped items) ≡ map spot_of o
-  single : length (flat_map spot_include (spots shipped items)) ≤ 1
-  few : length o + (length (stripped items) + length (flat_map spot_include (spots shipped items))) ≤ n
-  begins : flat_map sync_spot (spots shipped items) ≡ prefixes
+  kept : flat_map keep (placed_items shipped items) ≡ map placed_of o
+  single : length (flat_map placed_include (placed_items shipped items)) ≤ 1
+  few : length o + (length (stripped items) + length (flat_map placed_include (placed_items shipped items))) ≤ n
+  begins : flat_map placed_sync (placed_items shipped items) ≡ prefixes
 
-spots_length : (es : List Entry) → length (map spot_of es) ≡ length es
-spots_length [] = refl
-spots_length (e ∷ es) = ap suc (spots_length es)
+placed_length : (es : List Entry) → length (map placed_of es) ≡ length es
+placed_length [] = refl
+placed_length (e ∷ es) = ap suc (placed_length es)
 
-others_hide : (line : ℕ) (i : TheInclude) → i.metrics ≡ false → keep (spot line (Include i)) ≡ []
-others_hide line i m = ap (λ (b : Bool). cond b (spot line (Include i) ∷ []) []) m
+others_hide : (line : ℕ) (i : TheInclude) → i.metrics ≡ false → keep (placed line (Include i)) ≡ []
+others_hide line i m = ap (λ (b : Bool). cond b (placed line (Include i) ∷ []) []) m
 
-ready_first : (t : Resources) (shipped items : List Item) (es : List Entry) → AreEntries t (spots shipped items) es → Each es [] es → Ready shipped (others es) (length es) (prefixes_of shipped items) (expanded shipped items)
+ready_first : (t : Resources) (shipped items : List Item) (es : List Entry) → AreEntries t (placed_items shipped items) es → Each es [] es → Ready shipped (others es) (length es) (prefixes_of shipped items) (expanded shipped items)
 ready_first t shipped items es a f =
-    let bare_same : hyps_of es ≡ stripped (expanded shipped items) = hyps_at es ∙ ap (flat_map strip_spot) a.places_are ∙ bare_spots shipped items in
-    let kept_same : flat_map keep (spots shipped items) ≡ map spot_of (others es) = ap (flat_map keep) (sym a.places_are) ∙ sym (others_at es) in
+    let bare_same : hyps_of es ≡ stripped (expanded shipped items) = hyps_at es ∙ ap (flat_map placed_stripped) a.places_are ∙ bare_placed shipped items in
+    let kept_same : flat_map keep (placed_items shipped items) ≡ map placed_of (others es) = ap (flat_map keep) (sym a.places_are) ∙ sym (others_at es) in
     let one = one_include es f in
-    let all = count_spots (spots shipped items) in
+    let all = count_placed (placed_items shipped items) in
     record {
       fine = subst (Fine (others es) (length es)) bare_same (fine_from es f);
       plain = expanded_plain shipped items;
       kept = spread_same keep (λ l h. refl) others_hide shipped items ∙ kept_same;
-      single = omega (arith, fewer_includes shipped items, one, takes_at es, ap (λ (l : List Spot). length (flat_map spot_include l)) a.places_are);
-      few = omega (arith, fewer_includes shipped items, all, ap length a.places_are, spots_length es, ap length kept_same, spots_length (others es), ap length (bare_spots shipped items));
-      begins = spread_same sync_spot (λ l h. refl) (λ l i m. refl) shipped items;
+      single = omega (arith, fewer_includes shipped items, one, takes_at es, ap (λ (l : List PlacedItem). length (flat_map placed_include l)) a.places_are);
+      few = omega (arith, fewer_includes shipped items, all, ap length a.places_are, placed_length es, ap length kept_same, placed_length (others es), ap length (bare_placed shipped items));
+      begins = spread_same placed_sync (λ l h. refl) (λ l i m. refl) shipped items;
     }
 
-hidden_spots : {B : Type 0} (g : Spot → List B) → ((l : ℕ) (h : TheHypothesis) → g (spot l (Hypothesis h)) ≡ []) → (shipped : List Item) (act : DirectiveAct) (items : List Item) →
-    flat_map g (spots shipped (acted act items)) ≡ flat_map g (spots shipped items)
-hidden_spots g hyp shipped act items =
-    spots_by_item g shipped (acted act items) ∙ hidden_acted (by_item g shipped) (λ h. ap (λ (l : List _). l ++ []) (hyp h.line h)) act items ∙ sym (spots_by_item g shipped items)
+hidden_placed : {B : Type 0} (g : PlacedItem → List B) → ((l : ℕ) (h : TheHypothesis) → g (placed l (Hypothesis h)) ≡ []) → (shipped : List Item) (act : DirectiveAct) (items : List Item) →
+    flat_map g (placed_items shipped (acted act items)) ≡ flat_map g (placed_items shipped items)
+hidden_placed g hyp shipped act items =
+    placed_by_item g shipped (acted act items) ∙ hidden_acted (by_item g shipped) (λ h. ap (λ (l : List _). l ++ []) (hyp h.line h)) act items ∙ sym (placed_by_item g shipped items)
 
 ready_more : (shipped : List Item) (o : List Entry) (n : ℕ) (prefixes : List (List ℕ)) (act : DirectiveAct) (items : List Item) → Ready shipped o n prefixes items → Ready shipped o n prefixes (acted act items)
 ready_more shipped o n prefixes act items r =
-    let includes = ap length (hidden_spots spot_include (λ l h. refl) shipped act items) in
+    let includes = ap length (hidden_placed placed_include (λ l h. refl) shipped act items) in
     record {
       fine = fine_acted o n act items r.fine;
       plain = hidden_acted hyp_include (λ h. refl) act items ∙ r.plain;
-      kept = hidden_spots keep (λ l h. refl) shipped act items ∙ r.kept;
+      kept = hidden_placed keep (λ l h. refl) shipped act items ∙ r.kept;
       single = omega (arith, r.single, includes);
       few = omega (arith, r.few, includes, few_acted act items);
-      begins = hidden_spots sync_spot (λ l h. refl) shipped act items ∙ r.begins;
+      begins = hidden_placed placed_sync (λ l h. refl) shipped act items ∙ r.begins;
     }
 
 ready_all : (shipped : List Item) (o : List Entry) (n : ℕ) (prefixes : List (List ℕ)) (ds : List Directive) (items new : List Item) → Ready shipped o n prefixes items → directed ds items ≡ Ok new → Ready shipped o n prefixes new
@@ -178,21 +178,21 @@ directed_alike shipped o n prefixes (d ∷ ds) items r = by (kind_of d.act items
 -- the entries of what is made: without a fault, with the same others
 pub record Made (t : Resources) (shipped new : List Item) (o : List Entry) : Type 0 where
   pub entries : List Entry
-  pub places : AreEntries t (spots shipped new) entries
+  pub places : AreEntries t (placed_items shipped new) entries
   pub faultless : first_fault entries ≡ None
   pub among : others entries ≡ o
   pub plain : expanded shipped new ≡ new
 
 made : (t : Resources) (shipped new : List Item) (o : List Entry) (n : ℕ) (prefixes : List (List ℕ)) → Ready shipped o n prefixes new → HaveFoci t o → Each o [] o → Made t shipped new o
 made t shipped new o n prefixes r foci each =
-    let m = entered t (spots shipped new) o (sym r.kept) foci in
+    let m = entered t (placed_items shipped new) o (sym r.kept) foci in
     let all : List Entry = m.entries in
-    let hyps : hyps_of all ≡ stripped new = hyps_at all ∙ ap (flat_map strip_spot) m.places ∙ bare_spots shipped new ∙ ap stripped (plain_same shipped new r.plain) in
+    let hyps : hyps_of all ≡ stripped new = hyps_at all ∙ ap (flat_map placed_stripped) m.places ∙ bare_placed shipped new ∙ ap stripped (plain_same shipped new r.plain) in
     let fine : Fine (others all) n (hyps_of all) = subst (λ (l : List Entry). Fine l n (hyps_of all)) (sym m.among) (subst (Fine o n) (sym hyps) r.fine) in
-    let spread : length all ≡ length (flat_map keep (spots shipped new)) + (length (flat_map strip_spot (spots shipped new)) + length (flat_map spot_include (spots shipped new))) =
-    sym (spots_length all) ∙ ap length m.places ∙ count_spots (spots shipped new) in
-    let few : length all ≤ n = omega (arith, r.few, spread, ap length r.kept, spots_length o, ap length (bare_spots shipped new), ap (λ (l : List Item). length (stripped l)) (plain_same shipped new r.plain)) in
-    let single : tally takes all ≤ 1 = omega (arith, r.single, takes_at all, ap (λ (l : List Spot). length (flat_map spot_include l)) m.places) in
+    let spread : length all ≡ length (flat_map keep (placed_items shipped new)) + (length (flat_map placed_stripped (placed_items shipped new)) + length (flat_map placed_include (placed_items shipped new))) =
+    sym (placed_length all) ∙ ap length m.places ∙ count_placed (placed_items shipped new) in
+    let few : length all ≤ n = omega (arith, r.few, spread, ap length r.kept, placed_length o, ap length (bare_placed shipped new), ap (λ (l : List Item). length (stripped l)) (plain_same shipped new r.plain)) in
+    let single : tally takes all ≤ 1 = omega (arith, r.single, takes_at all, ap (λ (l : List PlacedItem). length (flat_map placed_include l)) m.places) in
     let alone : Each (others all) [] (others all) = subst (λ (l : List Entry). Each l [] l) (sym m.among) each in
     record {
       entries = all;
@@ -202,7 +202,7 @@ made t shipped new o n prefixes r foci each =
       plain = plain_same shipped new r.plain;
     }
 
-pub made_after : (t : Resources) (shipped items : List Item) (ds : List Directive) (new : List Item) (es : List Entry) → AreEntries t (spots shipped items) es → first_fault es ≡ None → applied shipped items ds ≡ Ok new →
+pub made_after : (t : Resources) (shipped items : List Item) (ds : List Directive) (new : List Item) (es : List Entry) → AreEntries t (placed_items shipped items) es → first_fault es ≡ None → applied shipped items ds ≡ Ok new →
     Made t shipped new (others es)
 unfolding applied
 made_after t shipped items ds new es entries none e =
@@ -243,7 +243,7 @@ homes_after t shipped items ds new a e =
     let each = each_from es [] es a.1.2 in
     (ready_all shipped (others es) (length es) (prefixes_of shipped items) ds (expanded shipped items) new (ready_first t shipped items es a.1.1 each) e).fine.parents
 
-pub few_after : (t : Resources) (shipped items : List Item) (ds : List Directive) (new : List Item) → IsAccepted t shipped items → applied shipped items ds ≡ Ok new → length (spots shipped new) ≤ length (spots shipped items)
+pub few_after : (t : Resources) (shipped items : List Item) (ds : List Directive) (new : List Item) → IsAccepted t shipped items → applied shipped items ds ≡ Ok new → length (placed_items shipped new) ≤ length (placed_items shipped items)
 unfolding IsAccepted applied
 few_after t shipped items ds new a e =
     let es : List Entry = a.1.0 in
@@ -252,11 +252,11 @@ few_after t shipped items ds new a e =
     omega (
       arith,
       r.few,
-      count_spots (spots shipped new),
+      count_placed (placed_items shipped new),
       ap length r.kept,
-      spots_length (others es),
-      ap length (bare_spots shipped new),
+      placed_length (others es),
+      ap length (bare_placed shipped new),
       ap (λ (l : List Item). length (stripped l)) (plain_same shipped new r.plain),
       ap length a.1.1.places_are,
-      spots_length es,
+      placed_length es,
     )

@@ -5,7 +5,7 @@ use Rattle.std.proofs.lemmas.Grind.{flat_map-append}
 use Rattle.mdl_ast.specs.declared.items.Item.{Item}
 use Rattle.mdl_ast.specs.declared.items.Item.TheVariants.{Include, Sync, Metric, Constraint, Hypothesis, Search, Phase, Wish}
 use Rattle.mdl_ast.specs.declared.items.Hypothesis.{Hypothesis as TheHypothesis}
-use Rattle.mdl_check.specs.Spots.{Entry, is_hypothesis}
+use Rattle.mdl_check.specs.Placed.{Entry, is_hypothesis}
 use Rattle.mdl_check.specs.Rules.{is_axis}
 use Rattle.directives.specs.Hypotheses.{is_named}
 use Rattle.directives.specs.Rounds.{pruned_in_rounds, acted_in_rounds}

@@ -8,7 +8,7 @@ use Rattle.std.proofs.lemmas.Iterator.Adapters.{position_from-zero}
 use Rattle.mdl_ast.specs.declared.items.Item.{Item}
 use Rattle.mdl_ast.specs.declared.items.Item.TheVariants.{Include, Sync, Metric, Constraint, Hypothesis, Search, Phase, Wish}
 use Rattle.mdl_ast.specs.declared.items.Hypothesis.{Hypothesis as TheHypothesis}
-use Rattle.mdl_check.specs.Spots.{Entry}
+use Rattle.mdl_check.specs.Placed.{Entry}
 use Rattle.mdl_check.specs.Names.{hypothesis_place}
 use Rattle.mdl_check.specs.Rules.{parent_place, parents_of, parent_at, leads_to, is_cyclic}
 use Rattle.directives.proofs.Stripped.{or_right, tally, none_counted, lift, bare, named, has_parent, is_pair, Leads, hyps_of, is_at, place_is, any_hyps}

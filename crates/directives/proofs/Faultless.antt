@@ -11,7 +11,7 @@ use Rattle.mdl_ast.specs.declared.items.Item.TheVariants.{Include, Sync, Metric,
 use Rattle.mdl_ast.specs.declared.metric.Constraint.{Constraint as TheConstraint}
 use Rattle.mdl_ast.specs.declared.items.Include.{Include as TheInclude}
 use Rattle.mdl_ast.specs.declared.items.Hypothesis.{Hypothesis as TheHypothesis}
-use Rattle.mdl_check.specs.Spots.{Entry, entry}
+use Rattle.mdl_check.specs.Placed.{Entry, entry}
 use Rattle.mdl_check.specs.Names.{constraint_in, constraint_named, metric_name, number_from, metric_number}
 use Rattle.mdl_check.specs.Rules.{is_on, are_two_on, is_repeated, is_unknown, is_wrong, is_misused, is_astray, tick_behind, parent_place, parents_of, parent_at, leads_to, is_cyclic, fault_of}
 use Rattle.mdl_check.specs.Checking.{fault_from}

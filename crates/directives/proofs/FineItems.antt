@@ -7,7 +7,7 @@ use Rattle.mdl_ast.specs.declared.items.Item.{Item}
 use Rattle.mdl_ast.specs.declared.items.Item.TheVariants.{Include, Sync, Metric, Constraint, Hypothesis, Search, Phase, Wish}
 use Rattle.mdl_ast.specs.declared.items.Hypothesis.{Hypothesis as TheHypothesis}
 use Rattle.mdl_ast.specs.declared.items.Include.{Include as TheInclude}
-use Rattle.mdl_check.specs.Spots.{Entry}
+use Rattle.mdl_check.specs.Placed.{Entry}
 use Rattle.mdl_check.specs.Names.{metric_number}
 use Rattle.mdl_check.specs.Rules.{is_axis, is_include, is_repeated, is_unknown, is_wrong, is_astray, parent_place, parents_of, is_cyclic, is_orphan as is_parentless}
 use Rattle.directives.proofs.Stripped.{or_none, tally, none_counted, count_none, lift, bare, named, is_lost, Leads, is_unmeasured, is_strange, Fine, hyps_of, is_at, any_one, repeated_is, parentless_is, any_hyps, count_hyps}

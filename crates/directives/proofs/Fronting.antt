@@ -6,7 +6,7 @@ use Rattle.std.specs.Option.{unwrap_or}
 use Rattle.std.proofs.lemmas.Option.{slice_get_read}
 use Rattle.mdl_ast.specs.declared.items.Item.{Item}
 use Rattle.mdl_ast.specs.declared.items.Item.TheVariants.{Include, Sync, Metric, Constraint, Hypothesis, Search, Phase, Wish}
-use Rattle.mdl_check.specs.Spots.{is_hypothesis}
+use Rattle.mdl_check.specs.Placed.{is_hypothesis}
 use Rattle.directives.specs.Hypotheses.{is_named}
 use Rattle.directives.specs.Acts.{put_first, moved, with_first}
 

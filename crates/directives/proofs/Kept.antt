@@ -5,7 +5,7 @@ use Rattle.std.proofs.lemmas.Bool.{or_parts}
 use Rattle.mdl_ast.specs.declared.items.Item.{Item}
 use Rattle.mdl_ast.specs.declared.items.Item.TheVariants.{Include, Sync, Metric, Constraint, Hypothesis, Search, Phase, Wish}
 use Rattle.mdl_ast.specs.declared.items.Hypothesis.{Hypothesis as TheHypothesis}
-use Rattle.mdl_check.specs.Spots.{Entry}
+use Rattle.mdl_check.specs.Placed.{Entry}
 use Rattle.mdl_check.specs.Names.{metric_number}
 use Rattle.directives.specs.Hypotheses.{is_named, stands, lacks, is_orphan}
 use Rattle.directives.specs.Rounds.{settled, pruned_in_rounds}

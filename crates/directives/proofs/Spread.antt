@@ -7,7 +7,7 @@ use Rattle.mdl_ast.specs.declared.items.Item.{Item}
 use Rattle.mdl_ast.specs.declared.items.Item.TheVariants.{Include, Sync, Metric, Constraint, Hypothesis, Search, Phase, Wish}
 use Rattle.mdl_ast.specs.declared.items.Hypothesis.{Hypothesis as TheHypothesis}
 use Rattle.mdl_ast.specs.declared.items.Include.{Include as TheInclude}
-use Rattle.mdl_check.specs.Spots.{Spot, spot, is_taken, spots_of, spots}
+use Rattle.mdl_check.specs.Placed.{PlacedItem, placed, is_taken, with_included, placed_items}
 use Rattle.mdl_check.specs.Checking.{sync_of}
 use Rattle.directives.specs.Acts.{at_line, expansion, expanded}
 use Rattle.directives.proofs.Stripped.{strip, stripped, bare}
@@ -15,13 +15,13 @@ use Rattle.directives.proofs.Faultless.{is_other}
 
 -- ---- by item
 
-abbrev pub by_item : {B : Type 0} → (Spot → List B) → List Item → Item → List B
-by_item g shipped item = flat_map g (spots_of shipped item)
+abbrev pub by_item : {B : Type 0} → (PlacedItem → List B) → List Item → Item → List B
+by_item g shipped item = flat_map g (with_included shipped item)
 
-pub spots_by_item : {B : Type 0} (g : Spot → List B) (shipped items : List Item) → flat_map g (spots shipped items) ≡ flat_map (by_item g shipped) items
-spots_by_item g shipped [] = refl
-spots_by_item g shipped (i ∷ items) =
-    flat_map-append g (spots_of shipped i) (spots shipped items) ∙ ap (λ (l : List _). by_item g shipped i ++ l) (spots_by_item g shipped items)
+pub placed_by_item : {B : Type 0} (g : PlacedItem → List B) (shipped items : List Item) → flat_map g (placed_items shipped items) ≡ flat_map (by_item g shipped) items
+placed_by_item g shipped [] = refl
+placed_by_item g shipped (i ∷ items) =
+    flat_map-append g (with_included shipped i) (placed_items shipped items) ∙ ap (λ (l : List _). by_item g shipped i ++ l) (placed_by_item g shipped items)
 
 -- what shows no hypothesis is the same without their lines
 pub none_at_line : {B : Type 0} (f : Item → List B) → ((h : TheHypothesis) → f (Hypothesis h) ≡ []) → (line : ℕ) (xs : List Item) → flat_map f (flat_map (at_line line) xs) ≡ []
@@ -35,19 +35,19 @@ none_at_line f h line (Search s ∷ xs) = none_at_line f h line xs
 none_at_line f h line (Phase p ∷ xs) = none_at_line f h line xs
 none_at_line f h line (Wish w ∷ xs) = none_at_line f h line xs
 
-none_taken : {B : Type 0} (g : Spot → List B) → ((line : ℕ) (h : TheHypothesis) → g (spot line (Hypothesis h)) ≡ []) → (line : ℕ) (xs : List Item) → flat_map g (map (spot line) (filter (is_taken false) xs)) ≡ []
+none_taken : {B : Type 0} (g : PlacedItem → List B) → ((line : ℕ) (h : TheHypothesis) → g (placed line (Hypothesis h)) ≡ []) → (line : ℕ) (xs : List Item) → flat_map g (map (placed line) (filter (is_taken false) xs)) ≡ []
 none_taken g h line [] = refl
 none_taken g h line (Include i ∷ xs) = none_taken g h line xs
 none_taken g h line (Sync s ∷ xs) = none_taken g h line xs
 none_taken g h line (Metric m ∷ xs) = none_taken g h line xs
 none_taken g h line (Constraint c ∷ xs) = none_taken g h line xs
-none_taken g h line (Hypothesis x ∷ xs) = ap (λ (l : List _). l ++ flat_map g (map (spot line) (filter (is_taken false) xs))) (h line x) ∙ none_taken g h line xs
+none_taken g h line (Hypothesis x ∷ xs) = ap (λ (l : List _). l ++ flat_map g (map (placed line) (filter (is_taken false) xs))) (h line x) ∙ none_taken g h line xs
 none_taken g h line (Search s ∷ xs) = none_taken g h line xs
 none_taken g h line (Phase p ∷ xs) = none_taken g h line xs
 none_taken g h line (Wish w ∷ xs) = none_taken g h line xs
 
 -- what shows no hypothesis, and no include of them
-module _ {B : Type 0} (g : Spot → List B) (hyp : (line : ℕ) (h : TheHypothesis) → g (spot line (Hypothesis h)) ≡ []) (incl : (line : ℕ) (i : TheInclude) → i.metrics ≡ false → g (spot line (Include i)) ≡ []) where
+module _ {B : Type 0} (g : PlacedItem → List B) (hyp : (line : ℕ) (h : TheHypothesis) → g (placed line (Hypothesis h)) ≡ []) (incl : (line : ℕ) (i : TheInclude) → i.metrics ≡ false → g (placed line (Include i)) ≡ []) where
   pub hidden_item : (shipped : List Item) (h : TheHypothesis) → by_item g shipped (Hypothesis h) ≡ []
   hidden_item shipped h = ap (λ (l : List B). l ++ []) (hyp h.line h)
 
@@ -55,11 +55,11 @@ module _ {B : Type 0} (g : Spot → List B) (hyp : (line : ℕ) (h : TheHypothes
   alone shipped item = append-nil (by_item g shipped item)
 
   one_include : (shipped : List Item) (i : TheInclude) (metrics : Bool) → i.metrics ≡ metrics →
-      flat_map (by_item g shipped) (cond metrics (Include i ∷ []) (flat_map (at_line i.line) shipped)) ≡ g (spot i.line (Include i)) ++ flat_map g (map (spot i.line) (filter (is_taken metrics) shipped))
-  one_include shipped i true m = append-nil (by_item g shipped (Include i)) ∙ ap (λ (b : Bool). g (spot i.line (Include i)) ++ flat_map g (map (spot i.line) (filter (is_taken b) shipped))) m
+      flat_map (by_item g shipped) (cond metrics (Include i ∷ []) (flat_map (at_line i.line) shipped)) ≡ g (placed i.line (Include i)) ++ flat_map g (map (placed i.line) (filter (is_taken metrics) shipped))
+  one_include shipped i true m = append-nil (by_item g shipped (Include i)) ∙ ap (λ (b : Bool). g (placed i.line (Include i)) ++ flat_map g (map (placed i.line) (filter (is_taken b) shipped))) m
   one_include shipped i false m =
       none_at_line (by_item g shipped) (hidden_item shipped) i.line shipped
-      ∙ sym (ap (λ (l : List B). l ++ flat_map g (map (spot i.line) (filter (is_taken false) shipped))) (incl i.line i m) ∙ none_taken g hyp i.line shipped)
+      ∙ sym (ap (λ (l : List B). l ++ flat_map g (map (placed i.line) (filter (is_taken false) shipped))) (incl i.line i m) ∙ none_taken g hyp i.line shipped)
 
   same_item : (shipped : List Item) (item : Item) → flat_map (by_item g shipped) (expansion shipped item) ≡ by_item g shipped item
   same_item shipped (Include i) = one_include shipped i i.metrics refl
@@ -79,15 +79,15 @@ module _ {B : Type 0} (g : Spot → List B) (hyp : (line : ℕ) (h : TheHypothes
       ∙ ap (λ (l : List B). by_item g shipped i ++ l) (same_items shipped items)
 
   -- it stays where the shipped hypotheses take the place of their include
-  pub spread_same : (shipped items : List Item) → flat_map g (spots shipped (expanded shipped items)) ≡ flat_map g (spots shipped items)
-  spread_same shipped items = spots_by_item g shipped (expanded shipped items) ∙ same_items shipped items ∙ sym (spots_by_item g shipped items)
+  pub spread_same : (shipped items : List Item) → flat_map g (placed_items shipped (expanded shipped items)) ≡ flat_map g (placed_items shipped items)
+  spread_same shipped items = placed_by_item g shipped (expanded shipped items) ∙ same_items shipped items ∙ sym (placed_by_item g shipped items)
 
 -- ---- the hypotheses
 
-abbrev pub strip_spot : Spot → List TheHypothesis
-strip_spot s = strip s.item
+abbrev pub placed_stripped : PlacedItem → List TheHypothesis
+placed_stripped s = strip s.item
 
-others_bare : (line : ℕ) (xs : List Item) → flat_map strip_spot (map (spot line) (filter (is_taken true) xs)) ≡ []
+others_bare : (line : ℕ) (xs : List Item) → flat_map placed_stripped (map (placed line) (filter (is_taken true) xs)) ≡ []
 others_bare line [] = refl
 others_bare line (Include i ∷ xs) = others_bare line xs
 others_bare line (Sync s ∷ xs) = others_bare line xs
@@ -98,7 +98,7 @@ others_bare line (Search s ∷ xs) = others_bare line xs
 others_bare line (Phase p ∷ xs) = others_bare line xs
 others_bare line (Wish w ∷ xs) = others_bare line xs
 
-taken_bare : (line : ℕ) (xs : List Item) → flat_map strip_spot (map (spot line) (filter (is_taken false) xs)) ≡ stripped (flat_map (at_line line) xs)
+taken_bare : (line : ℕ) (xs : List Item) → flat_map placed_stripped (map (placed line) (filter (is_taken false) xs)) ≡ stripped (flat_map (at_line line) xs)
 taken_bare line [] = refl
 taken_bare line (Include i ∷ xs) = taken_bare line xs
 taken_bare line (Sync s ∷ xs) = taken_bare line xs
@@ -110,11 +110,11 @@ taken_bare line (Phase p ∷ xs) = taken_bare line xs
 taken_bare line (Wish w ∷ xs) = taken_bare line xs
 
 bare_include : (shipped : List Item) (i : TheInclude) (metrics : Bool) →
-    flat_map strip_spot (map (spot i.line) (filter (is_taken metrics) shipped)) ≡ stripped (cond metrics (Include i ∷ []) (flat_map (at_line i.line) shipped))
+    flat_map placed_stripped (map (placed i.line) (filter (is_taken metrics) shipped)) ≡ stripped (cond metrics (Include i ∷ []) (flat_map (at_line i.line) shipped))
 bare_include shipped i true = others_bare i.line shipped
 bare_include shipped i false = taken_bare i.line shipped
 
-bare_item : (shipped : List Item) (item : Item) → by_item strip_spot shipped item ≡ stripped (expansion shipped item)
+bare_item : (shipped : List Item) (item : Item) → by_item placed_stripped shipped item ≡ stripped (expansion shipped item)
 bare_item shipped (Include i) = bare_include shipped i i.metrics
 bare_item shipped (Sync s) = refl
 bare_item shipped (Metric m) = refl
@@ -124,15 +124,15 @@ bare_item shipped (Search s) = refl
 bare_item shipped (Phase p) = refl
 bare_item shipped (Wish w) = refl
 
-bare_items : (shipped items : List Item) → flat_map (by_item strip_spot shipped) items ≡ stripped (expanded shipped items)
+bare_items : (shipped items : List Item) → flat_map (by_item placed_stripped shipped) items ≡ stripped (expanded shipped items)
 bare_items shipped [] = refl
 bare_items shipped (i ∷ items) =
-    ap (λ (l : List TheHypothesis). l ++ flat_map (by_item strip_spot shipped) items) (bare_item shipped i)
+    ap (λ (l : List TheHypothesis). l ++ flat_map (by_item placed_stripped shipped) items) (bare_item shipped i)
     ∙ ap (λ (l : List TheHypothesis). stripped (expansion shipped i) ++ l) (bare_items shipped items)
     ∙ sym (flat_map-append strip (expansion shipped i) (expanded shipped items))
 
-pub bare_spots : (shipped items : List Item) → flat_map strip_spot (spots shipped items) ≡ stripped (expanded shipped items)
-bare_spots shipped items = spots_by_item strip_spot shipped items ∙ bare_items shipped items
+pub bare_placed : (shipped items : List Item) → flat_map placed_stripped (placed_items shipped items) ≡ stripped (expanded shipped items)
+bare_placed shipped items = placed_by_item placed_stripped shipped items ∙ bare_items shipped items
 
 -- ---- items with no include of hypotheses
 
@@ -186,18 +186,18 @@ expanded_plain shipped (i ∷ items) =
 
 -- ---- includes of hypotheses, also those that are shipped
 
-abbrev pub spot_include : Spot → List Item
-spot_include s = hyp_include s.item
+abbrev pub placed_include : PlacedItem → List Item
+placed_include s = hyp_include s.item
 
 fewer_in : (shipped : List Item) (i : TheInclude) (metrics : Bool) → i.metrics ≡ metrics →
-    length (flat_map (by_item spot_include shipped) (cond metrics (Include i ∷ []) (flat_map (at_line i.line) shipped))) ≤ length (by_item spot_include shipped (Include i))
-fewer_in shipped i true m = omega (arith, ap length (append-nil (by_item spot_include shipped (Include i))))
-fewer_in shipped i false m = omega (arith, ap length (none_at_line (by_item spot_include shipped) (λ h. refl) i.line shipped))
+    length (flat_map (by_item placed_include shipped) (cond metrics (Include i ∷ []) (flat_map (at_line i.line) shipped))) ≤ length (by_item placed_include shipped (Include i))
+fewer_in shipped i true m = omega (arith, ap length (append-nil (by_item placed_include shipped (Include i))))
+fewer_in shipped i false m = omega (arith, ap length (none_at_line (by_item placed_include shipped) (λ h. refl) i.line shipped))
 
-alone_few : (shipped : List Item) (item : Item) → length (flat_map (by_item spot_include shipped) (item ∷ [])) ≤ length (by_item spot_include shipped item)
-alone_few shipped item = omega (arith, ap length (append-nil (by_item spot_include shipped item)))
+alone_few : (shipped : List Item) (item : Item) → length (flat_map (by_item placed_include shipped) (item ∷ [])) ≤ length (by_item placed_include shipped item)
+alone_few shipped item = omega (arith, ap length (append-nil (by_item placed_include shipped item)))
 
-fewer_of : (shipped : List Item) (item : Item) → length (flat_map (by_item spot_include shipped) (expansion shipped item)) ≤ length (by_item spot_include shipped item)
+fewer_of : (shipped : List Item) (item : Item) → length (flat_map (by_item placed_include shipped) (expansion shipped item)) ≤ length (by_item placed_include shipped item)
 fewer_of shipped (Include i) = fewer_in shipped i i.metrics refl
 fewer_of shipped (Sync s) = alone_few shipped (Sync s)
 fewer_of shipped (Metric m) = alone_few shipped (Metric m)
@@ -207,31 +207,31 @@ fewer_of shipped (Search s) = alone_few shipped (Search s)
 fewer_of shipped (Phase p) = alone_few shipped (Phase p)
 fewer_of shipped (Wish w) = alone_few shipped (Wish w)
 
-fewer_items : (shipped items : List Item) → length (flat_map (by_item spot_include shipped) (expanded shipped items)) ≤ length (flat_map (by_item spot_include shipped) items)
+fewer_items : (shipped items : List Item) → length (flat_map (by_item placed_include shipped) (expanded shipped items)) ≤ length (flat_map (by_item placed_include shipped) items)
 fewer_items shipped [] = omega arith
 fewer_items shipped (i ∷ items) =
     omega (
       arith,
-      ap length (flat_map-append (by_item spot_include shipped) (expansion shipped i) (expanded shipped items)),
-      length-append (flat_map (by_item spot_include shipped) (expansion shipped i)) (flat_map (by_item spot_include shipped) (expanded shipped items)),
-      length-append (by_item spot_include shipped i) (flat_map (by_item spot_include shipped) items),
+      ap length (flat_map-append (by_item placed_include shipped) (expansion shipped i) (expanded shipped items)),
+      length-append (flat_map (by_item placed_include shipped) (expansion shipped i)) (flat_map (by_item placed_include shipped) (expanded shipped items)),
+      length-append (by_item placed_include shipped i) (flat_map (by_item placed_include shipped) items),
       fewer_of shipped i,
       fewer_items shipped items,
     )
 
-pub fewer_includes : (shipped items : List Item) → length (flat_map spot_include (spots shipped (expanded shipped items))) ≤ length (flat_map spot_include (spots shipped items))
+pub fewer_includes : (shipped items : List Item) → length (flat_map placed_include (placed_items shipped (expanded shipped items))) ≤ length (flat_map placed_include (placed_items shipped items))
 fewer_includes shipped items =
-    omega (arith, ap length (spots_by_item spot_include shipped (expanded shipped items)), ap length (spots_by_item spot_include shipped items), fewer_items shipped items)
+    omega (arith, ap length (placed_by_item placed_include shipped (expanded shipped items)), ap length (placed_by_item placed_include shipped items), fewer_items shipped items)
 
 -- ---- how many there are of each
 
-abbrev pub keep : Spot → List Spot
+abbrev pub keep : PlacedItem → List PlacedItem
 keep s = cond (is_other s.item) (s ∷ []) []
 
-count_item : (line : ℕ) (item : Item) → 1 ≡ length (keep (spot line item)) + (length (strip item) + length (hyp_include item))
+count_item : (line : ℕ) (item : Item) → 1 ≡ length (keep (placed line item)) + (length (strip item) + length (hyp_include item))
 count_item line (Include i) = by i.metrics
   where
-    by : (b : Bool) → 1 ≡ length (cond b (spot line (Include i) ∷ []) []) + (0 + length (cond b [] (Include i ∷ [])))
+    by : (b : Bool) → 1 ≡ length (cond b (placed line (Include i) ∷ []) []) + (0 + length (cond b [] (Include i ∷ [])))
     by true = refl
     by false = refl
 count_item line (Sync s) = refl
@@ -242,10 +242,10 @@ count_item line (Search s) = refl
 count_item line (Phase p) = refl
 count_item line (Wish w) = refl
 
-pub count_spots : (ss : List Spot) → length ss ≡ length (flat_map keep ss) + (length (flat_map strip_spot ss) + length (flat_map spot_include ss))
-count_spots [] = refl
-count_spots (s ∷ ss) =
-    omega (arith, count_spots ss, count_item s.line s.item, length-append (keep s) (flat_map keep ss), length-append (strip s.item) (flat_map strip_spot ss), length-append (hyp_include s.item) (flat_map spot_include ss))
+pub count_placed : (ss : List PlacedItem) → length ss ≡ length (flat_map keep ss) + (length (flat_map placed_stripped ss) + length (flat_map placed_include ss))
+count_placed [] = refl
+count_placed (s ∷ ss) =
+    omega (arith, count_placed ss, count_item s.line s.item, length-append (keep s) (flat_map keep ss), length-append (strip s.item) (flat_map placed_stripped ss), length-append (hyp_include s.item) (flat_map placed_include ss))
 
-abbrev pub sync_spot : Spot → List (List ℕ)
-sync_spot s = sync_of s.item
+abbrev pub placed_sync : PlacedItem → List (List ℕ)
+placed_sync s = sync_of s.item

@@ -15,12 +15,12 @@ use Rattle.resource_tree.specs.Resources.{Resources}
 use Rattle.mdl_check.specs.declared.checked.Checked.{Checked}
 use Rattle.mdl_check.specs.declared.checked.CheckedWish.{CheckedWish}
 use Rattle.mdl_check.specs.declared.fault.CheckFault.{CheckFault}
-use Rattle.mdl_check.specs.Spots.{Spot, Entry, spot, entry, is_taken, spots}
-use Rattle.mdl_check.specs.Checking.{AreEntries, spot_of, metric_of, constraint_of, hypothesis_of, phase_of, search_behind, search_in, wish_with, wish_of, checked_of, IsAnswer, OneAnswer}
+use Rattle.mdl_check.specs.Placed.{PlacedItem, Entry, placed, entry, is_taken, placed_items}
+use Rattle.mdl_check.specs.Checking.{AreEntries, placed_of, metric_of, constraint_of, hypothesis_of, phase_of, search_behind, search_in, wish_with, wish_of, checked_of, IsAnswer, OneAnswer}
 use Rattle.directives.specs.Acts.{at_line, expansion, expanded}
 use Rattle.directives.specs.Laws.{hypothesis_in, SameHypotheses, OthersStay}
 use Rattle.directives.proofs.Faultless.{is_other, others, metric_of_others}
-use Rattle.directives.proofs.Spread.{by_item, spots_by_item}
+use Rattle.directives.proofs.Spread.{by_item, placed_by_item}
 use Rattle.directives.proofs.Accepting.{Made, made_after}
 
 -- ---- the other items
@@ -86,10 +86,10 @@ wishes_of_others all =
 
 -- ---- the hypotheses, with their lines
 
-abbrev hyp_spot : Spot → List TheHypothesis
-hyp_spot s = hypothesis_of s.line s.item
+abbrev placed_hypothesis : PlacedItem → List TheHypothesis
+placed_hypothesis s = hypothesis_of s.line s.item
 
-others_none : (line : ℕ) (xs : List Item) → flat_map hyp_spot (map (spot line) (filter (is_taken true) xs)) ≡ []
+others_none : (line : ℕ) (xs : List Item) → flat_map placed_hypothesis (map (placed line) (filter (is_taken true) xs)) ≡ []
 others_none line [] = refl
 others_none line (Include x ∷ xs) = others_none line xs
 others_none line (Sync x ∷ xs) = others_none line xs
@@ -100,7 +100,7 @@ others_none line (Search x ∷ xs) = others_none line xs
 others_none line (Phase x ∷ xs) = others_none line xs
 others_none line (Wish x ∷ xs) = others_none line xs
 
-taken_lined : (line : ℕ) (xs : List Item) → flat_map hyp_spot (map (spot line) (filter (is_taken false) xs)) ≡ flat_map hypothesis_in (flat_map (at_line line) xs)
+taken_lined : (line : ℕ) (xs : List Item) → flat_map placed_hypothesis (map (placed line) (filter (is_taken false) xs)) ≡ flat_map hypothesis_in (flat_map (at_line line) xs)
 taken_lined line [] = refl
 taken_lined line (Include x ∷ xs) = taken_lined line xs
 taken_lined line (Sync x ∷ xs) = taken_lined line xs
@@ -112,11 +112,11 @@ taken_lined line (Phase x ∷ xs) = taken_lined line xs
 taken_lined line (Wish x ∷ xs) = taken_lined line xs
 
 lined_include : (shipped : List Item) (i : TheInclude) (metrics : Bool) →
-    flat_map hyp_spot (map (spot i.line) (filter (is_taken metrics) shipped)) ≡ flat_map hypothesis_in (cond metrics (Include i ∷ []) (flat_map (at_line i.line) shipped))
+    flat_map placed_hypothesis (map (placed i.line) (filter (is_taken metrics) shipped)) ≡ flat_map hypothesis_in (cond metrics (Include i ∷ []) (flat_map (at_line i.line) shipped))
 lined_include shipped i true = others_none i.line shipped
 lined_include shipped i false = taken_lined i.line shipped
 
-lined_item : (shipped : List Item) (item : Item) → by_item hyp_spot shipped item ≡ flat_map hypothesis_in (expansion shipped item)
+lined_item : (shipped : List Item) (item : Item) → by_item placed_hypothesis shipped item ≡ flat_map hypothesis_in (expansion shipped item)
 lined_item shipped (Include i) = lined_include shipped i i.metrics
 lined_item shipped (Sync x) = refl
 lined_item shipped (Metric x) = refl
@@ -126,19 +126,19 @@ lined_item shipped (Search x) = refl
 lined_item shipped (Phase x) = refl
 lined_item shipped (Wish x) = refl
 
-lined_items : (shipped items : List Item) → flat_map (by_item hyp_spot shipped) items ≡ flat_map hypothesis_in (expanded shipped items)
+lined_items : (shipped items : List Item) → flat_map (by_item placed_hypothesis shipped) items ≡ flat_map hypothesis_in (expanded shipped items)
 lined_items shipped [] = refl
 lined_items shipped (i ∷ items) =
-    ap (λ (l : List TheHypothesis). l ++ flat_map (by_item hyp_spot shipped) items) (lined_item shipped i)
+    ap (λ (l : List TheHypothesis). l ++ flat_map (by_item placed_hypothesis shipped) items) (lined_item shipped i)
     ∙ ap (λ (l : List TheHypothesis). flat_map hypothesis_in (expansion shipped i) ++ l) (lined_items shipped items)
     ∙ sym (flat_map-append hypothesis_in (expansion shipped i) (expanded shipped items))
 
-hyps_lined : (es : List Entry) → flat_map (λ e. hypothesis_of e.line e.item) es ≡ flat_map hyp_spot (map spot_of es)
+hyps_lined : (es : List Entry) → flat_map (λ e. hypothesis_of e.line e.item) es ≡ flat_map placed_hypothesis (map placed_of es)
 hyps_lined [] = refl
 hyps_lined (e ∷ es) = ap (λ (l : List TheHypothesis). hypothesis_of e.line e.item ++ l) (hyps_lined es)
 
-hypotheses_are : (t : Resources) (shipped items : List Item) (es : List Entry) → AreEntries t (spots shipped items) es → flat_map (λ e. hypothesis_of e.line e.item) es ≡ flat_map hypothesis_in (expanded shipped items)
-hypotheses_are t shipped items es a = hyps_lined es ∙ ap (flat_map hyp_spot) a.places_are ∙ spots_by_item hyp_spot shipped items ∙ lined_items shipped items
+hypotheses_are : (t : Resources) (shipped items : List Item) (es : List Entry) → AreEntries t (placed_items shipped items) es → flat_map (λ e. hypothesis_of e.line e.item) es ≡ flat_map hypothesis_in (expanded shipped items)
+hypotheses_are t shipped items es a = hyps_lined es ∙ ap (flat_map placed_hypothesis) a.places_are ∙ placed_by_item placed_hypothesis shipped items ∙ lined_items shipped items
 
 pub same_hypotheses : SameHypotheses
 same_hypotheses t shipped items checked a = ap (λ (c : Checked). c.hypotheses) a.3 ∙ hypotheses_are t shipped items a.0 a.1

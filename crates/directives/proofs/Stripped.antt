@@ -14,7 +14,7 @@ use Rattle.mdl_ast.specs.declared.metric.Constraint.{Constraint as TheConstraint
 use Rattle.mdl_ast.specs.declared.items.SearchDecl.{SearchDecl}
 use Rattle.mdl_ast.specs.declared.items.PhaseDecl.{PhaseDecl}
 use Rattle.mdl_ast.specs.declared.items.Wish.{Wish as TheWish}
-use Rattle.mdl_check.specs.Spots.{Entry, entry}
+use Rattle.mdl_check.specs.Placed.{Entry, entry}
 use Rattle.mdl_check.specs.Names.{metric_number, hypothesis_place}
 use Rattle.mdl_check.specs.Rules.{is_axis, is_repeated, is_orphan as is_parentless}
 

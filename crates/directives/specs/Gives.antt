@@ -4,7 +4,7 @@ use Rattle.pn_text.specs.Scans.{Scan, AreSpans}
 use Rattle.pn_text.specs.declared.token.Token.{Token}
 use Rattle.directives.specs.declared.fault.DirectiveFault.{DirectiveFault}
 use Rattle.directives.specs.declared.fault.DirectiveFault.TheVariants.{NoMemory, At}
-use Rattle.directives.specs.Words.{Ahead, Read, token_spot}
+use Rattle.directives.specs.Words.{Ahead, Read, placed_word}
 
 -- it stops where reading stops, unless memory is wanting
 abbrev pub Stops : {A : Type 0} → DirectiveFault → Result A DirectiveFault → Type 0
@@ -28,7 +28,7 @@ HasEnded None scan = scan.tokens ≡ []
 HasEnded (Some token) scan = Unit {0}
 
 abbrev pub in_view : List ℕ → Option Token → Scan → Ahead
-in_view text token scan = record { spots = map (token_spot text) (tokens_ahead token scan); ending = scan.ending }
+in_view text token scan = record { words_ahead = map (placed_word text) (tokens_ahead token scan); ending = scan.ending }
 
 -- the tokens stand in the text
 pub record StandIn (text : List ℕ) (token : Option Token) (scan : Scan) : Type 0 where

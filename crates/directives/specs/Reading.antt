@@ -54,7 +54,7 @@ act_at a =
 unfoldable pub directive_at : Ahead → Read Directive
 directive_at a = do
   act ← act_at a
-  Ok (record { line = line_at a.spots; act = act.0 }, act.1)
+  Ok (record { line = line_at a.words_ahead; act = act.0 }, act.1)
 
 abbrev pub onto : Directive → Result (List Directive) DirectiveFault → Result (List Directive) DirectiveFault
 onto directive (Ok directives) = Ok (directive ∷ directives)
@@ -73,11 +73,11 @@ end_of (Some fault) = Err fault
 -- up to so many directives, to the end
 abbrev pub directives_in : ℕ → Ahead → Result (List Directive) DirectiveFault
 directives_in zero a = end_of (fault_in a.ending)
-directives_in (suc n) a = if is_none (first_word a.spots) then end_of (fault_in a.ending) else with_more (directives_in n) (directive_at a)
+directives_in (suc n) a = if is_none (first_word a.words_ahead) then end_of (fault_in a.ending) else with_more (directives_in n) (directive_at a)
 
 -- all directives, of which there are no more than words
 unfoldable pub directives_from : Ahead → Result (List Directive) DirectiveFault
-directives_from a = directives_in (length a.spots) a
+directives_from a = directives_in (length a.words_ahead) a
 
 -- The directives of a text, or its first fault.
 abbrev pub directives_of : List ℕ → Result (List Directive) DirectiveFault

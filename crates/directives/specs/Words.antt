@@ -15,41 +15,41 @@ use Rattle.directives.specs.declared.fault.DirectiveFault.{DirectiveFault}
 use Rattle.directives.specs.declared.fault.DirectiveFault.TheVariants.{At}
 
 -- a word, and where its first byte stands
-pub record Spot : Type 0 where
+pub record PlacedWord : Type 0 where
   pub word : Word
   pub line : ℕ
   pub col : ℕ
 
 -- the words that are to come, and how they end
 pub record Ahead : Type 0 where
-  pub spots : List Spot
+  pub words_ahead : List PlacedWord
   pub ending : Ending
 
 -- a token of a text
-abbrev pub token_spot : List ℕ → Token → Spot
-token_spot text token = record { word = word_of text token; line = token.line; col = token.col }
+abbrev pub placed_word : List ℕ → Token → PlacedWord
+placed_word text token = record { word = word_of text token; line = token.line; col = token.col }
 
 -- the words of a text, up to its end or its fault
 abbrev pub ahead : List ℕ → Ahead
-ahead text = record { spots = map (token_spot text) (tokens_of text).tokens; ending = (tokens_of text).ending }
+ahead text = record { words_ahead = map (placed_word text) (tokens_of text).tokens; ending = (tokens_of text).ending }
 
 -- ---- the word in view
 
-abbrev pub first_word : List Spot → Option Word
+abbrev pub first_word : List PlacedWord → Option Word
 first_word [] = None
-first_word (spot ∷ spots) = Some spot.word
+first_word (placed ∷ words_ahead) = Some placed.word
 
-abbrev pub line_at : List Spot → ℕ
+abbrev pub line_at : List PlacedWord → ℕ
 line_at [] = 0
-line_at (spot ∷ spots) = spot.line
+line_at (placed ∷ words_ahead) = placed.line
 
-abbrev pub tail : List Spot → List Spot
+abbrev pub tail : List PlacedWord → List PlacedWord
 tail [] = []
-tail (spot ∷ spots) = spots
+tail (placed ∷ words_ahead) = words_ahead
 
 -- what stands behind it
 abbrev pub behind : Ahead → Ahead
-behind a = record { spots = tail a.spots; ending = a.ending }
+behind a = record { words_ahead = tail a.words_ahead; ending = a.ending }
 
 abbrev pub passes : (Word → Bool) → Option Word → Bool
 passes test None = false
@@ -57,7 +57,7 @@ passes test (Some word) = test word
 
 -- it is such a word
 abbrev pub is_next : (Word → Bool) → Ahead → Bool
-is_next test a = passes test (first_word a.spots)
+is_next test a = passes test (first_word a.words_ahead)
 
 -- ---- faults
 
@@ -70,14 +70,14 @@ lex_kind (lex.BigNumber place) = BigNumber
 abbrev pub lex_fault : LexFault → DirectiveFault
 lex_fault fault = At (fault_place fault).line (fault_place fault).col (lex_kind fault)
 
-abbrev pub stopped_in : List Spot → Ending → DirectiveFault
-stopped_in (spot ∷ spots) ending = At spot.line spot.col Unexpected
+abbrev pub stopped_in : List PlacedWord → Ending → DirectiveFault
+stopped_in (placed ∷ words_ahead) ending = At placed.line placed.col Unexpected
 stopped_in [] (AtEnd last) = At last.line last.col Unexpected
 stopped_in [] (AtFault fault) = lex_fault fault
 
 -- the word in view can't stand there; or no word is left, and the text ends too early or goes on with no word
 abbrev pub stopped : Ahead → DirectiveFault
-stopped a = stopped_in a.spots a.ending
+stopped a = stopped_in a.words_ahead a.ending
 
 -- where no word is left, the text ends, or goes on with no word
 abbrev pub fault_in : Ending → Option DirectiveFault
@@ -130,7 +130,7 @@ unfoldable pub semicolon_at : Ahead → Read (Unit {0})
 semicolon_at = word_at is_semicolon
 
 unfoldable pub name_at : Ahead → Read (List ℕ)
-name_at a = taken (option_and_then name_of (first_word a.spots)) a
+name_at a = taken (option_and_then name_of (first_word a.words_ahead)) a
 
 unfoldable pub number_at : Ahead → Read ℕ
-number_at a = taken (option_and_then number_of (first_word a.spots)) a
+number_at a = taken (option_and_then number_of (first_word a.words_ahead)) a

@@ -3,7 +3,7 @@
 ghost use Rattle.std.specs.Prelude.{◌≡◌, ◌≤◌, length, Ok, IfOk, IfErr, OnOk};
 ghost use Rattle.std.specs.List.{AllByRecursion};
 ghost use Rattle.mdl_ast.specs.Small.{HasSmall};
-ghost use Rattle.mdl_check.specs.Spots.{spots};
+ghost use Rattle.mdl_check.specs.Placed.{placed_items};
 ghost use Rattle.mdl_check.specs.Checking.{prefixes_of};
 ghost use Rattle.directives.specs.Acts.{name_of, is_astray, kind_of, applied};
 ghost use Rattle.directives.specs.Rounds.{acted_in_rounds};
@@ -102,7 +102,7 @@ pub fn apply(
     // The objects of the tree come from these.
     ensures prefixes { IfOk result (λ made. prefixes_of shipped.now.items made.items ≡ prefixes_of shipped.now.items conf.now.items) }
     // The check asks that there are few items, and tells more where their statements are small.
-    ensures few { IfOk result (λ made. length (spots shipped.now.items made.items) ≤ length (spots shipped.now.items conf.now.items)) }
+    ensures few { IfOk result (λ made. length (placed_items shipped.now.items made.items) ≤ length (placed_items shipped.now.items conf.now.items)) }
     ensures small { AllByRecursion HasSmall conf.now.items → IfOk result (λ made. AllByRecursion HasSmall made.items) }
 {
     let mut items = expanded(alloc, shipped.items.as_slice(), conf.items.as_slice())?;

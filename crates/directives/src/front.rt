@@ -1,7 +1,7 @@
 //! Hypotheses that are put before all others.
 
 ghost use Rattle.std.specs.Prelude.{◌≡◌, OnOk, position};
-ghost use Rattle.mdl_check.specs.Spots.{is_hypothesis};
+ghost use Rattle.mdl_check.specs.Placed.{is_hypothesis};
 ghost use Rattle.directives.specs.Hypotheses.{is_named};
 ghost use Rattle.directives.specs.Acts.{with_first};
 

@@ -68,14 +68,14 @@ impl<'a> Words<'a> {
 
     /// Whether no word is left.
     pub(crate) fn is_empty(&self) -> bool
-        ensures { result ≡ is_none (first_word self.now.spots) }
+        ensures { result ≡ is_none (first_word self.now.words_ahead) }
     {
         self.token.is_none()
     }
 
     /// The line of the word in view, and 0 at the end.
     pub(crate) fn line(&self) -> u32
-        ensures { result ≡ line_at self.now.spots }
+        ensures { result ≡ line_at self.now.words_ahead }
     {
         match self.token {
             Some(token) => token.line,
@@ -85,7 +85,7 @@ impl<'a> Words<'a> {
 
     /// The name in view.
     fn name_in_view(&self) -> Option<&'a [u8]>
-        ensures { option_map (λ name. name.now) result ≡ option_and_then name_of (first_word self.now.spots) }
+        ensures { option_map (λ name. name.now) result ≡ option_and_then name_of (first_word self.now.words_ahead) }
     {
         let token = self.token?;
         match token.kind {
@@ -96,7 +96,7 @@ impl<'a> Words<'a> {
 
     /// The number in view.
     fn number_in_view(&self) -> Option<u32>
-        ensures { result ≡ option_and_then number_of (first_word self.now.spots) }
+        ensures { result ≡ option_and_then number_of (first_word self.now.words_ahead) }
     {
         match self.token?.kind {
             TokenKind::Number(number) => Some(number),
@@ -206,7 +206,7 @@ impl<'a> Words<'a> {
 
     /// The fault that stands where no word is left, if there is one.
     pub(crate) fn fault_at_end(&mut self) -> Option<DirectiveFault>
-        requires { first_word self.old.spots ≡ None }
+        requires { first_word self.old.words_ahead ≡ None }
         ensures { result ≡ fault_in self.old.ending }
     {
         match self.scanner.next() {

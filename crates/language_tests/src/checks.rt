@@ -19,7 +19,7 @@ fn shipped(alloc: Global) -> Result<Conf, ParseFault> {
 }
 
 /// The check, where neither configuration has more than 1,000 items.
-#[tactic(auto, using(mdl_check::proofs::Few::spots_counted))]
+#[tactic(auto, using(mdl_check::proofs::Few::placed_counted))]
 pub fn checked(
     alloc: Global,
     conf: &Conf,

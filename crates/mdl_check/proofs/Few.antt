@@ -4,14 +4,14 @@ use Rattle.std.specs.List.{filter}
 use Rattle.std.proofs.lemmas.List.{length-append}
 use Rattle.mdl_ast.specs.declared.items.Item.{Item}
 use Rattle.mdl_ast.specs.declared.items.Item.TheVariants.{Include, Sync, Metric, Constraint, Hypothesis, Search, Phase, Wish}
-use Rattle.mdl_check.specs.Spots.{spot, is_taken, included, spots_of, spots}
+use Rattle.mdl_check.specs.Placed.{placed, is_taken, included, with_included, placed_items}
 
 -- an include takes no more than there are
-taken_few : (line : ℕ) (metrics : Bool) (shipped : List Item) → length (map (spot line) (filter (is_taken metrics) shipped)) ≤ length shipped
+taken_few : (line : ℕ) (metrics : Bool) (shipped : List Item) → length (map (placed line) (filter (is_taken metrics) shipped)) ≤ length shipped
 taken_few line metrics [] = omega arith
 taken_few line metrics (i ∷ shipped) = go (is_taken metrics i) (filter (is_taken metrics) shipped) (taken_few line metrics shipped)
   where
-    go : (b : Bool) (rest : List Item) → length (map (spot line) rest) ≤ length shipped → length (map (spot line) (cond b (i ∷ rest) rest)) ≤ length (i ∷ shipped)
+    go : (b : Bool) (rest : List Item) → length (map (placed line) rest) ≤ length shipped → length (map (placed line) (cond b (i ∷ rest) rest)) ≤ length (i ∷ shipped)
     go true rest few = omega (arith, few)
     go false rest few = omega (arith, few)
 
@@ -25,10 +25,10 @@ included_few shipped (Search s) = omega arith
 included_few shipped (Phase p) = omega arith
 included_few shipped (Wish w) = omega arith
 
-spots_few : (shipped items : List Item) → length shipped ≤ 1000 → length (spots shipped items) ≤ 1001 * length items
-spots_few shipped [] h = omega arith
-spots_few shipped (i ∷ items) h = omega (arith, h, included_few shipped i, spots_few shipped items h, length-append (spots_of shipped i) (spots shipped items))
+placed_few : (shipped items : List Item) → length shipped ≤ 1000 → length (placed_items shipped items) ≤ 1001 * length items
+placed_few shipped [] h = omega arith
+placed_few shipped (i ∷ items) h = omega (arith, h, included_few shipped i, placed_few shipped items h, length-append (with_included shipped i) (placed_items shipped items))
 
--- a number of 32 bits counts the items where there are about a million, and a thousand are shipped
-pub spots_counted : (shipped items : List Item) → length shipped ≤ 1000 → length items ≤ 1048576 → length (spots shipped items) < 2 ^ 32
-spots_counted shipped items h k = omega (arith, k, spots_few shipped items h)
+-- a number of 32 bits counts the items where there are some four million, and a thousand are shipped
+pub placed_counted : (shipped items : List Item) → length shipped ≤ 1000 → length items ≤ 4194304 → length (placed_items shipped items) < 2 ^ 32
+placed_counted shipped items h k = omega (arith, k, placed_few shipped items h)

@@ -1,4 +1,10 @@
 mod Steps
+mod Lookups
+mod Cycles
+mod Clearing
+mod OwnAncestors
+mod Befores
+mod Sames
 mod Entries
 mod OneAnswer
 mod Fitting

@@ -8,11 +8,11 @@ use Rattle.mdl_ast.specs.declared.items.Item.{Item}
 use Rattle.mdl_ast.specs.declared.items.Item.TheVariants.{Include, Sync, Metric, Constraint, Hypothesis, Search, Phase, Wish}
 use Rattle.mdl_ast.specs.declared.metric.Metric.{Metric as TheMetric}
 use Rattle.mdl_ast.specs.declared.metric.Constraint.{Constraint as TheConstraint}
-use Rattle.mdl_check.specs.Spots.{Spot, Entry, spot, is_taken, included, spots_of, spots}
+use Rattle.mdl_check.specs.Placed.{PlacedItem, Entry, placed, is_taken, included, with_included, placed_items}
 use Rattle.mdl_check.specs.Rules.{is_repeated, is_unknown, is_wrong, is_cyclic, is_astray, is_misused, parents_of, fault_of, misuse, own_variable, has_bad_value}
 use Rattle.mdl_check.specs.Names.{constraint_in, constraint_named}
 use Rattle.mdl_check.specs.Statements.{have}
-use Rattle.mdl_check.specs.Checking.{AreEntries, spot_of, fault_from, first_fault, metric_of, constraint_of, checked_of}
+use Rattle.mdl_check.specs.Checking.{AreEntries, placed_of, fault_from, first_fault, metric_of, constraint_of, checked_of}
 use Rattle.mdl_check.specs.Sound.{Fits, OfEach, IsSoundMetric, IsSoundConstraint, TakesFitting, IsSound, first_named}
 use Rattle.mdl_check.proofs.Fitting.{none_of, all_map, all_zip, each_fits}
 use Rattle.mdl_check.specs.declared.fault.CheckKind.{CheckKind}
@@ -189,22 +189,22 @@ taken_fits all m cs same right r =
 
 -- ---- the items are small
 
-abbrev SmallSpot : Spot → Type 0
-SmallSpot s = HasSmall s.item
+abbrev SmallPlaced : PlacedItem → Type 0
+SmallPlaced s = HasSmall s.item
 
 all_both : {X : Type 0} (P : X → Type 0) (a b : List X) → AllByRecursion P a → AllByRecursion P b → AllByRecursion P (a ++ b)
 all_both P [] b h g = g
 all_both P (x ∷ a) b h g = (h.0, all_both P a b h.1 g)
 
-small_taken : (line : ℕ) (metrics : Bool) (shipped : List Item) → AllByRecursion HasSmall shipped → AllByRecursion SmallSpot (map (spot line) (filter (is_taken metrics) shipped))
+small_taken : (line : ℕ) (metrics : Bool) (shipped : List Item) → AllByRecursion HasSmall shipped → AllByRecursion SmallPlaced (map (placed line) (filter (is_taken metrics) shipped))
 small_taken line metrics [] h = tt
 small_taken line metrics (i ∷ shipped) h = go (is_taken metrics i) (filter (is_taken metrics) shipped) (small_taken line metrics shipped h.1)
   where
-    go : (b : Bool) (rest : List Item) → AllByRecursion SmallSpot (map (spot line) rest) → AllByRecursion SmallSpot (map (spot line) (cond b (i ∷ rest) rest))
+    go : (b : Bool) (rest : List Item) → AllByRecursion SmallPlaced (map (placed line) rest) → AllByRecursion SmallPlaced (map (placed line) (cond b (i ∷ rest) rest))
     go true rest g = (h.0, g)
     go false rest g = g
 
-small_included : (shipped : List Item) (item : Item) → AllByRecursion HasSmall shipped → AllByRecursion SmallSpot (included shipped item)
+small_included : (shipped : List Item) (item : Item) → AllByRecursion HasSmall shipped → AllByRecursion SmallPlaced (included shipped item)
 small_included shipped (Include i) h = small_taken i.line i.metrics shipped h
 small_included shipped (Sync s) h = tt
 small_included shipped (Metric m) h = tt
@@ -214,14 +214,14 @@ small_included shipped (Search s) h = tt
 small_included shipped (Phase p) h = tt
 small_included shipped (Wish w) h = tt
 
-small_spots : (shipped items : List Item) → AllByRecursion HasSmall shipped → AllByRecursion HasSmall items → AllByRecursion SmallSpot (spots shipped items)
-small_spots shipped [] h g = tt
-small_spots shipped (i ∷ items) h g = all_both SmallSpot (spots_of shipped i) (spots shipped items) (g.0, small_included shipped i h) (small_spots shipped items h g.1)
+small_placed : (shipped items : List Item) → AllByRecursion HasSmall shipped → AllByRecursion HasSmall items → AllByRecursion SmallPlaced (placed_items shipped items)
+small_placed shipped [] h g = tt
+small_placed shipped (i ∷ items) h g = all_both SmallPlaced (with_included shipped i) (placed_items shipped items) (g.0, small_included shipped i h) (small_placed shipped items h g.1)
 
 abbrev SmallEntry : Entry → Type 0
 SmallEntry e = HasSmall e.item
 
-small_entries : (es : List Entry) → AllByRecursion SmallSpot (map spot_of es) → AllByRecursion SmallEntry es
+small_entries : (es : List Entry) → AllByRecursion SmallPlaced (map placed_of es) → AllByRecursion SmallEntry es
 small_entries [] h = tt
 small_entries (e ∷ es) h = (h.0, small_entries es h.1)
 
@@ -244,9 +244,9 @@ module _ (all : List Entry) where
       all_zip (λ e. SmallEntry e → SoundEntry e) SmallEntry SoundEntry (λ e f s. f s) all
       (right_from all (λ e. SmallEntry e → SoundEntry e) (λ before e r s. sound_item all before e.line e.item r.known r.right s) [] all none) small
 
-pub sound : (t : Resources) (shipped items : List Item) (es : List Entry) → AreEntries t (spots shipped items) es → first_fault es ≡ None → AllByRecursion HasSmall shipped → AllByRecursion HasSmall items → IsSound (checked_of es)
+pub sound : (t : Resources) (shipped items : List Item) (es : List Entry) → AreEntries t (placed_items shipped items) es → first_fault es ≡ None → AllByRecursion HasSmall shipped → AllByRecursion HasSmall items → IsSound (checked_of es)
 sound t shipped items es are none h g =
-    let small = small_entries es (subst (AllByRecursion SmallSpot) (sym are.places_are) (small_spots shipped items h g)) in
+    let small = small_entries es (subst (AllByRecursion SmallPlaced) (sym are.places_are) (small_placed shipped items h g)) in
     let all = right_entries es none small in
     let metrics = metrics_of es es all in
     let constraints = constraints_of es es all in

@@ -11,7 +11,7 @@ use Rattle.mdl_ast.specs.declared.items.PhaseDecl.{PhaseDecl}
 use Rattle.mdl_ast.specs.declared.items.Wish.{Wish as TheWish}
 use Rattle.resource_tree.specs.Resources.{Resources}
 use Rattle.resource_tree.specs.Foci.{Selects}
-use Rattle.mdl_check.specs.Spots.{Spot, Entry, spot, spots}
+use Rattle.mdl_check.specs.Placed.{PlacedItem, Entry, placed, placed_items}
 use Rattle.mdl_check.specs.Names.{metric_number}
 use Rattle.mdl_check.specs.Rules.{fault_of}
 use Rattle.mdl_check.specs.declared.fault.CheckKind.{CheckKind}
@@ -27,16 +27,16 @@ abbrev pub HasFocus : Resources → Item → Option Focus → Type 0
 HasFocus t (Wish w) focus = Selects t w.focus focus
 HasFocus t item focus = focus ≡ None
 
-abbrev pub spot_of : Entry → Spot
-spot_of e = spot e.line e.item
+abbrev pub placed_of : Entry → PlacedItem
+placed_of e = placed e.line e.item
 
 abbrev pub HaveFoci : Resources → List Entry → Type 0
 HaveFoci t [] = Unit {0}
 HaveFoci t (e ∷ es) = HasFocus t e.item e.focus × HaveFoci t es
 
 -- the items at these places, with their foci
-pub record AreEntries (t : Resources) (places : List Spot) (es : List Entry) : Type 0 where
-  pub places_are : map spot_of es ≡ places
+pub record AreEntries (t : Resources) (places : List PlacedItem) (es : List Entry) : Type 0 where
+  pub places_are : map placed_of es ≡ places
   pub foci : HaveFoci t es
 
 -- ---- the first fault
@@ -103,10 +103,10 @@ checked_of all = record {
 -- a faultless configuration is checked, and of a faulty one the first fault is told; memory may run out in any
 abbrev pub IsAnswer : Resources → List Item → List Item → Result Checked CheckFault → Type 0
 IsAnswer t shipped items (Ok checked) =
-    (es : List Entry) × AreEntries t (spots shipped items) es × (first_fault es ≡ None) × (checked ≡ checked_of es)
+    (es : List Entry) × AreEntries t (placed_items shipped items) es × (first_fault es ≡ None) × (checked ≡ checked_of es)
 IsAnswer t shipped items (Err NoMemory) = Unit {0}
 IsAnswer t shipped items (Err (At line kind)) =
-    (es : List Entry) × AreEntries t (spots shipped items) es × (first_fault es ≡ Some (line, kind))
+    (es : List Entry) × AreEntries t (placed_items shipped items) es × (first_fault es ≡ Some (line, kind))
 
 -- unless memory is wanting, there is one answer
 abbrev pub OneAnswer : Type 0
@@ -119,4 +119,4 @@ sync_of (Sync s) = s.name ∷ []
 sync_of item = []
 
 abbrev pub prefixes_of : List Item → List Item → List (List ℕ)
-prefixes_of shipped items = flat_map (λ place. sync_of place.item) (spots shipped items)
+prefixes_of shipped items = flat_map (λ place. sync_of place.item) (placed_items shipped items)

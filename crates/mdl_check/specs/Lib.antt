@@ -1,6 +1,10 @@
-pub mod Spots
+pub mod Placed
 pub mod Names
 pub mod Statements
 pub mod Rules
+pub mod Ancestors
 pub mod Checking
 pub mod Sound
+pub mod Sights
+pub mod Indexes
+pub mod Ancestry

@@ -5,19 +5,19 @@ use Rattle.std.specs.Str.{bytes_eq}
 use Rattle.mdl_ast.specs.declared.items.Item.{Item}
 use Rattle.mdl_ast.specs.declared.items.Item.TheVariants.{Metric, Constraint, Hypothesis, Phase}
 use Rattle.mdl_ast.specs.declared.metric.Constraint.{Constraint as TheConstraint}
-use Rattle.mdl_check.specs.Spots.{Entry}
-use Rattle.mdl_check.specs.declared.names.Table.{Table}
-use Rattle.mdl_check.specs.declared.names.Table.TheVariants as table
+use Rattle.mdl_check.specs.Placed.{Entry}
+use Rattle.mdl_check.specs.declared.names.Namespace.{Namespace}
+use Rattle.mdl_check.specs.declared.names.Namespace.TheVariants as namespace
 
--- the name that an item has in a table: metrics and constraints share one
-abbrev pub name_in : Table → Item → Option (List ℕ)
-name_in table.Variables (Metric m) = Some m.name
-name_in table.Variables (Constraint c) = Some c.name
-name_in table.Variables item = None
-name_in table.Hypotheses (Hypothesis h) = Some h.name
-name_in table.Hypotheses item = None
-name_in table.Phases (Phase p) = Some p.name
-name_in table.Phases item = None
+-- the name that an item has in a namespace: metrics and constraints share one
+abbrev pub name_in : Namespace → Item → Option (List ℕ)
+name_in namespace.Variables (Metric m) = Some m.name
+name_in namespace.Variables (Constraint c) = Some c.name
+name_in namespace.Variables item = None
+name_in namespace.Hypotheses (Hypothesis h) = Some h.name
+name_in namespace.Hypotheses item = None
+name_in namespace.Phases (Phase p) = Some p.name
+name_in namespace.Phases item = None
 
 -- there is a name, and it is this one
 abbrev pub is_named : List ℕ → Option (List ℕ) → Bool
@@ -25,13 +25,17 @@ is_named name None = false
 is_named name (Some own) = bytes_eq name own
 
 -- one of the items has the name
-abbrev pub stands : Table → List ℕ → List Entry → Bool
+abbrev pub stands : Namespace → List ℕ → List Entry → Bool
 stands t name es = list_any (λ e. is_named name (name_in t e.item)) es
+
+-- the constraint that an item is
+abbrev pub as_constraint : Item → Option TheConstraint
+as_constraint (Constraint c) = Some c
+as_constraint item = None
 
 -- the constraint, if the item is one of this name
 abbrev pub constraint_in : List ℕ → Item → Option TheConstraint
-constraint_in name (Constraint c) = if bytes_eq name c.name then Some c else None
-constraint_in name item = None
+constraint_in name item = elim (as_constraint item) [ None ↦ None | Some c ↦ if bytes_eq name c.name then Some c else None ]
 
 -- the first constraint of this name
 abbrev pub constraint_named : List Entry → List ℕ → Option TheConstraint
@@ -56,4 +60,4 @@ metric_number es name = number_from 0 es name
 
 -- the place of the first hypothesis of this name
 abbrev pub hypothesis_place : List Entry → List ℕ → Option ℕ
-hypothesis_place es name = position (λ e. is_named name (name_in table.Hypotheses e.item)) es
+hypothesis_place es name = position (λ e. is_named name (name_in namespace.Hypotheses e.item)) es

@@ -7,11 +7,15 @@ use Rattle.pn_types.specs.declared.focus.CodePart.TheVariants.{All, Module, Proc
 use Rattle.pn_types.specs.declared.focus.Focus.{Focus}
 use Rattle.mdl_ast.specs.declared.items.Item.{Item}
 use Rattle.mdl_ast.specs.declared.items.Item.TheVariants.{Include, Sync, Metric, Constraint, Hypothesis, Search, Phase, Wish}
+use Rattle.mdl_ast.specs.declared.items.Hypothesis.{Hypothesis as TheHypothesis}
+use Rattle.mdl_ast.specs.declared.items.PhaseDecl.{PhaseDecl}
+use Rattle.mdl_ast.specs.declared.items.Wish.{Wish as TheWish}
 use Rattle.mdl_ast.specs.declared.metric.Constraint.{Constraint as TheConstraint}
-use Rattle.mdl_check.specs.Spots.{Entry}
+use Rattle.mdl_ast.specs.declared.metric.Metric.{Metric as TheMetric}
+use Rattle.mdl_check.specs.Placed.{Entry}
 use Rattle.mdl_check.specs.Names.{stands, constraint_named, metric_number, hypothesis_place}
 use Rattle.mdl_check.specs.Statements.{have}
-use Rattle.mdl_check.specs.declared.names.Table.TheVariants as table
+use Rattle.mdl_check.specs.declared.names.Namespace.TheVariants as namespace
 use Rattle.mdl_check.specs.declared.uses.Use.{Use}
 use Rattle.mdl_check.specs.declared.uses.Use.TheVariants as uses
 use Rattle.mdl_check.specs.declared.fault.CheckKind.{CheckKind}
@@ -59,17 +63,28 @@ abbrev pub is_shown_by : List ℕ → Option Focus → Item → Option Focus →
 is_shown_by metric focus (Wish w) other = (w.at == 0) && w.show && bytes_eq metric w.metric && is_same_focus focus other
 is_shown_by metric focus item other = false
 
+-- a metric's name stands before it, or two of its constraints are of one axis
+abbrev pub is_metric_repeated : List Entry → List Entry → TheMetric → Bool
+is_metric_repeated all before m =
+    stands namespace.Variables m.name before || are_two_on all (codes "/Code") m.constraints || are_two_on all (codes "/SyncObject") m.constraints
+
+-- `global` is a phase without being named
+abbrev pub is_phase_repeated : List Entry → PhaseDecl → Bool
+is_phase_repeated before p = bytes_eq p.name (codes "global") || stands namespace.Phases p.name before
+
+abbrev pub is_wish_repeated : List Entry → TheWish → Option Focus → Bool
+is_wish_repeated before w focus = (w.at == 0) && w.show && list_any (λ e. is_shown_by w.metric focus e.item e.focus) before
+
 -- what the item names or asks for is so already
 abbrev pub is_repeated : List Entry → List Entry → Item → Option Focus → Bool
 is_repeated all before (Include i) focus = list_any (λ e. is_include i.metrics e.item) before
 is_repeated all before (Sync s) focus = false
-is_repeated all before (Metric m) focus =
-    stands table.Variables m.name before || are_two_on all (codes "/Code") m.constraints || are_two_on all (codes "/SyncObject") m.constraints
-is_repeated all before (Constraint c) focus = stands table.Variables c.name before
-is_repeated all before (Hypothesis h) focus = stands table.Hypotheses h.name before
+is_repeated all before (Metric m) focus = is_metric_repeated all before m
+is_repeated all before (Constraint c) focus = stands namespace.Variables c.name before
+is_repeated all before (Hypothesis h) focus = stands namespace.Hypotheses h.name before
 is_repeated all before (Search s) focus = list_any (λ e. is_search e.item) before
-is_repeated all before (Phase p) focus = bytes_eq p.name (codes "global") || stands table.Phases p.name before
-is_repeated all before (Wish w) focus = (w.at == 0) && w.show && list_any (λ e. is_shown_by w.metric focus e.item e.focus) before
+is_repeated all before (Phase p) focus = is_phase_repeated before p
+is_repeated all before (Wish w) focus = is_wish_repeated before w focus
 
 -- ---- unknown names
 
@@ -83,15 +98,21 @@ is_axis name = bytes_eq name (codes "Code") || bytes_eq name (codes "Machine") |
 -- the name is none of a hypothesis
 abbrev pub is_orphan : List Entry → Option (List ℕ) → Bool
 is_orphan all None = false
-is_orphan all (Some parent) = not (stands table.Hypotheses parent all)
+is_orphan all (Some parent) = not (stands namespace.Hypotheses parent all)
+
+abbrev pub is_metric_unknown : List Entry → TheMetric → Bool
+is_metric_unknown all m = list_any (λ name. not (is_some (constraint_named all name))) m.constraints || have uses.OtherName (Some m.name) m.blocks
+
+abbrev pub is_hypothesis_unknown : List Entry → TheHypothesis → Bool
+is_hypothesis_unknown all h = not (is_some (metric_number all h.metric)) || is_orphan all h.parent || not (list_all is_axis h.axes)
 
 -- the item names what doesn't stand in the configuration, or a variable that isn't its own
 abbrev pub is_unknown : List Entry → Item → Bool
 is_unknown all (Include i) = false
 is_unknown all (Sync s) = false
-is_unknown all (Metric m) = list_any (λ name. not (is_some (constraint_named all name))) m.constraints || have uses.OtherName (Some m.name) m.blocks
+is_unknown all (Metric m) = is_metric_unknown all m
 is_unknown all (Constraint c) = have uses.OtherName (own_variable c) c.blocks
-is_unknown all (Hypothesis h) = not (is_some (metric_number all h.metric)) || is_orphan all h.parent || not (list_all is_axis h.axes)
+is_unknown all (Hypothesis h) = is_hypothesis_unknown all h
 is_unknown all (Search s) = false
 is_unknown all (Phase p) = false
 is_unknown all (Wish w) = not (is_some (metric_number all w.metric))
@@ -120,20 +141,26 @@ tick_behind tick item = tick
 abbrev pub last_tick : List Entry → ℕ
 last_tick before = fold (λ tick e. tick_behind tick e.item) 0 before
 
--- what the item names can't be used so, or a number is out of its range
-abbrev pub is_wrong : List Entry → List Entry → Item → Bool
-is_wrong all before (Include i) = false
-is_wrong all before (Sync s) = false
-is_wrong all before (Metric m) =
+abbrev pub is_metric_wrong : List Entry → TheMetric → Bool
+is_metric_wrong all m =
     have (misuse m.timer) (Some m.name) m.blocks
     || list_any (λ name. is_misused m.timer (constraint_named all name)) m.constraints
     || have uses.ObjectValue None m.blocks
     || have uses.HighArgument None m.blocks
-is_wrong all before (Constraint c) =
+
+abbrev pub is_constraint_wrong : TheConstraint → Bool
+is_constraint_wrong c =
     not (bytes_eq c.path (codes "/Code") || bytes_eq c.path (codes "/SyncObject"))
     || (not c.replace && have uses.AsTimer (Some c.name) c.blocks)
     || has_bad_value c
     || have uses.HighArgument None c.blocks
+
+-- what the item names can't be used so, or a number is out of its range
+abbrev pub is_wrong : List Entry → List Entry → Item → Bool
+is_wrong all before (Include i) = false
+is_wrong all before (Sync s) = false
+is_wrong all before (Metric m) = is_metric_wrong all m
+is_wrong all before (Constraint c) = is_constraint_wrong c
 is_wrong all before (Hypothesis h) = false
 is_wrong all before (Search s) = s.window == 0
 is_wrong all before (Phase p) = nat_le p.at (last_tick before)

@@ -7,7 +7,7 @@ ghost use Rattle.mdl_check.specs.Checking.{metric_of, constraint_of, hypothesis_
 use crate::checked::{Checked, CheckedWish};
 use crate::copies;
 use crate::entry::Entry;
-use crate::names::metric_number;
+use crate::index::Index;
 use mdl_ast::{Constraint, Hypothesis, Item, Metric, PhaseDecl, SearchDecl};
 use pn_types::{Focus, NoMemory, Seq};
 use std::alloc::Global;
@@ -120,18 +120,18 @@ fn search(all: &[Entry<'_>]) -> Option<SearchDecl>
 }
 
 fn add_wish(
-    all: &[Entry<'_>],
+    index: &Index<'_, '_>,
     wishes: &mut Vec<CheckedWish>,
     item: &Item,
     focus: Option<Focus>,
 ) -> Result<(), NoMemory>
-    requires { length all.now < 2 ^ 32 }
-    ensures { OnOk result (wishes.new.items ≡ wishes.old.items ++ wish_of all.now item.now focus) }
+    requires { length index.now < 2 ^ 32 }
+    ensures { OnOk result (wishes.new.items ≡ wishes.old.items ++ wish_of index.now item.now focus) }
 {
     let Item::Wish(wish) = item else {
         return Ok(());
     };
-    let Some(number) = metric_number(all, wish.metric.bytes()) else {
+    let Some(number) = index.metric_number(wish.metric.bytes()) else {
         return Ok(());
     };
     let Some(focus) = focus else {
@@ -146,28 +146,29 @@ fn add_wish(
     Ok(())
 }
 
-fn wishes(alloc: Global, all: &[Entry<'_>]) -> Result<Seq<CheckedWish>, NoMemory>
-    requires { length all.now < 2 ^ 32 }
-    ensures { IfOk result (λ wishes. wishes ≡ flat_map (λ e. wish_of all.now e.item e.focus) all.now) }
+fn wishes(alloc: Global, index: &Index<'_, '_>) -> Result<Seq<CheckedWish>, NoMemory>
+    requires { length index.now < 2 ^ 32 }
+    ensures { IfOk result (λ wishes. wishes ≡ flat_map (λ e. wish_of index.now e.item e.focus) index.now) }
 {
     let mut wishes = Vec::new(alloc);
-    for entry in all {
-        add_wish(all, &mut wishes, entry.item(), entry.focus())?;
+    for entry in index.all() {
+        add_wish(index, &mut wishes, entry.item(), entry.focus())?;
     }
     Ok(Seq::from_vec(wishes))
 }
 
 /// The items by their kinds, of which there are fewer than 2^32.
-pub(crate) fn checked(alloc: Global, all: &[Entry<'_>]) -> Result<Checked, NoMemory>
-    requires { length all.now < 2 ^ 32 }
-    ensures { IfOk result (λ checked. checked ≡ checked_of all.now) }
+pub(crate) fn checked(alloc: Global, index: &Index<'_, '_>) -> Result<Checked, NoMemory>
+    requires { length index.now < 2 ^ 32 }
+    ensures { IfOk result (λ checked. checked ≡ checked_of index.now) }
 {
+    let all = index.all();
     Ok(Checked {
         metrics: metrics(alloc, all)?,
         constraints: constraints(alloc, all)?,
         hypotheses: hypotheses(alloc, all)?,
         search: search(all),
         phases: phases(alloc, all)?,
-        wishes: wishes(alloc, all)?,
+        wishes: wishes(alloc, index)?,
     })
 }

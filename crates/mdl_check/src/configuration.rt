@@ -4,15 +4,16 @@ ghost use Rattle.std.specs.Prelude.{◌≡◌, ◌<◌, ◌^◌, ◌++◌, IfOk,
 ghost use Rattle.std.specs.List.{AllByRecursion};
 ghost use Rattle.mdl_ast.specs.Small.{HasSmall};
 ghost use Rattle.mdl_check.specs.Sound.{IsSound};
-ghost use Rattle.mdl_check.specs.Spots.{spots};
+ghost use Rattle.mdl_check.specs.Placed.{placed_items};
+ghost use Rattle.mdl_check.specs.Ancestors.{CyclicIsOwnAncestor};
 ghost use Rattle.mdl_check.specs.Checking.{IsAnswer, OneAnswer, sync_of, prefixes_of};
 
-use crate::ancestors::parents_of;
 use crate::checked::Checked;
 use crate::collect::checked;
 use crate::fault::CheckFault;
+use crate::index::Index;
 use crate::judge::first_fault;
-use crate::places::{entries, spots};
+use crate::places::{entries, placed_items};
 use mdl_ast::{Conf, Item};
 use pn_types::{NoMemory, Text};
 use resource_tree::{Tree, one_reading};
@@ -38,20 +39,20 @@ use std::alloc::Global;
 ///
 /// A name leads to the first item that has it. With those of the includes there are fewer than 2^32 items.
 pub fn check(alloc: Global, conf: &Conf, shipped: &Conf, tree: &Tree) -> Result<Checked, CheckFault>
-    requires { length (spots shipped.now.items conf.now.items) < 2 ^ 32 }
+    requires { length (placed_items shipped.now.items conf.now.items) < 2 ^ 32 }
     ensures answer { IsAnswer tree.now shipped.now.items conf.now.items result }
     // A number of 32 bits counts the metrics.
     ensures few { IfOk result (λ checked. length checked.metrics < 2 ^ 32) }
     // What is parsed or shipped has small statements.
     ensures sound { AllByRecursion HasSmall shipped.now.items → AllByRecursion HasSmall conf.now.items → IfOk result IsSound }
 {
-    let places = spots(alloc, shipped.items.as_slice(), conf.items.as_slice())?;
+    let places = placed_items(alloc, shipped.items.as_slice(), conf.items.as_slice())?;
     let all = entries(alloc, tree, &places)?;
-    let parents = parents_of(alloc, &all)?;
-    if let Some((line, kind)) = first_fault(&all, &parents) {
+    let index = Index::of(alloc, &all)?;
+    if let Some((line, kind)) = first_fault(alloc, &index)? {
         return Err(CheckFault::At { line, kind });
     }
-    Ok(checked(alloc, &all)?)
+    Ok(checked(alloc, &index)?)
 }
 
 /// The check of a configuration has one answer, unless memory is wanting.
@@ -60,6 +61,11 @@ pub fn one_answer()
 {
     one_reading();
 }
+
+/// The check calls an item cyclic exactly if it is its own ancestor, however far above.
+pub fn own_ancestors()
+    ensures { CyclicIsOwnAncestor }
+{}
 
 fn add_prefix(alloc: Global, prefixes: &mut Vec<Text>, item: &Item) -> Result<(), NoMemory>
     ensures { OnOk result (prefixes.new.items ≡ prefixes.old.items ++ sync_of item.now) }
@@ -76,7 +82,7 @@ pub fn prefixes(alloc: Global, conf: &Conf, shipped: &Conf) -> Result<Vec<Text>,
     ensures { IfOk result (λ prefixes. prefixes.items ≡ prefixes_of shipped.now.items conf.now.items) }
 {
     let mut prefixes = Vec::new(alloc);
-    for place in &spots(alloc, shipped.items.as_slice(), conf.items.as_slice())? {
+    for place in &placed_items(alloc, shipped.items.as_slice(), conf.items.as_slice())? {
         add_prefix(alloc, &mut prefixes, place.item())?;
     }
     Ok(prefixes)

@@ -1,7 +1,7 @@
 //! The items in their order, those of an include in its place.
 
 ghost use Rattle.std.specs.Prelude.{◌≡◌};
-ghost use Rattle.mdl_check.specs.Spots.{spot, entry};
+ghost use Rattle.mdl_check.specs.Placed.{placed, entry};
 
 use mdl_ast::Item;
 use pn_types::Focus;
@@ -9,25 +9,25 @@ use std::marker::Model;
 
 /// An item at its place.
 #[derive(Drop)]
-pub(crate) struct Spot<'a> {
+pub(crate) struct PlacedItem<'a> {
     line: u32,
     item: &'a Item,
 }
 
-impl<'a> Model for Spot<'a> {
-    ghost use Rattle.mdl_check.specs.Spots.{Spot, spot};
+impl<'a> Model for PlacedItem<'a> {
+    ghost use Rattle.mdl_check.specs.Placed.{PlacedItem, placed};
 
-    ghost Value = { Spot };
+    ghost Value = { PlacedItem };
 
-    ghost view = { λ s. spot s.line s.item.now };
+    ghost view = { λ s. placed s.line s.item.now };
 }
 
-impl<'a> Spot<'a> {
+impl<'a> PlacedItem<'a> {
     /// An item at this line.
-    pub(crate) fn new(line: u32, item: &'a Item) -> Spot<'a>
-        ensures { result ≡ spot line item.now }
+    pub(crate) fn new(line: u32, item: &'a Item) -> PlacedItem<'a>
+        ensures { result ≡ placed line item.now }
     {
-        Spot { line, item }
+        PlacedItem { line, item }
     }
 
     /// Its line.
@@ -54,7 +54,7 @@ pub(crate) struct Entry<'a> {
 }
 
 impl<'a> Model for Entry<'a> {
-    ghost use Rattle.mdl_check.specs.Spots.{Entry, entry};
+    ghost use Rattle.mdl_check.specs.Placed.{Entry, entry};
 
     ghost Value = { Entry };
 
@@ -63,12 +63,12 @@ impl<'a> Model for Entry<'a> {
 
 impl<'a> Entry<'a> {
     /// An item at this line with this focus.
-    pub(crate) fn new(spot: &Spot<'a>, focus: Option<Focus>) -> Entry<'a>
-        ensures { result ≡ entry spot.now.line spot.now.item focus }
+    pub(crate) fn new(placed: &PlacedItem<'a>, focus: Option<Focus>) -> Entry<'a>
+        ensures { result ≡ entry placed.now.line placed.now.item focus }
     {
         Entry {
-            line: spot.line(),
-            item: spot.item(),
+            line: placed.line(),
+            item: placed.item(),
             focus,
         }
     }

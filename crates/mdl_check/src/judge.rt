@@ -1,36 +1,40 @@
 //! The first faulty item.
 
-ghost use Rattle.std.specs.Prelude.{◌≡◌, length};
+ghost use Rattle.std.specs.Prelude.{◌≡◌, IfOk};
 ghost use Rattle.mdl_check.specs.Rules.{fault_of, parents_of};
 ghost use Rattle.mdl_check.specs.Checking.{first_fault};
 
-use crate::ancestors::is_cyclic;
+use crate::ancestors::Ancestry;
+use crate::before::Before;
 use crate::entry::Entry;
 use crate::fault::CheckKind;
+use crate::index::Index;
 use crate::repeated::is_repeated;
 use crate::wrong::{is_astray, is_unknown, is_wrong};
+use pn_types::NoMemory;
+use std::alloc::Global;
 
-/// What is wrong with an item, given all items, the places of their parents, and the items before this one.
-fn fault_of(
-    all: &[Entry<'_>],
-    parents: &[Option<usize>],
-    before: &[Entry<'_>],
-    entry: &Entry<'_>,
+/// What is wrong with an item, given all items, their parents, and the items before this one.
+fn fault_of<'a>(
+    index: &Index<'_, 'a>,
+    ancestry: &Ancestry,
+    before: &Before<'_, 'a>,
+    entry: &Entry<'a>,
 ) -> Option<CheckKind>
-    requires { parents.now ≡ parents_of all.now }
-    ensures { result ≡ fault_of all.now before.now entry.now }
+    requires { ancestry.now ≡ parents_of index.now }
+    ensures { result ≡ fault_of index.now before.now entry.now }
 {
     let item = entry.item();
-    if is_repeated(all, before, item, entry.focus()) {
+    if is_repeated(index, before, item, entry.focus()) {
         return Some(CheckKind::TwiceNamed);
     }
-    if is_unknown(all, item) {
+    if is_unknown(index, item) {
         return Some(CheckKind::UnknownName);
     }
-    if is_wrong(all, before, item) {
+    if is_wrong(index, before, item) {
         return Some(CheckKind::WrongKind);
     }
-    if is_cyclic(parents, before.len()) {
+    if ancestry.is_cyclic(before.len()) {
         return Some(CheckKind::CyclicParent);
     }
     if is_astray(item, entry.focus()) {
@@ -40,14 +44,20 @@ fn fault_of(
 }
 
 /// The line of the first faulty item and what is wrong with it.
-pub(crate) fn first_fault(all: &[Entry<'_>], parents: &[Option<usize>]) -> Option<(u32, CheckKind)>
-    requires { parents.now ≡ parents_of all.now }
-    ensures { result ≡ first_fault all.now }
+pub(crate) fn first_fault(
+    alloc: Global,
+    index: &Index<'_, '_>,
+) -> Result<Option<(u32, CheckKind)>, NoMemory>
+    ensures { IfOk result (λ fault. fault ≡ first_fault index.now) }
 {
+    let all = index.all();
+    let ancestry = Ancestry::of(alloc, index)?;
+    let mut before = Before::first(alloc);
     for (place, entry) in all.iter().enumerate() {
-        if let Some(kind) = fault_of(all, parents, &all[..place], entry) {
-            return Some((entry.line(), kind));
+        if let Some(kind) = fault_of(index, &ancestry, &before, entry) {
+            return Ok(Some((entry.line(), kind)));
         }
+        before = before.behind(alloc, &all[..=place], entry)?;
     }
-    None
+    Ok(None)
 }

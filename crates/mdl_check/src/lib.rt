@@ -2,12 +2,14 @@
 #![tactic(auto)]
 
 mod ancestors;
+mod before;
 mod checked;
 mod collect;
 mod configuration;
 mod copies;
 mod entry;
 mod fault;
+mod index;
 mod judge;
 mod names;
 mod places;
@@ -17,5 +19,5 @@ mod uses;
 mod wrong;
 
 pub use checked::{Checked, CheckedWish};
-pub use configuration::{check, one_answer, prefixes};
+pub use configuration::{check, one_answer, own_ancestors, prefixes};
 pub use fault::{CheckFault, CheckKind};

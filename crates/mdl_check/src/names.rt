@@ -1,32 +1,36 @@
-//! What items are named, and which items names lead to.
+//! The names of items.
 
-ghost use Rattle.std.specs.Prelude.{◌≡◌, ◌<◌, IfSome, Some, length, map};
+ghost use Rattle.std.specs.Prelude.{◌≡◌, ◌++◌, IfOk, OnOk, option_to_list};
 ghost use Rattle.std.specs.Option.{option_map};
-ghost use Rattle.mdl_check.specs.Names.{name_in, is_named, stands, constraint_in, constraint_named, metric_name, metric_number, hypothesis_place};
+ghost use Rattle.mdl_check.specs.Names.{name_in, is_named, metric_name, as_constraint};
+ghost use Rattle.mdl_check.specs.Indexes.{names_in, metric_names, constraint_names};
 
 use crate::entry::Entry;
+use first_places::FirstPlaces;
 use mdl_ast::{Constraint, Item};
+use pn_types::NoMemory;
+use std::alloc::Global;
 
-/// The tables of names.
+/// What names are told apart in.
 #[derive(Clone, Copy, Drop)]
-pub(crate) enum Table {
-    /// Of the metrics and the constraints.
+pub(crate) enum Namespace {
+    /// The metrics and the constraints.
     Variables,
-    /// Of the hypotheses.
+    /// The hypotheses.
     Hypotheses,
-    /// Of the phases.
+    /// The phases.
     Phases,
 }
 
-/// The name that an item has in a table.
-fn name_in(table: Table, item: &Item) -> Option<&[u8]>
-    ensures { option_map (λ name. name.now) result ≡ name_in table item.now }
+/// The name that an item has in a namespace.
+pub(crate) fn name_in(namespace: Namespace, item: &Item) -> Option<&[u8]>
+    ensures { option_map (λ name. name.now) result ≡ name_in namespace item.now }
 {
-    match (table, item) {
-        (Table::Variables, Item::Metric(metric)) => Some(metric.name.bytes()),
-        (Table::Variables, Item::Constraint(constraint)) => Some(constraint.name.bytes()),
-        (Table::Hypotheses, Item::Hypothesis(hypothesis)) => Some(hypothesis.name.bytes()),
-        (Table::Phases, Item::Phase(phase)) => Some(phase.name.bytes()),
+    match (namespace, item) {
+        (Namespace::Variables, Item::Metric(metric)) => Some(metric.name.bytes()),
+        (Namespace::Variables, Item::Constraint(constraint)) => Some(constraint.name.bytes()),
+        (Namespace::Hypotheses, Item::Hypothesis(hypothesis)) => Some(hypothesis.name.bytes()),
+        (Namespace::Phases, Item::Phase(phase)) => Some(phase.name.bytes()),
         _ => None,
     }
 }
@@ -41,59 +45,6 @@ pub(crate) fn is_named(name: &[u8], own: Option<&[u8]>) -> bool
     }
 }
 
-/// Whether the item has the name in a table.
-fn has_name(table: Table, name: &[u8], item: &Item) -> bool
-    ensures { result ≡ is_named name.now (name_in table item.now) }
-{
-    is_named(name, name_in(table, item))
-}
-
-/// Whether one of the items has the name.
-pub(crate) fn stands(table: Table, name: &[u8], entries: &[Entry<'_>]) -> bool
-    ensures { result ≡ stands table name.now entries.now }
-{
-    entries
-        .iter()
-        .any(|entry| has_name(table, name, entry.item()))
-}
-
-/// The place of the first hypothesis of this name.
-pub(crate) fn hypothesis_place(entries: &[Entry<'_>], name: &[u8]) -> Option<usize>
-    ensures { result ≡ hypothesis_place entries.now name.now }
-{
-    entries
-        .iter()
-        .position(|entry| has_name(Table::Hypotheses, name, entry.item()))
-}
-
-/// The constraint, if the item is one of this name.
-fn constraint_in<'a>(name: &[u8], item: &'a Item) -> Option<&'a Constraint>
-    ensures { option_map (λ constraint. constraint.now) result ≡ constraint_in name.now item.now }
-{
-    match item {
-        Item::Constraint(constraint) => {
-            if name == constraint.name.bytes() {
-                Some(constraint)
-            } else {
-                None
-            }
-        }
-        _ => None,
-    }
-}
-
-/// The first constraint of this name.
-pub(crate) fn constraint_named<'a>(entries: &[Entry<'a>], name: &[u8]) -> Option<&'a Constraint>
-    ensures { option_map (λ constraint. constraint.now) result ≡ constraint_named entries.now name.now }
-{
-    for entry in entries {
-        if let Some(constraint) = constraint_in(name, entry.item()) {
-            return Some(constraint);
-        }
-    }
-    None
-}
-
 /// The name of a metric.
 fn metric_name(item: &Item) -> Option<&[u8]>
     ensures { option_map (λ name. name.now) result ≡ metric_name item.now }
@@ -104,20 +55,70 @@ fn metric_name(item: &Item) -> Option<&[u8]>
     }
 }
 
-/// The number of the first metric of this name.
-pub(crate) fn metric_number(entries: &[Entry<'_>], name: &[u8]) -> Option<usize>
-    ensures number { result ≡ metric_number entries.now name.now }
-    ensures below { IfSome result (λ number. number < length entries.now) }
+/// The constraint that an item is.
+pub(crate) fn as_constraint(item: &Item) -> Option<&Constraint>
+    ensures { option_map (λ constraint. constraint.now) result ≡ as_constraint item.now }
 {
-    let mut number = 0;
-    for entry in entries {
-        let Some(own) = metric_name(entry.item()) else {
-            continue;
-        };
-        if name == own {
-            return Some(number);
-        }
-        number += 1;
+    match item {
+        Item::Constraint(constraint) => Some(constraint),
+        _ => None,
     }
-    None
+}
+
+/// Puts a name last, if there is one.
+pub(crate) fn add_name(
+    alloc: Global,
+    names: &mut FirstPlaces,
+    name: Option<&[u8]>,
+) -> Result<(), NoMemory>
+    ensures { OnOk result (names.new ≡ names.old ++ option_to_list (option_map (λ name. name.now) name.entry)) }
+{
+    if let Some(name) = name {
+        names.push(alloc, name)?;
+    }
+    Ok(())
+}
+
+/// The names of the hypotheses.
+pub(crate) fn hypothesis_names(alloc: Global, all: &[Entry<'_>]) -> Result<FirstPlaces, NoMemory>
+    ensures { IfOk result (λ names. names ≡ names_in Namespace.Hypotheses all.now) }
+{
+    let mut names = FirstPlaces::new(alloc);
+    for entry in all {
+        add_name(
+            alloc,
+            &mut names,
+            name_in(Namespace::Hypotheses, entry.item()),
+        )?;
+    }
+    Ok(names)
+}
+
+/// The names of the metrics.
+pub(crate) fn metric_names(alloc: Global, all: &[Entry<'_>]) -> Result<FirstPlaces, NoMemory>
+    ensures { IfOk result (λ names. names ≡ metric_names all.now) }
+{
+    let mut names = FirstPlaces::new(alloc);
+    for entry in all {
+        add_name(alloc, &mut names, metric_name(entry.item()))?;
+    }
+    Ok(names)
+}
+
+fn constraint_name(item: &Item) -> Option<&[u8]>
+    ensures { option_map (λ name. name.now) result ≡ option_map (λ c. c.name) (as_constraint item.now) }
+{
+    let constraint = as_constraint(item)?;
+    Some(constraint.name.bytes())
+}
+
+/// The names of the constraints.
+pub(crate) fn constraint_names(alloc: Global, all: &[Entry<'_>]) -> Result<FirstPlaces, NoMemory>
+    ensures { IfOk result (λ names. names ≡ constraint_names all.now) }
+{
+    let mut names = FirstPlaces::new(alloc);
+    for entry in all {
+        add_name(alloc, &mut names, constraint_name(entry.item()))?;
+    }
+    Ok(names)
 }

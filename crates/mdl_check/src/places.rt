@@ -1,10 +1,10 @@
 //! The items in their order, and their foci.
 
 ghost use Rattle.std.specs.Prelude.{◌≡◌, ◌++◌, ◌∷◌, [], IfOk, OnOk, if◌then◌else◌};
-ghost use Rattle.mdl_check.specs.Spots.{spot, line_of, is_hypothesis, is_taken, included, spots_of, spots};
+ghost use Rattle.mdl_check.specs.Placed.{placed, line_of, is_hypothesis, is_taken, included, with_included, placed_items};
 ghost use Rattle.mdl_check.specs.Checking.{HasFocus, AreEntries};
 
-use crate::entry::{Entry, Spot};
+use crate::entry::{Entry, PlacedItem};
 use mdl_ast::{Include, Item};
 use pn_types::{Focus, NoMemory};
 use resource_tree::Tree;
@@ -36,54 +36,54 @@ fn is_taken(metrics: bool, item: &Item) -> bool
 
 /// Adds the shipped item at this line, if the include takes it.
 fn add_taken<'a>(
-    spots: &mut Vec<Spot<'a>>,
+    placed_items: &mut Vec<PlacedItem<'a>>,
     include: Include,
     item: &'a Item,
 ) -> Result<(), NoMemory>
-    ensures { OnOk result (spots.new.items ≡ (if is_taken include.metrics item.now then spots.old.items ++ (spot include.line item.now ∷ []) else spots.old.items)) }
+    ensures { OnOk result (placed_items.new.items ≡ (if is_taken include.metrics item.now then placed_items.old.items ++ (placed include.line item.now ∷ []) else placed_items.old.items)) }
 {
     if is_taken(include.metrics, item) {
-        spots.push(Spot::new(include.line, item))?;
+        placed_items.push(PlacedItem::new(include.line, item))?;
     }
     Ok(())
 }
 
 /// Adds the items that an include takes.
 fn add_included<'a>(
-    spots: &mut Vec<Spot<'a>>,
+    placed_items: &mut Vec<PlacedItem<'a>>,
     shipped: &'a [Item],
     include: Include,
 ) -> Result<(), NoMemory>
-    ensures { OnOk result (spots.new.items ≡ spots.old.items ++ included shipped.now (Item.Include include)) }
+    ensures { OnOk result (placed_items.new.items ≡ placed_items.old.items ++ included shipped.now (Item.Include include)) }
 {
     for item in shipped {
-        add_taken(spots, include, item)?;
+        add_taken(placed_items, include, item)?;
     }
     Ok(())
 }
 
 /// Adds an item, and behind it those that it includes.
 fn add_item<'a>(
-    spots: &mut Vec<Spot<'a>>,
+    placed_items: &mut Vec<PlacedItem<'a>>,
     shipped: &'a [Item],
     item: &'a Item,
 ) -> Result<(), NoMemory>
-    ensures { OnOk result (spots.new.items ≡ spots.old.items ++ spots_of shipped.now item.now) }
+    ensures { OnOk result (placed_items.new.items ≡ placed_items.old.items ++ with_included shipped.now item.now) }
 {
-    spots.push(Spot::new(line_of(item), item))?;
+    placed_items.push(PlacedItem::new(line_of(item), item))?;
     match item {
-        Item::Include(include) => add_included(spots, shipped, *include),
+        Item::Include(include) => add_included(placed_items, shipped, *include),
         _ => Ok(()),
     }
 }
 
 /// All items in their order.
-pub(crate) fn spots<'a>(
+pub(crate) fn placed_items<'a>(
     alloc: Global,
     shipped: &'a [Item],
     items: &'a [Item],
-) -> Result<Vec<Spot<'a>>, NoMemory>
-    ensures { IfOk result (λ all. all.items ≡ spots shipped.now items.now) }
+) -> Result<Vec<PlacedItem<'a>>, NoMemory>
+    ensures { IfOk result (λ all. all.items ≡ placed_items shipped.now items.now) }
 {
     let mut all = Vec::new(alloc);
     for item in items {
@@ -106,13 +106,13 @@ fn focus_of(tree: &Tree, item: &Item) -> Option<Focus>
 pub(crate) fn entries<'a>(
     alloc: Global,
     tree: &Tree,
-    spots: &[Spot<'a>],
+    placed_items: &[PlacedItem<'a>],
 ) -> Result<Vec<Entry<'a>>, NoMemory>
-    ensures { IfOk result (λ entries. AreEntries tree.now spots.now entries.items) }
+    ensures { IfOk result (λ entries. AreEntries tree.now placed_items.now entries.items) }
 {
     let mut entries = Vec::new(alloc);
-    for spot in spots {
-        entries.push(Entry::new(spot, focus_of(tree, spot.item())))?;
+    for placed in placed_items {
+        entries.push(Entry::new(placed, focus_of(tree, placed.item())))?;
     }
     Ok(entries)
 }

@@ -1,72 +1,57 @@
-//! Whether two wishes are for the same.
+//! What a wish shows.
 
 ghost use Rattle.std.specs.Prelude.{◌≡◌};
-ghost use Rattle.mdl_check.specs.Rules.{is_same_number, is_same_code, is_same_focus, is_shown_by};
+ghost use Rattle.mdl_check.specs.Sights.{IsFirstSight, sight};
 
-use mdl_ast::{Item, Wish};
+use mdl_ast::Item;
 use pn_types::{CodePart, Focus, HartNo};
 
-fn is_same_code(a: CodePart, b: CodePart) -> bool
-    ensures { result ≡ is_same_code a b }
+/// A metric at a focus, in plain parts.
+#[derive(Clone, Copy, PartialEq, Eq, Hash, Drop)]
+pub(crate) struct Sight<'a> {
+    metric: &'a [u8],
+    code: CodePart,
+    hart: Option<u32>,
+    object: Option<u32>,
+}
+
+/// The number of a hart, if any.
+fn number_of(hart: Option<HartNo>) -> Option<u32>
+    ensures { result ≡ hart }
 {
-    match (a, b) {
-        (CodePart::All, CodePart::All) => true,
-        (CodePart::Module(a), CodePart::Module(b)) => a == b,
-        (CodePart::Procedure(a), CodePart::Procedure(b)) => a == b,
-        _ => false,
+    match hart {
+        Some(hart) => Some(hart.get()),
+        None => None,
     }
 }
 
-fn is_same_hart(a: Option<HartNo>, b: Option<HartNo>) -> bool
-    ensures { result ≡ is_same_number a b }
-{
-    match (a, b) {
-        (None, None) => true,
-        (Some(a), Some(b)) => a.get() == b.get(),
-        _ => false,
-    }
-}
-
-fn is_same_object(a: Option<u32>, b: Option<u32>) -> bool
-    ensures { result ≡ is_same_number a b }
-{
-    match (a, b) {
-        (None, None) => true,
-        (Some(a), Some(b)) => a == b,
-        _ => false,
-    }
-}
-
-/// Whether both select something, and the same.
-fn is_same_focus(a: Option<Focus>, b: Option<Focus>) -> bool
-    ensures { result ≡ is_same_focus a b }
-{
-    match (a, b) {
-        (Some(a), Some(b)) => {
-            is_same_code(a.code, b.code)
-                && is_same_hart(a.hart, b.hart)
-                && is_same_object(a.object, b.object)
+impl<'a> Sight<'a> {
+    /// The metric of this name at the focus.
+    pub(crate) fn new(metric: &'a [u8], focus: Focus) -> Sight<'a>
+        ensures { result ≡ sight metric.entry focus }
+    {
+        Sight {
+            metric,
+            code: focus.code,
+            hart: number_of(focus.hart),
+            object: focus.object,
         }
-        _ => false,
     }
 }
 
-/// Whether the item is a wish that the metric of a wish is shown at this focus from the beginning on.
-pub(crate) fn is_shown_by(
-    wish: &Wish,
-    focus: Option<Focus>,
-    item: &Item,
-    other: Option<Focus>,
-) -> bool
-    ensures { result ≡ is_shown_by wish.now.metric focus item.now other }
+/// What the item shows from the beginning on, if it is a wish that does.
+pub(crate) fn first_sight<'a>(item: &'a Item, focus: Option<Focus>) -> Option<Sight<'a>>
+    ensures { IsFirstSight item.now focus result }
 {
-    match item {
-        Item::Wish(before) => {
-            before.at == 0
-                && before.show
-                && wish.metric.bytes() == before.metric.bytes()
-                && is_same_focus(focus, other)
-        }
-        _ => false,
+    let Item::Wish(wish) = item else {
+        return None;
+    };
+    let Some(focus) = focus else {
+        return None;
+    };
+    if wish.at == 0 && wish.show {
+        Some(Sight::new(wish.metric.bytes(), focus))
+    } else {
+        None
     }
 }

@@ -7,10 +7,10 @@ ghost use Rattle.std.specs.Str.{bytes_eq};
 ghost use Rattle.mdl_check.specs.Names.{constraint_named, metric_number};
 ghost use Rattle.mdl_check.specs.Statements.{have};
 ghost use Rattle.mdl_check.specs.declared.uses.Use.TheVariants as uses;
-ghost use Rattle.mdl_check.specs.Rules.{own_variable, is_axis, is_orphan, is_unknown, misuse, is_misused, has_bad_value, tick_behind, last_tick, is_wrong, is_astray};
+ghost use Rattle.mdl_check.specs.Rules.{own_variable, is_axis, is_orphan, is_metric_unknown, is_hypothesis_unknown, is_unknown, misuse, is_misused, has_bad_value, is_metric_wrong, is_constraint_wrong, is_wrong, is_astray};
 
-use crate::entry::Entry;
-use crate::names::{Table, constraint_named, metric_number, stands};
+use crate::before::Before;
+use crate::index::Index;
 use crate::uses::{Use, have};
 use mdl_ast::{Constraint, Hypothesis, Item, Metric};
 use pn_types::{Focus, Text};
@@ -39,31 +39,31 @@ fn are_axes(names: &[Text]) -> bool
 }
 
 /// Whether the name is none of a hypothesis.
-fn is_orphan(all: &[Entry<'_>], parent: &Option<Text>) -> bool
-    ensures { result ≡ is_orphan all.now parent.now }
+fn is_orphan(index: &Index<'_, '_>, parent: &Option<Text>) -> bool
+    ensures { result ≡ is_orphan index.now parent.now }
 {
     match parent {
-        Some(name) => !stands(Table::Hypotheses, name.bytes(), all),
+        Some(name) => !index.has_hypothesis(name.bytes()),
         None => false,
     }
 }
 
-fn is_no_constraint(all: &[Entry<'_>], name: &Text) -> bool
-    ensures { result ≡ not (is_some (constraint_named all.now name.now)) }
+fn is_no_constraint(index: &Index<'_, '_>, name: &Text) -> bool
+    ensures { result ≡ not (is_some (constraint_named index.now name.now)) }
 {
-    constraint_named(all, name.bytes()).is_none()
+    index.constraint_named(name.bytes()).is_none()
 }
 
-fn has_unknown_constraint(all: &[Entry<'_>], names: &[Text]) -> bool
-    ensures { result ≡ list_any (λ name. not (is_some (constraint_named all.now name))) names.now }
+fn has_unknown_constraint(index: &Index<'_, '_>, names: &[Text]) -> bool
+    ensures { result ≡ list_any (λ name. not (is_some (constraint_named index.now name))) names.now }
 {
-    names.iter().any(|name| is_no_constraint(all, name))
+    names.iter().any(|name| is_no_constraint(index, name))
 }
 
-fn is_metric_unknown(all: &[Entry<'_>], metric: &Metric) -> bool
-    ensures { result ≡ is_unknown all.now (Item.Metric metric.now) }
+fn is_metric_unknown(index: &Index<'_, '_>, metric: &Metric) -> bool
+    ensures { result ≡ is_metric_unknown index.now metric.now }
 {
-    has_unknown_constraint(all, metric.constraints.as_slice())
+    has_unknown_constraint(index, metric.constraints.as_slice())
         || have(
             Use::OtherName,
             Some(metric.name.bytes()),
@@ -71,33 +71,33 @@ fn is_metric_unknown(all: &[Entry<'_>], metric: &Metric) -> bool
         )
 }
 
-fn is_no_metric(all: &[Entry<'_>], name: &[u8]) -> bool
-    ensures { result ≡ not (is_some (metric_number all.now name.now)) }
+fn is_no_metric(index: &Index<'_, '_>, name: &[u8]) -> bool
+    ensures { result ≡ not (is_some (metric_number index.now name.now)) }
 {
-    metric_number(all, name).is_none()
+    index.metric_number(name).is_none()
 }
 
-fn is_hypothesis_unknown(all: &[Entry<'_>], hypothesis: &Hypothesis) -> bool
-    ensures { result ≡ is_unknown all.now (Item.Hypothesis hypothesis.now) }
+fn is_hypothesis_unknown(index: &Index<'_, '_>, hypothesis: &Hypothesis) -> bool
+    ensures { result ≡ is_hypothesis_unknown index.now hypothesis.now }
 {
-    is_no_metric(all, hypothesis.metric.bytes())
-        || is_orphan(all, &hypothesis.parent)
+    is_no_metric(index, hypothesis.metric.bytes())
+        || is_orphan(index, &hypothesis.parent)
         || !are_axes(hypothesis.axes.as_slice())
 }
 
 /// Whether the item names what doesn't stand in the configuration, or a variable that isn't its own.
-pub(crate) fn is_unknown(all: &[Entry<'_>], item: &Item) -> bool
-    ensures { result ≡ is_unknown all.now item.now }
+pub(crate) fn is_unknown(index: &Index<'_, '_>, item: &Item) -> bool
+    ensures { result ≡ is_unknown index.now item.now }
 {
     match item {
         Item::Include(_) | Item::Sync(_) | Item::Search(_) | Item::Phase(_) => false,
-        Item::Metric(metric) => is_metric_unknown(all, metric),
+        Item::Metric(metric) => is_metric_unknown(index, metric),
         Item::Constraint(constraint) => {
             let own = own_variable(constraint);
             have(Use::OtherName, own, constraint.blocks.as_slice())
         }
-        Item::Hypothesis(hypothesis) => is_hypothesis_unknown(all, hypothesis),
-        Item::Wish(wish) => is_no_metric(all, wish.metric.bytes()),
+        Item::Hypothesis(hypothesis) => is_hypothesis_unknown(index, hypothesis),
+        Item::Wish(wish) => is_no_metric(index, wish.metric.bytes()),
     }
 }
 
@@ -109,29 +109,27 @@ fn misuse(timer: bool) -> Use
 }
 
 /// Whether the constraint of this name is a replacement that uses `$metric` as one of the other kind.
-fn is_misused(all: &[Entry<'_>], timer: bool, name: &Text) -> bool
-    ensures { result ≡ is_misused timer (constraint_named all.now name.now) }
+fn is_misused(index: &Index<'_, '_>, timer: bool, name: &Text) -> bool
+    ensures { result ≡ is_misused timer (constraint_named index.now name.now) }
 {
-    match constraint_named(all, name.bytes()) {
-        Some(constraint) => {
-            constraint.replace && have(misuse(timer), None, constraint.blocks.as_slice())
-        }
+    match index.constraint_named(name.bytes()) {
+        Some(constraint) => constraint.is_misused(timer),
         None => false,
     }
 }
 
-fn has_misused(all: &[Entry<'_>], timer: bool, names: &[Text]) -> bool
-    ensures { result ≡ list_any (λ name. is_misused timer (constraint_named all.now name)) names.now }
+fn has_misused(index: &Index<'_, '_>, timer: bool, names: &[Text]) -> bool
+    ensures { result ≡ list_any (λ name. is_misused timer (constraint_named index.now name)) names.now }
 {
-    names.iter().any(|name| is_misused(all, timer, name))
+    names.iter().any(|name| is_misused(index, timer, name))
 }
 
-fn is_metric_wrong(all: &[Entry<'_>], before: &[Entry<'_>], metric: &Metric) -> bool
-    ensures { result ≡ is_wrong all.now before.now (Item.Metric metric.now) }
+fn is_metric_wrong(index: &Index<'_, '_>, metric: &Metric) -> bool
+    ensures { result ≡ is_metric_wrong index.now metric.now }
 {
     let blocks = metric.blocks.as_slice();
     have(misuse(metric.timer), Some(metric.name.bytes()), blocks)
-        || has_misused(all, metric.timer, metric.constraints.as_slice())
+        || has_misused(index, metric.timer, metric.constraints.as_slice())
         || have(Use::ObjectValue, None, blocks)
         || have(Use::HighArgument, None, blocks)
 }
@@ -161,8 +159,8 @@ fn is_timed(constraint: &Constraint) -> bool
         )
 }
 
-fn is_constraint_wrong(all: &[Entry<'_>], before: &[Entry<'_>], constraint: &Constraint) -> bool
-    ensures { result ≡ is_wrong all.now before.now (Item.Constraint constraint.now) }
+fn is_constraint_wrong(constraint: &Constraint) -> bool
+    ensures { result ≡ is_constraint_wrong constraint.now }
 {
     !is_constraint_path(constraint.path.bytes())
         || is_timed(constraint)
@@ -170,35 +168,16 @@ fn is_constraint_wrong(all: &[Entry<'_>], before: &[Entry<'_>], constraint: &Con
         || have(Use::HighArgument, None, constraint.blocks.as_slice())
 }
 
-/// The tick of the phase, and else the one before.
-fn tick_behind(tick: u32, item: &Item) -> u32
-    ensures { result ≡ tick_behind tick item.now }
-{
-    match item {
-        Item::Phase(phase) => phase.at,
-        _ => tick,
-    }
-}
-
-/// The tick of the last phase, or 0.
-fn last_tick(before: &[Entry<'_>]) -> u32
-    ensures { result ≡ last_tick before.now }
-{
-    before
-        .iter()
-        .fold(0, |tick, entry| tick_behind(tick, entry.item()))
-}
-
 /// Whether what the item names can't be used so, or a number is out of its range.
-pub(crate) fn is_wrong(all: &[Entry<'_>], before: &[Entry<'_>], item: &Item) -> bool
-    ensures { result ≡ is_wrong all.now before.now item.now }
+pub(crate) fn is_wrong(index: &Index<'_, '_>, before: &Before<'_, '_>, item: &Item) -> bool
+    ensures { result ≡ is_wrong index.now before.now item.now }
 {
     match item {
         Item::Include(_) | Item::Sync(_) | Item::Hypothesis(_) => false,
-        Item::Metric(metric) => is_metric_wrong(all, before, metric),
-        Item::Constraint(constraint) => is_constraint_wrong(all, before, constraint),
+        Item::Metric(metric) => is_metric_wrong(index, metric),
+        Item::Constraint(constraint) => is_constraint_wrong(constraint),
         Item::Search(search) => search.window == 0,
-        Item::Phase(phase) => phase.at <= last_tick(before),
+        Item::Phase(phase) => phase.at <= before.last_tick(),
         Item::Wish(wish) => wish.at == 0 && !wish.show,
     }
 }

@@ -5,7 +5,7 @@ use Rattle.std.specs.List.{filter, remove, position_or_len}
 use Rattle.std.proofs.lemmas.List.{length-append, length-map}
 use Rattle.mdl_ast.specs.declared.items.Item.{Item}
 use Rattle.mdl_ast.specs.declared.items.Item.TheVariants.{Include, Sync, Metric, Constraint, Hypothesis, Search, Phase, Wish}
-use Rattle.mdl_check.specs.Spots.{is_hypothesis}
+use Rattle.mdl_check.specs.Placed.{is_hypothesis}
 use Rattle.mdl_parse.specs.Shipped.{shipped_conf}
 use Rattle.directives.specs.Hypotheses.{is_named}
 use Rattle.directives.specs.Acts.{acted, applied, at_line, changed, directed, expanded, expansion, go_on, is_under, kind_of, moved, pruned, put_first, with_first, with_threshold, without_axis}

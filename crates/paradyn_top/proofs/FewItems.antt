@@ -1,6 +1,6 @@
 -- A configuration has no more items than its text has bytes, and few come with the program.
-use Rattle.std.proofs.Common.{◌≡◌, ℕ, ◌*◌, ◌≤◌, ◌<◌, ◌^◌, suc, Bool, true, false, cond, List, [], ◌∷◌, length, map, refl, ap, arith}
-use Rattle.std.specs.List.{filter, flat_map}
+use Rattle.std.proofs.Common.{◌≡◌, ℕ, ◌≤◌, suc, List, [], ◌∷◌, length, map, refl, ap, arith}
+use Rattle.std.specs.List.{flat_map}
 use Rattle.std.proofs.lemmas.List.{length-append}
 use Rattle.pn_text.specs.Scans.{tokens_of}
 use Rattle.pn_text.specs.declared.token.Token.{Token}
@@ -8,7 +8,6 @@ use Rattle.pn_text.proofs.Spans.{length-tokens_of}
 use Rattle.mdl_ast.specs.declared.items.Conf.{Conf}
 use Rattle.mdl_ast.specs.declared.items.Item.{Item}
 use Rattle.mdl_ast.specs.declared.items.Item.TheVariants as item
-use Rattle.mdl_check.specs.Spots.{spot, is_taken, included, spots_of, spots}
 use Rattle.mdl_parse.specs.WordsInText.{PlacedWord, TreeWord, Spells, placed_word, placed_words}
 use Rattle.mdl_parse.specs.ItemGrammar.{item_tree_words, conf_tree_words}
 use Rattle.mdl_parse.specs.Meaning.{IsConf}
@@ -45,31 +44,3 @@ few_items text c h short =
 pub shipped_few : length shipped_conf.items ≤ 1000
 unfolding shipped_conf
 shipped_few = omega arith
-
--- ---- with the items of the includes
-
-taken_few : (line : ℕ) (metrics : Bool) (shipped : List Item) → length (map (spot line) (filter (is_taken metrics) shipped)) ≤ length shipped
-taken_few line metrics [] = omega arith
-taken_few line metrics (i ∷ shipped) = go (is_taken metrics i) (filter (is_taken metrics) shipped) (taken_few line metrics shipped)
-  where
-    go : (b : Bool) (rest : List Item) → length (map (spot line) rest) ≤ length shipped → length (map (spot line) (cond b (i ∷ rest) rest)) ≤ length (i ∷ shipped)
-    go true rest few = omega (arith, few)
-    go false rest few = omega (arith, few)
-
-included_few : (shipped : List Item) (i : Item) → length (included shipped i) ≤ length shipped
-included_few shipped (item.Include i) = taken_few i.line i.metrics shipped
-included_few shipped (item.Sync s) = omega arith
-included_few shipped (item.Metric m) = omega arith
-included_few shipped (item.Constraint c) = omega arith
-included_few shipped (item.Hypothesis h) = omega arith
-included_few shipped (item.Search s) = omega arith
-included_few shipped (item.Phase p) = omega arith
-included_few shipped (item.Wish w) = omega arith
-
-spots_few : (shipped items : List Item) → length shipped ≤ 1000 → length (spots shipped items) ≤ 1001 * length items
-spots_few shipped [] h = omega arith
-spots_few shipped (i ∷ items) h = omega (arith, h, included_few shipped i, spots_few shipped items h, length-append (spots_of shipped i) (spots shipped items))
-
--- a number of 32 bits counts the items where there are some four million
-pub spots_counted : (shipped items : List Item) → length shipped ≤ 1000 → length items ≤ 4194304 → length (spots shipped items) < 2 ^ 32
-spots_counted shipped items h k = omega (arith, k, spots_few shipped items h)

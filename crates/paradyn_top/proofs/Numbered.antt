@@ -6,10 +6,10 @@ use Rattle.mdl_ast.specs.declared.items.Item.{Item}
 use Rattle.mdl_ast.specs.declared.items.Item.TheVariants.{Include, Sync, Metric, Constraint, Hypothesis, Search, Phase, Wish}
 use Rattle.mdl_ast.specs.declared.items.SearchDecl.{SearchDecl}
 use Rattle.mdl_ast.specs.declared.items.Wish.{Wish as TheWish}
-use Rattle.mdl_check.specs.Checking.{IsAnswer, fault_from, spot_of, metric_of, hypothesis_of, phase_of, search_behind, search_in, wish_with, wish_of}
+use Rattle.mdl_check.specs.Checking.{IsAnswer, fault_from, placed_of, metric_of, hypothesis_of, phase_of, search_behind, search_in, wish_with, wish_of}
 use Rattle.mdl_check.specs.Names.{metric_number}
 use Rattle.mdl_check.specs.Rules.{fault_of, is_cyclic, is_search, parents_of}
-use Rattle.mdl_check.specs.Spots.{Spot, Entry, entry, is_taken, spot, spots, spots_of}
+use Rattle.mdl_check.specs.Placed.{PlacedItem, Entry, entry, is_taken, placed, placed_items, with_included}
 use Rattle.mdl_check.specs.declared.checked.Checked.{Checked}
 use Rattle.mdl_check.specs.declared.fault.CheckKind.{CheckKind}
 use Rattle.mdl_check.specs.declared.fault.CheckKind.TheVariants.{TwiceNamed, WrongKind, CyclicParent}
@@ -17,7 +17,8 @@ use Rattle.mdl_parse.specs.Shipped.{shipped_conf}
 use Rattle.pn_types.specs.declared.focus.Focus.{Focus}
 use Rattle.resource_tree.specs.Resources.{Resources}
 use Rattle.session.specs.Given.{HasWindow}
-use Rattle.paradyn_top.proofs.FewItems.{shipped_few, spots_counted}
+use Rattle.mdl_check.proofs.Few.{placed_counted}
+use Rattle.paradyn_top.proofs.FewItems.{shipped_few}
 
 -- ---- how many
 
@@ -66,11 +67,11 @@ abbrev wishes_in : List Item → ℕ
 wishes_in [] = 0
 wishes_in (i ∷ items) = is_wish i + wishes_in items
 
-abbrev wishes_at : List Spot → ℕ
+abbrev wishes_at : List PlacedItem → ℕ
 wishes_at [] = 0
 wishes_at (s ∷ places) = is_wish s.item + wishes_at places
 
-wishes_at-append : (ps qs : List Spot) → wishes_at (ps ++ qs) ≡ wishes_at ps + wishes_at qs
+wishes_at-append : (ps qs : List PlacedItem) → wishes_at (ps ++ qs) ≡ wishes_at ps + wishes_at qs
 wishes_at-append [] qs = omega arith
 wishes_at-append (p ∷ ps) qs = omega (arith, wishes_at-append ps qs)
 
@@ -89,19 +90,19 @@ one_wish all (Search s) focus = omega arith
 one_wish all (Phase p) focus = omega arith
 one_wish all (Wish w) focus = one_if_found w (metric_number all w.metric) focus
 
-wishes_few : (all es : List Entry) → length (flat_map (λ e. wish_of all e.item e.focus) es) ≤ wishes_at (map spot_of es)
+wishes_few : (all es : List Entry) → length (flat_map (λ e. wish_of all e.item e.focus) es) ≤ wishes_at (map placed_of es)
 wishes_few all [] = omega arith
 wishes_few all (e ∷ es) = omega (arith, wishes_few all es, one_wish all e.item e.focus, length-append (wish_of all e.item e.focus) (flat_map (λ e. wish_of all e.item e.focus) es))
 
-taken_wishes : (line : ℕ) (metrics : Bool) (shipped : List Item) → wishes_at (map (spot line) (filter (is_taken metrics) shipped)) ≤ wishes_in shipped
+taken_wishes : (line : ℕ) (metrics : Bool) (shipped : List Item) → wishes_at (map (placed line) (filter (is_taken metrics) shipped)) ≤ wishes_in shipped
 taken_wishes line metrics [] = omega arith
 taken_wishes line metrics (i ∷ shipped) = go (is_taken metrics i) (filter (is_taken metrics) shipped) (taken_wishes line metrics shipped)
   where
-    go : (b : Bool) (rest : List Item) → wishes_at (map (spot line) rest) ≤ wishes_in shipped → wishes_at (map (spot line) (cond b (i ∷ rest) rest)) ≤ is_wish i + wishes_in shipped
+    go : (b : Bool) (rest : List Item) → wishes_at (map (placed line) rest) ≤ wishes_in shipped → wishes_at (map (placed line) (cond b (i ∷ rest) rest)) ≤ is_wish i + wishes_in shipped
     go true rest few = omega (arith, few)
     go false rest few = omega (arith, few)
 
-item_wishes : (shipped : List Item) → wishes_in shipped ≡ 0 → (item : Item) → wishes_at (spots_of shipped item) ≤ 1
+item_wishes : (shipped : List Item) → wishes_in shipped ≡ 0 → (item : Item) → wishes_at (with_included shipped item) ≤ 1
 item_wishes shipped none (Include i) = omega (arith, none, taken_wishes i.line i.metrics shipped)
 item_wishes shipped none (Sync s) = omega arith
 item_wishes shipped none (Metric m) = omega arith
@@ -111,10 +112,10 @@ item_wishes shipped none (Search s) = omega arith
 item_wishes shipped none (Phase p) = omega arith
 item_wishes shipped none (Wish w) = omega arith
 
-spots_wishes : (shipped : List Item) → wishes_in shipped ≡ 0 → (items : List Item) → wishes_at (spots shipped items) ≤ length items
-spots_wishes shipped none [] = omega arith
-spots_wishes shipped none (i ∷ items) =
-    omega (arith, item_wishes shipped none i, spots_wishes shipped none items, wishes_at-append (spots_of shipped i) (spots shipped items))
+placed_wishes : (shipped : List Item) → wishes_in shipped ≡ 0 → (items : List Item) → wishes_at (placed_items shipped items) ≤ length items
+placed_wishes shipped none [] = omega arith
+placed_wishes shipped none (i ∷ items) =
+    omega (arith, item_wishes shipped none i, placed_wishes shipped none items, wishes_at-append (with_included shipped i) (placed_items shipped items))
 
 none_shipped : wishes_in shipped_conf.items ≡ 0
 unfolding shipped_conf
@@ -132,9 +133,9 @@ pub numbered : (t : Resources) (items : List Item) (c : Checked) → IsAnswer t 
 numbered t items c (es, entries, none, is) few =
     let places = entries.places_are in
     let entries_few : length es < 2 ^ 32 =
-    omega (arith, length-map es spot_of, ap (λ (ps : List Spot). length ps) places, spots_counted shipped_conf.items items shipped_few few) in
+    omega (arith, length-map es placed_of, ap (λ (ps : List PlacedItem). length ps) places, placed_counted shipped_conf.items items shipped_few few) in
     subst IsNumbered (sym is) (record {
-      wishes = omega (arith, few, wishes_few es es, ap wishes_at places, spots_wishes shipped_conf.items none_shipped items);
+      wishes = omega (arith, few, wishes_few es es, ap wishes_at places, placed_wishes shipped_conf.items none_shipped items);
       metrics = omega (arith, entries_few, kind_few (λ e. metric_of e.line e.item) (λ e. one_metric e.line e.item) es);
       hypotheses = omega (arith, entries_few, kind_few (λ e. hypothesis_of e.line e.item) (λ e. one_hypothesis e.line e.item) es);
       phases = omega (arith, entries_few, kind_few (λ e. phase_of e.line e.item) (λ e. one_phase e.line e.item) es);

@@ -8,7 +8,7 @@ use Rattle.mdl_ast.specs.declared.items.Wish.{Wish as TheWish}
 use Rattle.mdl_ast.specs.declared.metric.Metric.{Metric as TheMetric}
 use Rattle.mdl_check.specs.Checking.{HasFocus, HaveFoci, IsAnswer, metric_of, wish_with, wish_of}
 use Rattle.mdl_check.specs.Names.{metric_name, number_from, metric_number}
-use Rattle.mdl_check.specs.Spots.{Entry}
+use Rattle.mdl_check.specs.Placed.{Entry}
 use Rattle.mdl_check.specs.declared.checked.Checked.{Checked}
 use Rattle.mdl_check.specs.declared.checked.CheckedWish.{CheckedWish}
 use Rattle.pn_types.specs.declared.focus.Focus.{Focus}

@@ -6,7 +6,7 @@ ghost use Rattle.std.specs.List.Sorted.{IsStrictlyIncreasing};
 ghost use Rattle.code_points.specs.Procedures.{procedures_of, AreModulesGood, AreProcsOf};
 ghost use Rattle.mdl_ast.specs.Small.{HasSmall};
 ghost use Rattle.mdl_check.specs.Sound.{IsSound};
-ghost use Rattle.mdl_check.specs.Spots.{spots};
+ghost use Rattle.mdl_check.specs.Placed.{placed_items};
 ghost use Rattle.mdl_parse.specs.Shipped.{shipped_conf};
 ghost use Rattle.mdl_plan.specs.Fitting.{HasLowObjects};
 ghost use Rattle.paradyn_top.specs.Found.{resources_of, IsFound, IsCheck};
@@ -52,7 +52,7 @@ fn resources(
 /// What the configuration holds of the resources.
 fn checked(alloc: Global, conf: &Conf, shipped: &Conf, tree: &Tree) -> Result<Checked, Refusal>
     requires shipped { shipped.now ≡ shipped_conf }
-    requires few { length (spots shipped.now.items conf.now.items) < 2 ^ 32 }
+    requires few { length (placed_items shipped.now.items conf.now.items) < 2 ^ 32 }
     requires small_shipped { AllByRecursion HasSmall shipped.now.items }
     requires small { AllByRecursion HasSmall conf.now.items }
     ensures checked { Comes result (IsCheck tree.now conf.now) }

@@ -1,5 +1,5 @@
 use Rattle.std.proofs.Common.{◌≡◌, ◌∙◌, ap, sym, arith, position, Some}
-use Rattle.mdl_check.specs.Spots.{is_hypothesis}
+use Rattle.mdl_check.specs.Placed.{is_hypothesis}
 use Rattle.directives.specs.Hypotheses.{is_named}
 use Rattle.directives.proofs.Fronting.{front_of, put_in_front, none_named}
 use Rattle.directives.proofs.front.put_first.Goals as goal

@@ -7,4 +7,4 @@ abbrev pub invariant-directives : goal.invariant-directives
 invariant-directives l = directives_of l.text ≡ with_front l.directives.items (directives_from l.words)
 
 abbrev pub decreases-directives : goal.decreases-directives
-decreases-directives l = length l.words.spots
+decreases-directives l = length l.words.words_ahead

@@ -3,4 +3,4 @@ use Rattle.mdl_check.specs.Checking.{wish_of}
 use Rattle.mdl_check.proofs.collect.wishes.Given as goal
 
 abbrev pub invariant-loop-entry : goal.invariant-loop-entry
-invariant-loop-entry l = l.wishes.items ≡ flat_map (λ e. wish_of l.all e.item e.focus) (take l.entry-index l.all)
+invariant-loop-entry l = l.wishes.items ≡ flat_map (λ e. wish_of l.index e.item e.focus) (take l.entry-index l.entry-items)

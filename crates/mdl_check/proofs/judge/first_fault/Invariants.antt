@@ -3,4 +3,7 @@ use Rattle.mdl_check.specs.Checking.{fault_from}
 use Rattle.mdl_check.proofs.judge.first_fault.Given as goal
 
 abbrev pub invariant-loop-place : goal.invariant-loop-place
-invariant-loop-place l = fault_from l.all (take l.place l.all) (drop l.place l.all) ≡ fault_from l.all [] l.all
+invariant-loop-place l = record {
+  before : l.before ≡ take l.place l.all;
+  same : fault_from l.all (take l.place l.all) (drop l.place l.all) ≡ fault_from l.all [] l.all;
+}

@@ -2,5 +2,5 @@ use Rattle.std.proofs.Common.{take}
 use Rattle.mdl_check.specs.Checking.{AreEntries}
 use Rattle.mdl_check.proofs.places.entries.Given as goal
 
-abbrev pub invariant-loop-spot : goal.invariant-loop-spot
-invariant-loop-spot l = AreEntries l.tree (take l.spot-index l.spots) l.entries.items
+abbrev pub invariant-loop-placed : goal.invariant-loop-placed
+invariant-loop-placed l = AreEntries l.tree (take l.placed-index l.placed_items) l.entries.items

@@ -10,13 +10,14 @@ use Rattle.refusals.specs.Refusals.{Refuses}
 use Rattle.resource_tree.specs.Resources.{Resources}
 use Rattle.paradyn_top.specs.Found.{IsCheck, IsFound, AreFound}
 use Rattle.paradyn_top.specs.declared.finding.Found.{Found}
-use Rattle.paradyn_top.proofs.FewItems.{shipped_few, spots_counted}
+use Rattle.mdl_check.proofs.Few.{placed_counted}
+use Rattle.paradyn_top.proofs.FewItems.{shipped_few}
 use Rattle.paradyn_top.proofs.Given.{given}
 use Rattle.paradyn_top.proofs.finding.find.Goals as goal
 
 pub checked-requires-clause-few : goal.checked-requires-clause-few
 checked-requires-clause-few c =
-    spots_counted c.in_ok-shipped.shipped.items c.args.conf.now.items (omega (arith, ap (λ (k : Conf). length k.items) c.in_ok-shipped.ensures.conf, shipped_few)) c.requires.few
+    placed_counted c.in_ok-shipped.shipped.items c.args.conf.now.items (omega (arith, ap (λ (k : Conf). length k.items) c.in_ok-shipped.ensures.conf, shipped_few)) c.requires.few
 
 pub returns-in_err-checked-clause-found : goal.returns-in_err-checked-clause-found
 returns-in_err-checked-clause-found c =

@@ -5,12 +5,12 @@ use Rattle.mdl_ast.specs.declared.items.Item.TheVariants.{Include, Sync, Metric,
 use Rattle.pn_types.specs.declared.focus.Focus.{Focus}
 
 -- an item and its line
-pub record Spot : Type 0 where
+pub record PlacedItem : Type 0 where
   pub line : ℕ
   pub item : Item
 
-abbrev pub spot : ℕ → Item → Spot
-spot line item = record { line = line; item = item }
+abbrev pub placed : ℕ → Item → PlacedItem
+placed line item = record { line = line; item = item }
 
 -- an item and its line, with the focus that it selects if it is a wish
 pub record Entry : Type 0 where
@@ -41,14 +41,14 @@ abbrev pub is_taken : Bool → Item → Bool
 is_taken metrics item = if metrics then not (is_hypothesis item) else is_hypothesis item
 
 -- the items that an item includes, at its line
-abbrev pub included : List Item → Item → List Spot
-included shipped (Include i) = map (spot i.line) (filter (is_taken i.metrics) shipped)
+abbrev pub included : List Item → Item → List PlacedItem
+included shipped (Include i) = map (placed i.line) (filter (is_taken i.metrics) shipped)
 included shipped item = []
 
 -- an item, and behind it those that it includes
-abbrev pub spots_of : List Item → Item → List Spot
-spots_of shipped item = spot (line_of item) item ∷ included shipped item
+abbrev pub with_included : List Item → Item → List PlacedItem
+with_included shipped item = placed (line_of item) item ∷ included shipped item
 
 -- all items in their order
-abbrev pub spots : List Item → List Item → List Spot
-spots shipped items = flat_map (spots_of shipped) items
+abbrev pub placed_items : List Item → List Item → List PlacedItem
+placed_items shipped items = flat_map (with_included shipped) items

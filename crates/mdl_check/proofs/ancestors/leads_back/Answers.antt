@@ -1,6 +1,6 @@
 use Rattle.std.proofs.Common.{◌≡◌, suc, ◌+◌, ◌-◌, length, arith}
 use Rattle.mdl_check.proofs.Steps.{one_step}
-use Rattle.mdl_check.proofs.ancestors.is_cyclic.Goals as goal
+use Rattle.mdl_check.proofs.ancestors.leads_back.Goals as goal
 
 pub loop-step-preserved : goal.loop-step-preserved
 loop-step-preserved c =
