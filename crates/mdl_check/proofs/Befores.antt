@@ -20,7 +20,7 @@ use Rattle.mdl_check.specs.Indexes.{names_in, asked_behind, IsAsked}
 use Rattle.mdl_check.specs.Sights.{sight, is_same_sight, AreShown, IsFirstSight}
 use Rattle.mdl_check.specs.declared.before.Asked.{Asked}
 use Rattle.mdl_check.specs.declared.names.Namespace.{Namespace}
-use Rattle.mdl_check.specs.declared.same.Sight.{Sight}
+use Rattle.mdl_check.specs.declared.sight.Sight.{Sight}
 use denote.Ref.{Bor}
 
 pub one_more_name : (n : Namespace) (es : List Entry) (e : Entry) → names_in n es ++ option_to_list (name_in n e.item) ≡ names_in n (es ++ e ∷ [])
@@ -99,9 +99,9 @@ one_more_sight es e s old new first h put metric f =
 
 -- ---- the whole
 
-pub more_names : (n : Namespace) (es all : List Entry) (e : Entry) (old new : List (List ℕ)) (o : Option (List ℕ)) → old ≡ names_in n es → es ++ e ∷ [] ≡ all → new ≡ old ++ option_to_list o → o ≡ name_in n e.item → new ≡ names_in n all
-more_names n es all e old new o are whole more is =
-    more ∙ ap (λ (l : List (List ℕ)). l ++ option_to_list o) are ∙ ap (λ (p : Option (List ℕ)). names_in n es ++ option_to_list p) is ∙ one_more_name n es e ∙ ap (names_in n) whole
+pub more_names : (n : Namespace) (es all : List Entry) (e : Entry) (old new : List (List ℕ)) → old ≡ names_in n es → es ++ e ∷ [] ≡ all → new ≡ old ++ option_to_list (name_in n e.item) → new ≡ names_in n all
+more_names n es all e old new are whole more =
+    more ∙ ap (λ (l : List (List ℕ)). l ++ option_to_list (name_in n e.item)) are ∙ one_more_name n es e ∙ ap (names_in n) whole
 
 and_never : (b : Bool) → (b && false) ≡ false
 and_never true = refl

@@ -1,18 +1,12 @@
 -- Items that are cleared.
-use Rattle.std.proofs.Common.{◌≡◌, ℕ, zero, suc, ◌+◌, ◌<◌, ◌==◌, ◌||◌, Bool, true, false, Option, Some, None, List, [], ◌∷◌, ◌++◌, length, map, replicate, set, get_or, slice_get, refl, sym, ap, ◌∙◌, subst, arith, eqb-true, eq-eqb}
+use Rattle.std.proofs.Common.{◌≡◌, ℕ, zero, suc, ◌+◌, ◌<◌, ◌==◌, ◌||◌, Bool, true, false, Option, Some, None, List, [], ◌∷◌, ◌++◌, length, map, replicate, set, get_or, refl, sym, ap, ◌∙◌, subst, arith, eqb-true, eq-eqb}
 use Rattle.std.proofs.Math.Bool.{or-true}
 use Rattle.std.proofs.lemmas.List.{get_or-map, get_or-set_same, get_or-set_other, length-map, length-replicate, length-set, map-set}
-use Rattle.std.proofs.lemmas.Option.{slice_get_within}
-use Rattle.std.specs.Option.{option_and_then}
 use Rattle.std.proofs.lemmas.List.Folds.{list_any-append}
 use Rattle.std.specs.Prelude.{slice_index_or}
 use Rattle.mdl_check.specs.Rules.{parent_at, is_cyclic}
 use Rattle.mdl_check.specs.Ancestry.{has, is_clear, noted, HaveChildren, KeepsOthers, IsAncestry}
-use Rattle.mdl_check.proofs.Cycles.{cyclic_child}
-
-clash : (b : Bool) → b ≡ true → b ≡ false → ⊥
-clash true h g = cc
-clash false h g = cc
+use Rattle.mdl_check.proofs.Cycles.{clash, has_place, cyclic_child}
 
 decided : (b : Bool) → (b ≡ true → ⊥) → b ≡ false
 decided true h = absurd (h refl)
@@ -168,13 +162,6 @@ pub at_first : (parents : List (Option ℕ)) (children : List (List ℕ)) (clear
 at_first parents children clear many h are = record {
   many = many;
   many_clear = ap length are ∙ length-replicate (length parents) false;
-  children_stand = λ child p few at. ap (λ (b : Bool). b || is_clear clear child) (h child p (within child p at) few at);
+  children_stand = λ child p few at. ap (λ (b : Bool). b || is_clear clear child) (h child p (has_place parents child p at) few at);
   clear_are = λ place known. absurd (clash (is_clear clear place) known (ap (λ (l : List Bool). is_clear l place) are ∙ none_clear (length parents) place));
 }
-  where
-    within : (child p : ℕ) → parent_at parents child ≡ Some p → child < length parents
-    within child p at = by (slice_get parents child) refl at
-      where
-        by : (o : Option (Option ℕ)) → slice_get parents child ≡ o → option_and_then (λ parent. parent) o ≡ Some p → child < length parents
-        by None e g = absurd cc
-        by (Some parent) e g = slice_get_within parents child parent e

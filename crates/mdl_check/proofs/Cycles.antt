@@ -1,7 +1,19 @@
 -- An item is its own ancestor only if a child of it is.
-use Rattle.std.proofs.Common.{◌≡◌, ℕ, zero, suc, ◌<◌, ◌==◌, ◌||◌, Bool, true, false, Option, Some, None, List, length, refl, sym, ap, ◌∙◌, arith, eqb-true, eq-eqb}
+use Rattle.std.proofs.Common.{◌≡◌, ℕ, zero, suc, ◌<◌, ◌==◌, ◌||◌, Bool, true, false, Option, Some, None, List, length, slice_get, refl, sym, ap, ◌∙◌, arith, eqb-true, eq-eqb}
 use Rattle.std.specs.Option.{option_and_then}
+use Rattle.std.proofs.lemmas.Option.{slice_get_within}
 use Rattle.mdl_check.specs.Rules.{parent_at, leads_to, is_cyclic}
+
+pub clash : (b : Bool) → b ≡ true → b ≡ false → ⊥
+clash true h g = cc
+clash false h g = cc
+
+pub has_place : (parents : List (Option ℕ)) (place parent : ℕ) → parent_at parents place ≡ Some parent → place < length parents
+has_place parents place parent h = by (slice_get parents place) refl h
+  where
+    by : (o : Option (Option ℕ)) → slice_get parents place ≡ o → option_and_then (λ parent. parent) o ≡ Some parent → place < length parents
+    by None e g = absurd cc
+    by (Some p) e g = slice_get_within parents place p e
 
 -- so many generations above
 abbrev pub up : List (Option ℕ) → ℕ → Option ℕ → Option ℕ

@@ -9,4 +9,5 @@ mod Entries
 mod OneAnswer
 mod Fitting
 mod Sounding
+mod Judged
 pub mod Few

@@ -143,10 +143,10 @@ stands_is n name es = stands_somewhere name (names_in n es) ∙ any_name n name 
 pub metric_at : (name : List ℕ) (es all : List Entry) (names : List (List ℕ)) → names ≡ metric_names es → es ≡ all → first_place name names ≡ metric_number all name
 metric_at name es all names are same = ap (first_place name) are ∙ metric_is name es ∙ ap (λ (l : List Entry). metric_number l name) same
 
-pub constraint_at : (name : List ℕ) (es all : List Entry) (names : List (List ℕ)) (taken : List TheConstraint) (o : Option ℕ) → names ≡ constraint_names es → taken ≡ constraints_in es → es ≡ all → o ≡ first_place name names →
-    option_and_then (slice_get taken) o ≡ constraint_named all name
-constraint_at name es all names taken o are values same h =
-    ap (option_and_then (slice_get taken)) (h ∙ ap (first_place name) are)
+pub constraint_at : (name : List ℕ) (es all : List Entry) (names : List (List ℕ)) (uses : List TheConstraint) (o : Option ℕ) → names ≡ constraint_names es → uses ≡ constraints_in es → es ≡ all → o ≡ first_place name names →
+    option_and_then (slice_get uses) o ≡ constraint_named all name
+constraint_at name es all names uses o are values same h =
+    ap (option_and_then (slice_get uses)) (h ∙ ap (first_place name) are)
     ∙ ap (λ (l : List TheConstraint). option_and_then (slice_get l) (first_place name (constraint_names es))) values
     ∙ constraint_is name es
     ∙ ap (λ (l : List Entry). constraint_named l name) same

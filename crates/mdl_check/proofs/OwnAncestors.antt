@@ -1,17 +1,12 @@
 -- An item that is its own ancestor is so within as many generations as there are items.
-use Rattle.std.proofs.Common.{◌≡◌, ℕ, zero, suc, ◌+◌, ◌-◌, ◌<◌, ◌≤◌, ◌==◌, ◌||◌, eqb, Bool, true, false, Option, Some, None, List, [], ◌∷◌, length, slice_get, refl, sym, ap, ◌∙◌, arith, eqb-true}
+use Rattle.std.proofs.Common.{◌≡◌, ℕ, zero, suc, ◌+◌, ◌-◌, ◌<◌, ◌≤◌, ◌==◌, ◌||◌, eqb, Bool, true, false, Option, Some, None, List, [], ◌∷◌, length, refl, sym, ap, ◌∙◌, arith, eqb-true}
 use Rattle.std.specs.List.{list_any, AllByRecursion, IsDistinct}
 use Rattle.std.specs.Option.{option_and_then}
 use Rattle.std.proofs.lemmas.Bool.{or_parts}
 use Rattle.std.proofs.lemmas.Map.Steps.{length-le_from_distinct_below}
-use Rattle.std.proofs.lemmas.Option.{slice_get_within}
 use Rattle.mdl_check.specs.Ancestors.{IsAncestor, Parent, Higher, CyclicIsOwnAncestor}
 use Rattle.mdl_check.specs.Rules.{parent_at, leads_to, is_cyclic}
-use Rattle.mdl_check.proofs.Cycles.{up, above_none, steps_of, leads}
-
-clash : (b : Bool) → b ≡ true → b ≡ false → ⊥
-clash true h g = cc
-clash false h g = cc
+use Rattle.mdl_check.proofs.Cycles.{clash, has_place, up, above_none, steps_of, leads}
 
 module _ (parents : List (Option ℕ)) where
   -- ---- so many generations, and the relation
@@ -81,13 +76,6 @@ module _ (parents : List (Option ℕ)) where
         distinct p k (parent_at parents a) parts.1 e,
       )
 
-  within : (place a : ℕ) → parent_at parents place ≡ Some a → place < length parents
-  within place a h = by (slice_get parents place) refl h
-    where
-      by : (o : Option (Option ℕ)) → slice_get parents place ≡ o → option_and_then (λ parent. parent) o ≡ Some a → place < length parents
-      by None e g = absurd cc
-      by (Some parent) e g = slice_get_within parents place parent e
-
   -- each has a parent
   below : (p k : ℕ) (o : Option ℕ) → p < length parents → up parents k o ≡ Some p → (q : ℕ) → list_any (eqb q) (from k o) ≡ true → q < length parents
   below p k o few e q h = by (k - r.0) refl
@@ -100,7 +88,7 @@ module _ (parents : List (Option ℕ)) where
 
       parent : (n : ℕ) (t : Option ℕ) → parent_at parents q ≡ t → up parents n t ≡ Some p → q < length parents
       parent n None s g = let f = sym (above_none parents n) ∙ g in absurd cc
-      parent n (Some a) s g = within q a s
+      parent n (Some a) s g = has_place parents q a s
 
       by : (n : ℕ) → k - r.0 ≡ n → q < length parents
       by zero s = let same : Some q ≡ Some p = above 0 s in let is : q ≡ p = cc in omega (arith, is, few)
@@ -117,7 +105,7 @@ module _ (parents : List (Option ℕ)) where
     where
       has_parent : (o : Option ℕ) → parent_at parents p ≡ o → up parents k o ≡ Some p → p < length parents
       has_parent None s g = let f = sym (above_none parents k) ∙ g in absurd cc
-      has_parent (Some a) s g = within p a s
+      has_parent (Some a) s g = has_place parents p a s
 
       by : (b : Bool) → leads_to parents k p (parent_at parents p) ≡ b → ((j : ℕ) → j < fuel → up parents j (parent_at parents p) ≡ Some p → is_cyclic parents p ≡ true) → is_cyclic parents p ≡ true
       by true h again = let u = steps_of parents k p (parent_at parents p) h in again u.steps (omega (arith, u.few, lt)) u.there

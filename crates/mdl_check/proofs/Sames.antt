@@ -6,8 +6,8 @@ use Rattle.pn_types.specs.declared.focus.CodePart.TheVariants.{All, Module, Proc
 use Rattle.pn_types.specs.contracts.focus.CodePartPartialEq.TheImpl as code
 use Rattle.mdl_check.specs.Rules.{is_same_code, is_same_number}
 use Rattle.mdl_check.specs.Sights.{is_same_sight}
-use Rattle.mdl_check.specs.contracts.same.SightPartialEq.TheImpl as it
-use Rattle.mdl_check.specs.declared.same.Sight.{Sight}
+use Rattle.mdl_check.specs.contracts.sight.SightPartialEq.TheImpl as it
+use Rattle.mdl_check.specs.declared.sight.Sight.{Sight}
 
 code_is : (a b : CodePart) → code.eq-value.it a b ≡ is_same_code a b
 code_is All All = refl

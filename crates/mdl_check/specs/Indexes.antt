@@ -7,11 +7,12 @@ use Rattle.mdl_ast.specs.declared.metric.Constraint.{Constraint as TheConstraint
 use Rattle.mdl_check.specs.Placed.{Entry}
 use Rattle.mdl_check.specs.Names.{name_in, metric_name, as_constraint}
 use Rattle.mdl_check.specs.Rules.{is_include, is_search, last_tick, tick_behind}
-use Rattle.mdl_check.specs.Sights.{AreShown}
+use Rattle.mdl_check.specs.Sights.{AreShown, ShowsMore}
 use Rattle.mdl_check.specs.declared.before.Asked.{Asked}
+use Rattle.mdl_check.specs.declared.before.Noted.{Noted}
 use Rattle.mdl_check.specs.declared.names.Namespace.{Namespace}
 use Rattle.mdl_check.specs.declared.names.Namespace.TheVariants as namespace
-use Rattle.mdl_check.specs.declared.same.Sight.{Sight}
+use Rattle.mdl_check.specs.declared.sight.Sight.{Sight}
 
 -- ---- all items
 
@@ -36,10 +37,10 @@ abbrev pub places_from : ℕ → List Entry → List ℕ
 places_from k [] = []
 places_from k (e ∷ es) = place_if e k ++ places_from (k + 1) es
 
-pub record IsIndexOf (es : List Entry) (metrics constraints : List (List ℕ)) (taken : List TheConstraint) (hypotheses : List (List ℕ)) (places : List ℕ) : Type 0 where
+pub record IsIndexOf (es : List Entry) (metrics constraints : List (List ℕ)) (uses : List TheConstraint) (hypotheses : List (List ℕ)) (places : List ℕ) : Type 0 where
   pub metrics_are : metrics ≡ metric_names es
   pub constraints_are : constraints ≡ constraint_names es
-  pub taken_are : taken ≡ constraints_in es
+  pub uses_are : uses ≡ constraints_in es
   pub hypotheses_are : hypotheses ≡ names_in namespace.Hypotheses es
   pub places_are : places ≡ places_from 0 es
 
@@ -55,6 +56,12 @@ asked_behind a item = record {
   search = a.search || is_search item;
   tick = tick_behind a.tick item;
 }
+
+pub record NotesMore (e : Entry) (old new : Noted) : Type 0 where
+  pub variables : new.variables ≡ old.variables ++ option_to_list (name_in namespace.Variables e.item)
+  pub hypotheses : new.hypotheses ≡ old.hypotheses ++ option_to_list (name_in namespace.Hypotheses e.item)
+  pub phases : new.phases ≡ old.phases ++ option_to_list (name_in namespace.Phases e.item)
+  pub shown : ShowsMore e old.shown.keys new.shown.keys
 
 pub record IsAsked (es : List Entry) (a : Asked) : Type 0 where
   pub metrics : a.metrics ≡ list_any (λ e. is_include true e.item) es

@@ -5,6 +5,7 @@ pub mod Rules
 pub mod Ancestors
 pub mod Checking
 pub mod Sound
+pub mod Judged
 pub mod Sights
 pub mod Indexes
 pub mod Ancestry

@@ -6,7 +6,7 @@ use Rattle.pn_types.specs.declared.focus.Focus.{Focus}
 use Rattle.mdl_ast.specs.declared.items.Item.{Item}
 use Rattle.mdl_check.specs.Placed.{Entry}
 use Rattle.mdl_check.specs.Rules.{is_same_code, is_same_number, is_shown_by}
-use Rattle.mdl_check.specs.declared.same.Sight.{Sight}
+use Rattle.mdl_check.specs.declared.sight.Sight.{Sight}
 use denote.Ref.{Bor}
 
 abbrev pub sight : Bor (List ℕ) → Focus → Sight

@@ -4,12 +4,12 @@ ghost use Rattle.std.specs.Prelude.{◌≡◌, ◌++◌, ◌∷◌, [], IfOk, On
 ghost use Rattle.std.specs.List.{list_any};
 ghost use Rattle.mdl_check.specs.Names.{stands};
 ghost use Rattle.mdl_check.specs.Rules.{is_include, is_search, is_shown_by, last_tick, tick_behind};
-ghost use Rattle.mdl_check.specs.Indexes.{asked_behind, none_asked};
+ghost use Rattle.mdl_check.specs.Indexes.{NotesMore, asked_behind, none_asked};
 ghost use Rattle.mdl_check.specs.Sights.{Puts, ShowsMore, is_same_sight};
 
 use crate::entry::Entry;
 use crate::names::{Namespace, add_name, name_in};
-use crate::same::{Sight, first_sight};
+use crate::sight::{Sight, first_sight};
 use first_places::FirstPlaces;
 use mdl_ast::Item;
 use pn_types::{Focus, NoMemory};
@@ -85,16 +85,22 @@ impl Asked {
     }
 }
 
+/// What items name, and what they show from the beginning on.
+#[derive(Drop)]
+struct Noted<'a> {
+    variables: FirstPlaces,
+    hypotheses: FirstPlaces,
+    phases: FirstPlaces,
+    /// What is to be shown from the beginning on.
+    shown: HashSet<Sight<'a>>,
+}
+
 /// The items before one, and what they name and ask for.
 #[derive(Drop)]
 pub(crate) struct Before<'e, 'a> {
     items: &'e [Entry<'a>],
-    variables: FirstPlaces,
-    hypotheses: FirstPlaces,
-    phases: FirstPlaces,
+    noted: Noted<'a>,
     asked: Asked,
-    /// What is to be shown from the beginning on.
-    shown: HashSet<Sight<'a>>,
 }
 
 impl<'e, 'a> Model for Before<'e, 'a> {
@@ -106,7 +112,7 @@ impl<'e, 'a> Model for Before<'e, 'a> {
 
     ghost view = { λ b. b.items.now };
 
-    ghost invariant = { λ b. IsBefore b.items.now b.variables b.hypotheses b.phases b.asked b.shown.keys };
+    ghost invariant = { λ b. IsBefore b.items.now b.noted.variables b.noted.hypotheses b.noted.phases b.asked b.noted.shown.keys };
 }
 
 /// Whether a sight is among those that are shown.
@@ -133,6 +139,27 @@ fn add_shown<'a>(shown: &mut HashSet<Sight<'a>>, entry: &Entry<'a>) -> Result<()
     Ok(())
 }
 
+impl<'a> Noted<'a> {
+    /// Notes one more item.
+    fn add(&mut self, alloc: Global, entry: &Entry<'a>) -> Result<(), NoMemory>
+        ensures { OnOk result (NotesMore entry.now self.old self.new) }
+    {
+        let item = entry.item();
+        add_name(
+            alloc,
+            &mut self.variables,
+            name_in(Namespace::Variables, item),
+        )?;
+        add_name(
+            alloc,
+            &mut self.hypotheses,
+            name_in(Namespace::Hypotheses, item),
+        )?;
+        add_name(alloc, &mut self.phases, name_in(Namespace::Phases, item))?;
+        add_shown(&mut self.shown, entry)
+    }
+}
+
 impl<'e, 'a> Before<'e, 'a> {
     /// What stands before the first item.
     pub(crate) fn first(alloc: Global) -> Before<'e, 'a>
@@ -140,11 +167,13 @@ impl<'e, 'a> Before<'e, 'a> {
     {
         Before {
             items: &[],
-            variables: FirstPlaces::new(alloc),
-            hypotheses: FirstPlaces::new(alloc),
-            phases: FirstPlaces::new(alloc),
+            noted: Noted {
+                variables: FirstPlaces::new(alloc),
+                hypotheses: FirstPlaces::new(alloc),
+                phases: FirstPlaces::new(alloc),
+                shown: HashSet::new(alloc),
+            },
             asked: Asked::none(),
-            shown: HashSet::new(alloc),
         }
     }
 
@@ -158,26 +187,16 @@ impl<'e, 'a> Before<'e, 'a> {
         requires { items.now ≡ self ++ entry.now ∷ [] }
         ensures { IfOk result (λ more. more ≡ items.now) }
     {
-        let item = entry.item();
         let Before {
-            mut variables,
-            mut hypotheses,
-            mut phases,
+            mut noted,
             asked,
-            mut shown,
             ..
         } = self;
-        add_name(alloc, &mut variables, name_in(Namespace::Variables, item))?;
-        add_name(alloc, &mut hypotheses, name_in(Namespace::Hypotheses, item))?;
-        add_name(alloc, &mut phases, name_in(Namespace::Phases, item))?;
-        add_shown(&mut shown, entry)?;
+        noted.add(alloc, entry)?;
         Ok(Before {
             items,
-            variables,
-            hypotheses,
-            phases,
-            asked: asked.behind(item),
-            shown,
+            noted,
+            asked: asked.behind(entry.item()),
         })
     }
 
@@ -193,9 +212,9 @@ impl<'e, 'a> Before<'e, 'a> {
         ensures { result ≡ stands namespace name.now self.now }
     {
         let names = match namespace {
-            Namespace::Variables => &self.variables,
-            Namespace::Hypotheses => &self.hypotheses,
-            Namespace::Phases => &self.phases,
+            Namespace::Variables => &self.noted.variables,
+            Namespace::Hypotheses => &self.noted.hypotheses,
+            Namespace::Phases => &self.noted.phases,
         };
         names.lookup(name).is_some()
     }
@@ -230,7 +249,7 @@ impl<'e, 'a> Before<'e, 'a> {
         ensures { result ≡ list_any (λ e. is_shown_by metric.now focus e.item e.focus) self.now }
     {
         match focus {
-            Some(focus) => is_shown(&self.shown, Sight::new(metric, focus)),
+            Some(focus) => is_shown(&self.noted.shown, Sight::new(metric, focus)),
             None => false,
         }
     }

@@ -7,9 +7,11 @@ ghost use Rattle.mdl_check.specs.Sound.{IsSound};
 ghost use Rattle.mdl_check.specs.Placed.{placed_items};
 ghost use Rattle.mdl_check.specs.Ancestors.{CyclicIsOwnAncestor};
 ghost use Rattle.mdl_check.specs.Checking.{IsAnswer, OneAnswer, sync_of, prefixes_of};
+ghost use Rattle.mdl_check.specs.Judged.{IsJudged};
 
 use crate::checked::Checked;
 use crate::collect::checked;
+use crate::entry::Entry;
 use crate::fault::CheckFault;
 use crate::index::Index;
 use crate::judge::first_fault;
@@ -18,6 +20,26 @@ use mdl_ast::{Conf, Item};
 use pn_types::{NoMemory, Text};
 use resource_tree::{Tree, one_reading};
 use std::alloc::Global;
+
+/// What the items of this index are answered with.
+fn judged_by(alloc: Global, index: &Index<'_, '_>) -> Result<Checked, CheckFault>
+    requires { length index.now < 2 ^ 32 }
+    ensures { IsJudged index.now result }
+{
+    if let Some((line, kind)) = first_fault(alloc, index)? {
+        return Err(CheckFault::At { line, kind });
+    }
+    Ok(checked(alloc, index)?)
+}
+
+/// What these items are answered with.
+fn judged(alloc: Global, all: &[Entry<'_>]) -> Result<Checked, CheckFault>
+    requires { length all.now < 2 ^ 32 }
+    ensures { IsJudged all.now result }
+{
+    let index = Index::of(alloc, all)?;
+    judged_by(alloc, &index)
+}
 
 /// Checks a configuration against the tree of a program's resources, where `include metrics` stands for the shipped
 /// items that are no hypotheses, and `include hypotheses` for the others. An included item has the line of its include.
@@ -48,11 +70,7 @@ pub fn check(alloc: Global, conf: &Conf, shipped: &Conf, tree: &Tree) -> Result<
 {
     let places = placed_items(alloc, shipped.items.as_slice(), conf.items.as_slice())?;
     let all = entries(alloc, tree, &places)?;
-    let index = Index::of(alloc, &all)?;
-    if let Some((line, kind)) = first_fault(alloc, &index)? {
-        return Err(CheckFault::At { line, kind });
-    }
-    Ok(checked(alloc, &index)?)
+    judged(alloc, &all)
 }
 
 /// The check of a configuration has one answer, unless memory is wanting.

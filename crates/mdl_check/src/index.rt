@@ -19,13 +19,13 @@ use std::marker::Model;
 
 /// A constraint, and how it uses `$metric`.
 #[derive(Drop)]
-pub(crate) struct Taken<'a> {
+pub(crate) struct ConstraintUse<'a> {
     constraint: &'a Constraint,
     as_counter: bool,
     as_timer: bool,
 }
 
-impl<'a> Model for Taken<'a> {
+impl<'a> Model for ConstraintUse<'a> {
     ghost use Rattle.std.specs.Prelude.{◌≡◌, None};
     ghost use Rattle.mdl_ast.specs.declared.metric.Constraint.{Constraint};
     ghost use Rattle.mdl_check.specs.Statements.{have};
@@ -33,17 +33,17 @@ impl<'a> Model for Taken<'a> {
 
     ghost Value = { Constraint };
 
-    ghost view = { λ t. t.constraint.now };
+    ghost view = { λ u. u.constraint.now };
 
-    ghost invariant = { λ t. (t.as_counter ≡ have uses.AsCounter None t.constraint.now.blocks) × (t.as_timer ≡ have uses.AsTimer None t.constraint.now.blocks) };
+    ghost invariant = { λ u. (u.as_counter ≡ have uses.AsCounter None u.constraint.now.blocks) × (u.as_timer ≡ have uses.AsTimer None u.constraint.now.blocks) };
 }
 
-impl<'a> Taken<'a> {
-    fn new(constraint: &'a Constraint) -> Taken<'a>
+impl<'a> ConstraintUse<'a> {
+    fn new(constraint: &'a Constraint) -> ConstraintUse<'a>
         ensures { result ≡ constraint.now }
     {
         let blocks = constraint.blocks.as_slice();
-        Taken {
+        ConstraintUse {
             constraint,
             as_counter: have(Use::AsCounter, None, blocks),
             as_timer: have(Use::AsTimer, None, blocks),
@@ -77,7 +77,7 @@ pub(crate) struct Index<'e, 'a> {
     metrics: FirstPlaces,
     constraints: FirstPlaces,
     /// The constraints in their order.
-    taken: Vec<Taken<'a>>,
+    uses: Vec<ConstraintUse<'a>>,
     hypotheses: FirstPlaces,
     /// The places of the hypotheses among all items.
     places: Vec<usize>,
@@ -92,27 +92,27 @@ impl<'e, 'a> Model for Index<'e, 'a> {
 
     ghost view = { λ i. i.all.now };
 
-    ghost invariant = { λ i. IsIndexOf i.all.now i.metrics i.constraints i.taken.items i.hypotheses i.places.items };
+    ghost invariant = { λ i. IsIndexOf i.all.now i.metrics i.constraints i.uses.items i.hypotheses i.places.items };
 }
 
-fn add_taken<'a>(taken: &mut Vec<Taken<'a>>, entry: &Entry<'a>) -> Result<(), NoMemory>
-    ensures { OnOk result (taken.new.items ≡ taken.old.items ++ option_to_list (as_constraint entry.now.item)) }
+fn add_use<'a>(uses: &mut Vec<ConstraintUse<'a>>, entry: &Entry<'a>) -> Result<(), NoMemory>
+    ensures { OnOk result (uses.new.items ≡ uses.old.items ++ option_to_list (as_constraint entry.now.item)) }
 {
     if let Some(constraint) = as_constraint(entry.item()) {
-        taken.push(Taken::new(constraint))?;
+        uses.push(ConstraintUse::new(constraint))?;
     }
     Ok(())
 }
 
 /// The constraints, each looked through once.
-fn taken_constraints<'a>(alloc: Global, all: &[Entry<'a>]) -> Result<Vec<Taken<'a>>, NoMemory>
-    ensures { IfOk result (λ taken. taken.items ≡ constraints_in all.now) }
+fn constraint_uses<'a>(alloc: Global, all: &[Entry<'a>]) -> Result<Vec<ConstraintUse<'a>>, NoMemory>
+    ensures { IfOk result (λ uses. uses.items ≡ constraints_in all.now) }
 {
-    let mut taken = Vec::new(alloc);
+    let mut uses = Vec::new(alloc);
     for entry in all {
-        add_taken(&mut taken, entry)?;
+        add_use(&mut uses, entry)?;
     }
-    Ok(taken)
+    Ok(uses)
 }
 
 /// Puts the place of an item last, if it is a hypothesis.
@@ -137,10 +137,13 @@ fn hypothesis_places(alloc: Global, all: &[Entry<'_>]) -> Result<Vec<usize>, NoM
 }
 
 /// The constraint of this number.
-fn constraint_at<'s, 'a>(taken: &'s [Taken<'a>], number: usize) -> Option<&'s Taken<'a>>
-    ensures { option_map (λ taken. taken.now) result ≡ slice_get taken.now number }
+fn constraint_at<'s, 'a>(
+    uses: &'s [ConstraintUse<'a>],
+    number: usize,
+) -> Option<&'s ConstraintUse<'a>>
+    ensures { option_map (λ used. used.now) result ≡ slice_get uses.now number }
 {
-    taken.get(number)
+    uses.get(number)
 }
 
 /// The place of the hypothesis of this number.
@@ -159,7 +162,7 @@ impl<'e, 'a> Index<'e, 'a> {
             all,
             metrics: metric_names(alloc, all)?,
             constraints: constraint_names(alloc, all)?,
-            taken: taken_constraints(alloc, all)?,
+            uses: constraint_uses(alloc, all)?,
             hypotheses: hypothesis_names(alloc, all)?,
             places: hypothesis_places(alloc, all)?,
         })
@@ -181,11 +184,11 @@ impl<'e, 'a> Index<'e, 'a> {
     }
 
     /// The first constraint of this name.
-    pub(crate) fn constraint_named(&self, name: &[u8]) -> Option<&Taken<'a>>
-        ensures { option_map (λ taken. taken.now) result ≡ constraint_named self.now name.now }
+    pub(crate) fn constraint_named(&self, name: &[u8]) -> Option<&ConstraintUse<'a>>
+        ensures { option_map (λ used. used.now) result ≡ constraint_named self.now name.now }
     {
         let number = self.constraints.lookup(name)?;
-        constraint_at(&self.taken, number)
+        constraint_at(&self.uses, number)
     }
 
     /// The place of the first hypothesis of this name.

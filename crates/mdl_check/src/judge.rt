@@ -43,6 +43,26 @@ fn fault_of<'a>(
     None
 }
 
+/// The line of the first faulty item and what is wrong with it, given the parents of all items.
+fn first_fault_by(
+    alloc: Global,
+    index: &Index<'_, '_>,
+    ancestry: &Ancestry,
+) -> Result<Option<(u32, CheckKind)>, NoMemory>
+    requires { ancestry.now ≡ parents_of index.now }
+    ensures { IfOk result (λ fault. fault ≡ first_fault index.now) }
+{
+    let all = index.all();
+    let mut before = Before::first(alloc);
+    for (place, entry) in all.iter().enumerate() {
+        if let Some(kind) = fault_of(index, ancestry, &before, entry) {
+            return Ok(Some((entry.line(), kind)));
+        }
+        before = before.behind(alloc, &all[..=place], entry)?;
+    }
+    Ok(None)
+}
+
 /// The line of the first faulty item and what is wrong with it.
 pub(crate) fn first_fault(
     alloc: Global,
@@ -50,14 +70,6 @@ pub(crate) fn first_fault(
 ) -> Result<Option<(u32, CheckKind)>, NoMemory>
     ensures { IfOk result (λ fault. fault ≡ first_fault index.now) }
 {
-    let all = index.all();
     let ancestry = Ancestry::of(alloc, index)?;
-    let mut before = Before::first(alloc);
-    for (place, entry) in all.iter().enumerate() {
-        if let Some(kind) = fault_of(index, &ancestry, &before, entry) {
-            return Ok(Some((entry.line(), kind)));
-        }
-        before = before.behind(alloc, &all[..=place], entry)?;
-    }
-    Ok(None)
+    first_fault_by(alloc, index, &ancestry)
 }

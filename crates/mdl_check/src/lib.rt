@@ -14,7 +14,7 @@ mod judge;
 mod names;
 mod places;
 mod repeated;
-mod same;
+mod sight;
 mod uses;
 mod wrong;
 

@@ -1,6 +1,6 @@
 //! The shipped configuration.
 
-ghost use Rattle.std.specs.Prelude.{◌≡◌, ◌++◌, IfOk, OnOk};
+ghost use Rattle.std.specs.Prelude.{◌≡◌, ◌++◌, ◌∷◌, [], IfOk, OnOk};
 ghost use Rattle.std.specs.List.{AllByRecursion};
 ghost use Rattle.mdl_ast.specs.Small.{HasSmall};
 ghost use Rattle.mdl_parse.specs.Shipped.{in_proc, proc_entries, proc_calls, proc_time, on_object, procedure_calls, calls_made, cpu_inclusive, cpu, sync_wait, io_wait, small_io, cpu_bound, excessive_sync, excessive_io, small_operations, lock_objects, constraint_items, first_metrics, waiting_metrics, hypothesis_items, shipped_conf};
@@ -205,15 +205,23 @@ fn small_operations(alloc: Global) -> Result<Hypothesis, NoMemory>
     hypothesis(alloc, b"TooManySmallIOOps", parent, b"small_io", 5, axes)
 }
 
+/// Puts an item last.
+fn add(items: &mut Vec<Item>, item: Item) -> Result<(), NoMemory>
+    ensures { OnOk result (items.new.items ≡ items.old.items ++ item ∷ []) }
+{
+    items.push(item)?;
+    Ok(())
+}
+
 /// Adds the constraints.
 fn add_constraints(alloc: Global, items: &mut Vec<Item>) -> Result<(), NoMemory>
     ensures { OnOk result (items.new.items ≡ items.old.items ++ constraint_items) }
 {
-    items.push(Item::Constraint(in_proc(alloc)?))?;
-    items.push(Item::Constraint(proc_entries(alloc)?))?;
-    items.push(Item::Constraint(proc_calls(alloc)?))?;
-    items.push(Item::Constraint(proc_time(alloc)?))?;
-    items.push(Item::Constraint(on_object(alloc)?))?;
+    add(items, Item::Constraint(in_proc(alloc)?))?;
+    add(items, Item::Constraint(proc_entries(alloc)?))?;
+    add(items, Item::Constraint(proc_calls(alloc)?))?;
+    add(items, Item::Constraint(proc_time(alloc)?))?;
+    add(items, Item::Constraint(on_object(alloc)?))?;
     Ok(())
 }
 
@@ -221,10 +229,10 @@ fn add_constraints(alloc: Global, items: &mut Vec<Item>) -> Result<(), NoMemory>
 fn add_first_metrics(alloc: Global, items: &mut Vec<Item>) -> Result<(), NoMemory>
     ensures { OnOk result (items.new.items ≡ items.old.items ++ first_metrics) }
 {
-    items.push(Item::Metric(procedure_calls(alloc)?))?;
-    items.push(Item::Metric(calls_made(alloc)?))?;
-    items.push(Item::Metric(cpu_inclusive(alloc)?))?;
-    items.push(Item::Metric(cpu(alloc)?))?;
+    add(items, Item::Metric(procedure_calls(alloc)?))?;
+    add(items, Item::Metric(calls_made(alloc)?))?;
+    add(items, Item::Metric(cpu_inclusive(alloc)?))?;
+    add(items, Item::Metric(cpu(alloc)?))?;
     Ok(())
 }
 
@@ -232,9 +240,9 @@ fn add_first_metrics(alloc: Global, items: &mut Vec<Item>) -> Result<(), NoMemor
 fn add_waiting_metrics(alloc: Global, items: &mut Vec<Item>) -> Result<(), NoMemory>
     ensures { OnOk result (items.new.items ≡ items.old.items ++ waiting_metrics) }
 {
-    items.push(Item::Metric(sync_wait(alloc)?))?;
-    items.push(Item::Metric(io_wait(alloc)?))?;
-    items.push(Item::Metric(small_io(alloc)?))?;
+    add(items, Item::Metric(sync_wait(alloc)?))?;
+    add(items, Item::Metric(io_wait(alloc)?))?;
+    add(items, Item::Metric(small_io(alloc)?))?;
     Ok(())
 }
 
@@ -242,10 +250,10 @@ fn add_waiting_metrics(alloc: Global, items: &mut Vec<Item>) -> Result<(), NoMem
 fn add_hypotheses(alloc: Global, items: &mut Vec<Item>) -> Result<(), NoMemory>
     ensures { OnOk result (items.new.items ≡ items.old.items ++ hypothesis_items) }
 {
-    items.push(Item::Hypothesis(cpu_bound(alloc)?))?;
-    items.push(Item::Hypothesis(excessive_sync(alloc)?))?;
-    items.push(Item::Hypothesis(excessive_io(alloc)?))?;
-    items.push(Item::Hypothesis(small_operations(alloc)?))?;
+    add(items, Item::Hypothesis(cpu_bound(alloc)?))?;
+    add(items, Item::Hypothesis(excessive_sync(alloc)?))?;
+    add(items, Item::Hypothesis(excessive_io(alloc)?))?;
+    add(items, Item::Hypothesis(small_operations(alloc)?))?;
     Ok(())
 }
 

@@ -15,14 +15,14 @@ returns c =
     elim c.match-namespace.branch [
       | in-Variables w ↦ found
           ∙ ap (λ (l : List (List ℕ)). is_some (first_place name l)) (ap (λ r. r.now) w.names-is)
-          ∙ stands_at namespace.Variables name items c.args.self.now c.self.inside.variables c.self.invariant.variables_are c.self.view_is
+          ∙ stands_at namespace.Variables name items c.args.self.now c.self.inside.noted.variables c.self.invariant.variables_are c.self.view_is
           ∙ ap (λ (n : Namespace). stands n name c.args.self.now) (sym w.in-Variables.is)
       | in-Hypotheses w ↦ found
           ∙ ap (λ (l : List (List ℕ)). is_some (first_place name l)) (ap (λ r. r.now) w.names-is)
-          ∙ stands_at namespace.Hypotheses name items c.args.self.now c.self.inside.hypotheses c.self.invariant.hypotheses_are c.self.view_is
+          ∙ stands_at namespace.Hypotheses name items c.args.self.now c.self.inside.noted.hypotheses c.self.invariant.hypotheses_are c.self.view_is
           ∙ ap (λ (n : Namespace). stands n name c.args.self.now) (sym w.in-Hypotheses.is)
       | in-Phases w ↦ found
           ∙ ap (λ (l : List (List ℕ)). is_some (first_place name l)) (ap (λ r. r.now) w.names-is)
-          ∙ stands_at namespace.Phases name items c.args.self.now c.self.inside.phases c.self.invariant.phases_are c.self.view_is
+          ∙ stands_at namespace.Phases name items c.args.self.now c.self.inside.noted.phases c.self.invariant.phases_are c.self.view_is
           ∙ ap (λ (n : Namespace). stands n name c.args.self.now) (sym w.in-Phases.is)
     ]

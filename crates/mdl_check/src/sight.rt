@@ -4,7 +4,7 @@ ghost use Rattle.std.specs.Prelude.{◌≡◌};
 ghost use Rattle.mdl_check.specs.Sights.{IsFirstSight, sight};
 
 use mdl_ast::Item;
-use pn_types::{CodePart, Focus, HartNo};
+use pn_types::{CodePart, Focus};
 
 /// A metric at a focus, in plain parts.
 #[derive(Clone, Copy, PartialEq, Eq, Hash, Drop)]
@@ -15,16 +15,6 @@ pub(crate) struct Sight<'a> {
     object: Option<u32>,
 }
 
-/// The number of a hart, if any.
-fn number_of(hart: Option<HartNo>) -> Option<u32>
-    ensures { result ≡ hart }
-{
-    match hart {
-        Some(hart) => Some(hart.get()),
-        None => None,
-    }
-}
-
 impl<'a> Sight<'a> {
     /// The metric of this name at the focus.
     pub(crate) fn new(metric: &'a [u8], focus: Focus) -> Sight<'a>
@@ -33,7 +23,7 @@ impl<'a> Sight<'a> {
         Sight {
             metric,
             code: focus.code,
-            hart: number_of(focus.hart),
+            hart: focus.hart.map(|hart| hart.get()),
             object: focus.object,
         }
     }

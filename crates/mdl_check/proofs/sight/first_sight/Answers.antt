@@ -3,9 +3,9 @@ use Rattle.pn_types.specs.declared.focus.Focus.{Focus}
 use Rattle.mdl_ast.specs.declared.items.Item.{Item}
 use Rattle.mdl_check.specs.Rules.{is_shown_by, is_same_focus}
 use Rattle.mdl_check.specs.Sights.{is_same_sight, sight}
-use Rattle.mdl_check.specs.declared.same.Sight.{Sight}
+use Rattle.mdl_check.specs.declared.sight.Sight.{Sight}
 use Rattle.mdl_check.proofs.Befores.{same_sight}
-use Rattle.mdl_check.proofs.same.first_sight.Goals as goal
+use Rattle.mdl_check.proofs.sight.first_sight.Goals as goal
 
 pub returns-then-wish : goal.returns-then-wish
 returns-then-wish c metric f =

@@ -1,6 +1,6 @@
 use Rattle.std.proofs.Common.{◌≡◌, [], take, drop}
 use Rattle.mdl_check.specs.Checking.{fault_from}
-use Rattle.mdl_check.proofs.judge.first_fault.Given as goal
+use Rattle.mdl_check.proofs.judge.first_fault_by.Given as goal
 
 abbrev pub invariant-loop-place : goal.invariant-loop-place
 invariant-loop-place l = record {

@@ -1,0 +1,12 @@
+-- For proofs alone: what the items are answered with.
+use Rattle.std.specs.Prelude.{◌≡◌, Some, None, Result, Ok, Err, List}
+use Rattle.mdl_check.specs.Placed.{Entry}
+use Rattle.mdl_check.specs.Checking.{first_fault, checked_of}
+use Rattle.mdl_check.specs.declared.checked.Checked.{Checked}
+use Rattle.mdl_check.specs.declared.fault.CheckFault.{CheckFault}
+use Rattle.mdl_check.specs.declared.fault.CheckFault.TheVariants.{NoMemory, At}
+
+abbrev pub IsJudged : List Entry → Result Checked CheckFault → Type 0
+IsJudged es (Ok checked) = (first_fault es ≡ None) × (checked ≡ checked_of es)
+IsJudged es (Err NoMemory) = Unit {0}
+IsJudged es (Err (At line kind)) = first_fault es ≡ Some (line, kind)
