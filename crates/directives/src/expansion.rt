@@ -3,7 +3,6 @@
 ghost use Rattle.std.specs.Prelude.{◌≡◌, ◌++◌, flat_map, IfOk, OnOk};
 ghost use Rattle.directives.specs.Acts.{at_line, expansion, expanded};
 
-use crate::copies;
 use mdl_ast::Item;
 use pn_types::NoMemory;
 use std::alloc::Global;
@@ -49,7 +48,7 @@ fn add_expansion(
     {
         return add_shipped(alloc, items, include.line, shipped);
     }
-    items.push(copies::item(alloc, item)?)?;
+    items.push(item.copy(alloc)?)?;
     Ok(())
 }
 

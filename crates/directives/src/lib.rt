@@ -5,7 +5,6 @@
 
 mod applying;
 mod change;
-mod copies;
 mod directive;
 mod expansion;
 mod fault;

@@ -2,7 +2,9 @@
 
 ghost use Rattle.std.specs.Prelude.{◌≡◌, IfOk};
 
-use crate::items::{Hypothesis, PhaseDecl};
+use crate::block_copies::blocks;
+use crate::items::{Hypothesis, Item, PhaseDecl, SyncDecl, Wish};
+use crate::metric::{Constraint, Metric};
 use pn_types::{NoMemory, Text, copy_texts};
 use std::alloc::Global;
 
@@ -13,6 +15,39 @@ fn copy_name(alloc: Global, name: &Option<Text>) -> Result<Option<Text>, NoMemor
     match name {
         Some(name) => Ok(Some(name.copy(alloc)?)),
         None => Ok(None),
+    }
+}
+
+impl Metric {
+    /// An equal metric.
+    pub fn copy(&self, alloc: Global) -> Result<Metric, NoMemory>
+        ensures { IfOk result (λ copy. copy ≡ self.now) }
+    {
+        Ok(Metric {
+            line: self.line,
+            name: self.name.copy(alloc)?,
+            units: self.units.copy(alloc)?,
+            constraints: copy_texts(alloc, &self.constraints)?,
+            timer: self.timer,
+            initially: self.initially,
+            blocks: blocks(alloc, &self.blocks)?,
+        })
+    }
+}
+
+impl Constraint {
+    /// An equal constraint.
+    pub fn copy(&self, alloc: Global) -> Result<Constraint, NoMemory>
+        ensures { IfOk result (λ copy. copy ≡ self.now) }
+    {
+        Ok(Constraint {
+            line: self.line,
+            name: self.name.copy(alloc)?,
+            path: self.path.copy(alloc)?,
+            replace: self.replace,
+            initially: self.initially,
+            blocks: blocks(alloc, &self.blocks)?,
+        })
     }
 }
 
@@ -41,6 +76,49 @@ impl PhaseDecl {
             line: self.line,
             name: self.name.copy(alloc)?,
             at: self.at,
+        })
+    }
+}
+
+impl SyncDecl {
+    fn copy(&self, alloc: Global) -> Result<SyncDecl, NoMemory>
+        ensures { IfOk result (λ copy. copy ≡ self.now) }
+    {
+        Ok(SyncDecl {
+            line: self.line,
+            name: self.name.copy(alloc)?,
+        })
+    }
+}
+
+impl Wish {
+    fn copy(&self, alloc: Global) -> Result<Wish, NoMemory>
+        ensures { IfOk result (λ copy. copy ≡ self.now) }
+    {
+        Ok(Wish {
+            line: self.line,
+            at: self.at,
+            show: self.show,
+            metric: self.metric.copy(alloc)?,
+            focus: self.focus.copy(alloc)?,
+        })
+    }
+}
+
+impl Item {
+    /// An equal item.
+    pub fn copy(&self, alloc: Global) -> Result<Item, NoMemory>
+        ensures { IfOk result (λ copy. copy ≡ self.now) }
+    {
+        Ok(match self {
+            Item::Include(include) => Item::Include(*include),
+            Item::Sync(sync) => Item::Sync(sync.copy(alloc)?),
+            Item::Metric(metric) => Item::Metric(metric.copy(alloc)?),
+            Item::Constraint(constraint) => Item::Constraint(constraint.copy(alloc)?),
+            Item::Hypothesis(hypothesis) => Item::Hypothesis(hypothesis.copy(alloc)?),
+            Item::Search(search) => Item::Search(*search),
+            Item::Phase(phase) => Item::Phase(phase.copy(alloc)?),
+            Item::Wish(wish) => Item::Wish(wish.copy(alloc)?),
         })
     }
 }

@@ -5,6 +5,7 @@
 
 mod action;
 mod block;
+mod block_copies;
 mod copies;
 mod items;
 mod metric;

@@ -1,11 +1,9 @@
-//! Copies of items.
+//! Copies of the parts of metrics and constraints.
 
 ghost use Rattle.std.specs.Prelude.{◌≡◌, IfOk};
 
-use mdl_ast::{
-    Action, Block, Condition, Constraint, Insertion, Item, LeftName, Metric, Set, Statement,
-    SyncDecl, VarName, Wish,
-};
+use crate::action::{Action, Condition, LeftName, Statement, VarName};
+use crate::block::{Block, Insertion, Set};
 use pn_types::{NoMemory, Seq, copy_texts};
 use std::alloc::Global;
 
@@ -121,7 +119,8 @@ fn block(alloc: Global, block: &Block) -> Result<Block, NoMemory>
     })
 }
 
-fn blocks(alloc: Global, blocks: &Seq<Block>) -> Result<Seq<Block>, NoMemory>
+/// A copy of blocks.
+pub(crate) fn blocks(alloc: Global, blocks: &Seq<Block>) -> Result<Seq<Block>, NoMemory>
     ensures { IfOk result (λ copy. copy ≡ blocks.now) }
 {
     let mut copies = Vec::new(alloc);
@@ -129,68 +128,4 @@ fn blocks(alloc: Global, blocks: &Seq<Block>) -> Result<Seq<Block>, NoMemory>
         copies.push(block(alloc, one)?)?;
     }
     Ok(Seq::from_vec(copies))
-}
-
-fn metric(alloc: Global, metric: &Metric) -> Result<Metric, NoMemory>
-    ensures { IfOk result (λ copy. copy ≡ metric.now) }
-{
-    Ok(Metric {
-        line: metric.line,
-        name: metric.name.copy(alloc)?,
-        units: metric.units.copy(alloc)?,
-        constraints: copy_texts(alloc, &metric.constraints)?,
-        timer: metric.timer,
-        initially: metric.initially,
-        blocks: blocks(alloc, &metric.blocks)?,
-    })
-}
-
-fn constraint(alloc: Global, constraint: &Constraint) -> Result<Constraint, NoMemory>
-    ensures { IfOk result (λ copy. copy ≡ constraint.now) }
-{
-    Ok(Constraint {
-        line: constraint.line,
-        name: constraint.name.copy(alloc)?,
-        path: constraint.path.copy(alloc)?,
-        replace: constraint.replace,
-        initially: constraint.initially,
-        blocks: blocks(alloc, &constraint.blocks)?,
-    })
-}
-
-fn sync(alloc: Global, sync: &SyncDecl) -> Result<SyncDecl, NoMemory>
-    ensures { IfOk result (λ copy. copy ≡ sync.now) }
-{
-    Ok(SyncDecl {
-        line: sync.line,
-        name: sync.name.copy(alloc)?,
-    })
-}
-
-fn wish(alloc: Global, wish: &Wish) -> Result<Wish, NoMemory>
-    ensures { IfOk result (λ copy. copy ≡ wish.now) }
-{
-    Ok(Wish {
-        line: wish.line,
-        at: wish.at,
-        show: wish.show,
-        metric: wish.metric.copy(alloc)?,
-        focus: wish.focus.copy(alloc)?,
-    })
-}
-
-/// A copy of an item.
-pub(crate) fn item(alloc: Global, item: &Item) -> Result<Item, NoMemory>
-    ensures { IfOk result (λ copy. copy ≡ item.now) }
-{
-    Ok(match item {
-        Item::Include(include) => Item::Include(*include),
-        Item::Sync(one) => Item::Sync(sync(alloc, one)?),
-        Item::Metric(one) => Item::Metric(metric(alloc, one)?),
-        Item::Constraint(one) => Item::Constraint(constraint(alloc, one)?),
-        Item::Hypothesis(hypothesis) => Item::Hypothesis(hypothesis.copy(alloc)?),
-        Item::Search(search) => Item::Search(*search),
-        Item::Phase(phase) => Item::Phase(phase.copy(alloc)?),
-        Item::Wish(one) => Item::Wish(wish(alloc, one)?),
-    })
 }

@@ -1,5 +1,5 @@
 use Rattle.std.proofs.Common.{◌≡◌, take}
-use Rattle.directives.proofs.copies.blocks.Given as goal
+use Rattle.mdl_ast.proofs.block_copies.statements.Given as goal
 
 abbrev pub invariant-loop-one : goal.invariant-loop-one
 invariant-loop-one l = l.copies.items ≡ take l.one-index l.one-items
