@@ -1,14 +1,14 @@
 //! What the names of a configuration lead to.
 
-ghost use Rattle.std.specs.Prelude.{◌≡◌, ◌<◌, ◌++◌, IfOk, IfSome, OnOk, Some, length, is_some, option_to_list, slice_get};
+ghost use Rattle.std.specs.Prelude.{◌≡◌, ◌<◌, ◌++◌, [], IfOk, IfSome, OnOk, Some, length, is_some, option_to_list, slice_get};
 ghost use Rattle.std.specs.Option.{option_map};
 ghost use Rattle.mdl_check.specs.Names.{constraint_named, metric_number, hypothesis_place, stands, as_constraint};
 ghost use Rattle.mdl_check.specs.Rules.{is_misused, is_on};
-ghost use Rattle.mdl_check.specs.Indexes.{constraints_in, places_from, place_if};
+ghost use Rattle.mdl_check.specs.Indexes.{IsIndexOf, constraints_in, places_from, place_if};
 
 use crate::entry::Entry;
 use crate::names::{
-    Namespace, as_constraint, constraint_names, hypothesis_names, metric_names, name_in,
+    Namespace, add_constraint_names, add_hypothesis_names, add_metric_names, as_constraint, name_in,
 };
 use crate::uses::{Use, have};
 use first_places::FirstPlaces;
@@ -70,10 +70,9 @@ impl<'a> ConstraintUse<'a> {
     }
 }
 
-/// All items of a configuration, and what the names in it lead to.
+/// What is kept of items, so that each name is found at once.
 #[derive(Drop)]
-pub(crate) struct Index<'e, 'a> {
-    all: &'e [Entry<'a>],
+struct Kept<'a> {
     metrics: FirstPlaces,
     constraints: FirstPlaces,
     /// The constraints in their order.
@@ -81,6 +80,13 @@ pub(crate) struct Index<'e, 'a> {
     hypotheses: FirstPlaces,
     /// The places of the hypotheses among all items.
     places: Vec<usize>,
+}
+
+/// All items of a configuration, and what the names in it lead to.
+#[derive(Drop)]
+pub(crate) struct Index<'e, 'a> {
+    all: &'e [Entry<'a>],
+    kept: Kept<'a>,
 }
 
 impl<'e, 'a> Model for Index<'e, 'a> {
@@ -92,7 +98,7 @@ impl<'e, 'a> Model for Index<'e, 'a> {
 
     ghost view = { λ i. i.all.now };
 
-    ghost invariant = { λ i. IsIndexOf i.all.now i.metrics i.constraints i.uses.items i.hypotheses i.places.items };
+    ghost invariant = { λ i. IsIndexOf i.all.now i.kept.metrics i.kept.constraints i.kept.uses.items i.kept.hypotheses i.kept.places.items };
 }
 
 fn add_use<'a>(uses: &mut Vec<ConstraintUse<'a>>, entry: &Entry<'a>) -> Result<(), NoMemory>
@@ -104,15 +110,14 @@ fn add_use<'a>(uses: &mut Vec<ConstraintUse<'a>>, entry: &Entry<'a>) -> Result<(
     Ok(())
 }
 
-/// The constraints, each looked through once.
-fn constraint_uses<'a>(alloc: Global, all: &[Entry<'a>]) -> Result<Vec<ConstraintUse<'a>>, NoMemory>
-    ensures { IfOk result (λ uses. uses.items ≡ constraints_in all.now) }
+/// Adds the constraints, each looked through once.
+fn add_uses<'a>(uses: &mut Vec<ConstraintUse<'a>>, all: &[Entry<'a>]) -> Result<(), NoMemory>
+    ensures { OnOk result (uses.new.items ≡ uses.old.items ++ constraints_in all.now) }
 {
-    let mut uses = Vec::new(alloc);
     for entry in all {
-        add_use(&mut uses, entry)?;
+        add_use(uses, entry)?;
     }
-    Ok(uses)
+    Ok(())
 }
 
 /// Puts the place of an item last, if it is a hypothesis.
@@ -125,15 +130,40 @@ fn add_place(places: &mut Vec<usize>, entry: &Entry<'_>, place: usize) -> Result
     Ok(())
 }
 
-/// The places of the hypotheses.
-fn hypothesis_places(alloc: Global, all: &[Entry<'_>]) -> Result<Vec<usize>, NoMemory>
-    ensures { IfOk result (λ places. places.items ≡ places_from 0 all.now) }
+/// Adds the places of the hypotheses.
+fn add_places(places: &mut Vec<usize>, all: &[Entry<'_>]) -> Result<(), NoMemory>
+    ensures { OnOk result (places.new.items ≡ places.old.items ++ places_from 0 all.now) }
 {
-    let mut places = Vec::new(alloc);
     for (place, entry) in all.iter().enumerate() {
-        add_place(&mut places, entry, place)?;
+        add_place(places, entry, place)?;
     }
-    Ok(places)
+    Ok(())
+}
+
+impl<'a> Kept<'a> {
+    fn new(alloc: Global) -> Kept<'a>
+        ensures { IsIndexOf [] result.metrics result.constraints result.uses.items result.hypotheses result.places.items }
+    {
+        Kept {
+            metrics: FirstPlaces::new(alloc),
+            constraints: FirstPlaces::new(alloc),
+            uses: Vec::new(alloc),
+            hypotheses: FirstPlaces::new(alloc),
+            places: Vec::new(alloc),
+        }
+    }
+
+    /// Keeps what is needed of these items, where nothing is kept yet.
+    fn fill(&mut self, alloc: Global, all: &[Entry<'a>]) -> Result<(), NoMemory>
+        requires { IsIndexOf [] self.old.metrics self.old.constraints self.old.uses.items self.old.hypotheses self.old.places.items }
+        ensures { OnOk result (IsIndexOf all.now self.new.metrics self.new.constraints self.new.uses.items self.new.hypotheses self.new.places.items) }
+    {
+        add_metric_names(alloc, &mut self.metrics, all)?;
+        add_constraint_names(alloc, &mut self.constraints, all)?;
+        add_uses(&mut self.uses, all)?;
+        add_hypothesis_names(alloc, &mut self.hypotheses, all)?;
+        add_places(&mut self.places, all)
+    }
 }
 
 /// The constraint of this number.
@@ -158,14 +188,9 @@ impl<'e, 'a> Index<'e, 'a> {
     pub(crate) fn of(alloc: Global, all: &'e [Entry<'a>]) -> Result<Index<'e, 'a>, NoMemory>
         ensures { IfOk result (λ index. index ≡ all.now) }
     {
-        Ok(Index {
-            all,
-            metrics: metric_names(alloc, all)?,
-            constraints: constraint_names(alloc, all)?,
-            uses: constraint_uses(alloc, all)?,
-            hypotheses: hypothesis_names(alloc, all)?,
-            places: hypothesis_places(alloc, all)?,
-        })
+        let mut kept = Kept::new(alloc);
+        kept.fill(alloc, all)?;
+        Ok(Index { all, kept })
     }
 
     /// All items.
@@ -180,29 +205,29 @@ impl<'e, 'a> Index<'e, 'a> {
         ensures number { result ≡ metric_number self.now name.now }
         ensures below { IfSome result (λ number. number < length self.now) }
     {
-        self.metrics.lookup(name)
+        self.kept.metrics.lookup(name)
     }
 
     /// The first constraint of this name.
     pub(crate) fn constraint_named(&self, name: &[u8]) -> Option<&ConstraintUse<'a>>
         ensures { option_map (λ used. used.now) result ≡ constraint_named self.now name.now }
     {
-        let number = self.constraints.lookup(name)?;
-        constraint_at(&self.uses, number)
+        let number = self.kept.constraints.lookup(name)?;
+        constraint_at(&self.kept.uses, number)
     }
 
     /// The place of the first hypothesis of this name.
     pub(crate) fn hypothesis_place(&self, name: &[u8]) -> Option<usize>
         ensures { result ≡ hypothesis_place self.now name.now }
     {
-        let number = self.hypotheses.lookup(name)?;
-        place_at(&self.places, number)
+        let number = self.kept.hypotheses.lookup(name)?;
+        place_at(&self.kept.places, number)
     }
 
     /// Whether there is a hypothesis of this name.
     pub(crate) fn has_hypothesis(&self, name: &[u8]) -> bool
         ensures { result ≡ stands Namespace.Hypotheses name.now self.now }
     {
-        self.hypotheses.lookup(name).is_some()
+        self.kept.hypotheses.lookup(name).is_some()
     }
 }

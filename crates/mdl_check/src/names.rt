@@ -1,6 +1,6 @@
 //! The names of items.
 
-ghost use Rattle.std.specs.Prelude.{◌≡◌, ◌++◌, IfOk, OnOk, option_to_list};
+ghost use Rattle.std.specs.Prelude.{◌≡◌, ◌++◌, OnOk, option_to_list};
 ghost use Rattle.std.specs.Option.{option_map};
 ghost use Rattle.mdl_check.specs.Names.{name_in, is_named, metric_name, as_constraint};
 ghost use Rattle.mdl_check.specs.Indexes.{names_in, metric_names, constraint_names};
@@ -79,30 +79,32 @@ pub(crate) fn add_name(
     Ok(())
 }
 
-/// The names of the hypotheses.
-pub(crate) fn hypothesis_names(alloc: Global, all: &[Entry<'_>]) -> Result<FirstPlaces, NoMemory>
-    ensures { IfOk result (λ names. names ≡ names_in Namespace.Hypotheses all.now) }
+/// Adds the names of the hypotheses.
+pub(crate) fn add_hypothesis_names(
+    alloc: Global,
+    names: &mut FirstPlaces,
+    all: &[Entry<'_>],
+) -> Result<(), NoMemory>
+    ensures { OnOk result (names.new ≡ names.old ++ names_in Namespace.Hypotheses all.now) }
 {
-    let mut names = FirstPlaces::new(alloc);
     for entry in all {
-        add_name(
-            alloc,
-            &mut names,
-            name_in(Namespace::Hypotheses, entry.item()),
-        )?;
+        add_name(alloc, names, name_in(Namespace::Hypotheses, entry.item()))?;
     }
-    Ok(names)
+    Ok(())
 }
 
-/// The names of the metrics.
-pub(crate) fn metric_names(alloc: Global, all: &[Entry<'_>]) -> Result<FirstPlaces, NoMemory>
-    ensures { IfOk result (λ names. names ≡ metric_names all.now) }
+/// Adds the names of the metrics.
+pub(crate) fn add_metric_names(
+    alloc: Global,
+    names: &mut FirstPlaces,
+    all: &[Entry<'_>],
+) -> Result<(), NoMemory>
+    ensures { OnOk result (names.new ≡ names.old ++ metric_names all.now) }
 {
-    let mut names = FirstPlaces::new(alloc);
     for entry in all {
-        add_name(alloc, &mut names, metric_name(entry.item()))?;
+        add_name(alloc, names, metric_name(entry.item()))?;
     }
-    Ok(names)
+    Ok(())
 }
 
 fn constraint_name(item: &Item) -> Option<&[u8]>
@@ -112,13 +114,16 @@ fn constraint_name(item: &Item) -> Option<&[u8]>
     Some(constraint.name.bytes())
 }
 
-/// The names of the constraints.
-pub(crate) fn constraint_names(alloc: Global, all: &[Entry<'_>]) -> Result<FirstPlaces, NoMemory>
-    ensures { IfOk result (λ names. names ≡ constraint_names all.now) }
+/// Adds the names of the constraints.
+pub(crate) fn add_constraint_names(
+    alloc: Global,
+    names: &mut FirstPlaces,
+    all: &[Entry<'_>],
+) -> Result<(), NoMemory>
+    ensures { OnOk result (names.new ≡ names.old ++ constraint_names all.now) }
 {
-    let mut names = FirstPlaces::new(alloc);
     for entry in all {
-        add_name(alloc, &mut names, constraint_name(entry.item()))?;
+        add_name(alloc, names, constraint_name(entry.item()))?;
     }
-    Ok(names)
+    Ok(())
 }
