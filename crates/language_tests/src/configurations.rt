@@ -2,7 +2,8 @@
 
 use crate::texts::{bytes_of, shown};
 use mdl_ast::Conf;
-use mdl_parse::{ParseFault, parse, print, shipped};
+use mdl_parse::{ParseFault, parse, print};
+use mdl_shipped::shipped;
 use std::alloc::Global;
 use std::io;
 

@@ -1,6 +1,7 @@
 -- The readers of the items of a configuration.
 use Rattle.std.proofs.Common.{◌≡◌, ℕ, Bool, true, false, List, [], ◌∷◌, ◌++◌, Option, Some, None, Ok, refl, sym, ap, ◌∙◌, codes, cond}
 use Rattle.std.specs.List.{flat_map}
+use Rattle.std.proofs.lemmas.List.{append_assoc}
 use Rattle.pn_text.specs.Words.{Word, NameWord, NumberWord, QuotedWord, SignWord}
 use Rattle.pn_text.specs.declared.token.Sign.TheVariants.{OpenBrace, CloseBrace, Semicolon}
 use Rattle.mdl_ast.specs.declared.items.Hypothesis.{Hypothesis}
@@ -9,7 +10,7 @@ use Rattle.mdl_parse.specs.WordsInText.{PlacedWord, TreeWord, Starts, Goes, goes
 use Rattle.mdl_parse.specs.Picks.{is_keyword}
 use Rattle.mdl_parse.specs.Steps.{Read, ◌>>=◌, is_first, option_at}
 use Rattle.mdl_parse.specs.Readers.{keyword_at, sign_at, name_at, number_at, quoted_at}
-use Rattle.mdl_parse.specs.Items.{initial_at, initially_at, reference_at, references_at, units_at, base_at, metric_at, constraint_at, named_field_at, number_field_at, parent_at, axis_names_at, axes_at, hypothesis_at, include_at, sync_at, search_at, phase_at, wish_at}
+use Rattle.mdl_parse.specs.Items.{opened_at, initial_at, initially_at, reference_at, references_at, units_at, base_at, body_at, metric_at, constraint_at, named_field_at, number_field_at, parent_at, axis_names_at, axes_at, hypothesis_at, include_at, sync_at, search_at, phase_at, wish_at}
 use Rattle.mdl_parse.specs.Grammar.{keyword, names_words, blocks_tree_words}
 use Rattle.mdl_parse.specs.ItemGrammar.{reference_words, initially_words, metric_tree_words, constraint_tree_words, parent_words, axes_words, hypothesis_words, include_words, sync_words, search_words, phase_words, wish_words}
 use Rattle.mdl_parse.specs.Shapes.{HasNames, BlocksShaped}
@@ -51,6 +52,12 @@ units_reads : Reads (λ n. units_at) (λ units. goes (keyword (codes "units") �
 unfolding units_at
 units_reads = field_reads (codes "units") refl quoted_at QuotedWord quoted_reads units_at (λ words_ahead. refl)
 
+opened_reads : (text : List ℕ) → IsWord (keyword text) → Reads (λ n. opened_at text) (λ p. starts p.0 (keyword text ∷ NameWord p.1 ∷ SignWord OpenBrace ∷ [])) any closed
+unfolding opened_at
+opened_reads text good = made (both (start_reads text good) (both name_reads (sign_reads OpenBrace))) (λ p. (p.0, p.1.0)) (λ n. opened_at text)
+    (λ p. starts p.0 (keyword text ∷ NameWord p.1 ∷ SignWord OpenBrace ∷ [])) any closed
+    (λ n words_ahead. simp bind_assoc) (λ n a h. refl) (λ n a h. refl) (λ n a h. tt) (λ n b h. ((b.0, (b.1, tt)), (tt, (tt, tt)), refl)) (λ n k b le h. tt)
+
 -- ---- metrics and constraints
 
 pub references_reads : Reads (λ n. references_at) (flat_map (λ name. goes (reference_words name))) (all_ok any) (always (is_keyword (codes "constraint")))
@@ -91,15 +98,22 @@ base_reads = made (both (keyword_reads (codes "base") refl) (both (keyword_reads
     (λ p. p.1.1) (λ n. base_at) (λ timer. goes (keyword (codes "base") ∷ keyword (codes "is") ∷ choice_word (codes "timer") (codes "counter") timer ∷ [])) any closed
     (λ n words_ahead. simp bind_assoc) (λ n a h. refl) (λ n a h. refl) (λ n a h. tt) (λ n b h. ((tt, (tt, b)), (tt, (tt, tt)), refl)) (λ n k b le h. tt)
 
+abbrev body_tree_words : Option ℕ × List Block → List TreeWord
+body_tree_words b = goes (initially_words b.0) ++ blocks_tree_words b.1
+
+body_reads : Reads body_at body_tree_words (λ n b. BlocksShaped n b.1) closed
+unfolding body_at
+body_reads = made (both_open initially_reads blocks_reads (λ n a b h. initially_ends a)) (λ p. p) body_at body_tree_words (λ n b. BlocksShaped n b.1) closed
+    (λ n words_ahead. simp bind_assoc) (λ n p h. refl) (λ n a h. refl) (λ n p h. h.1) (λ n b h. (b, (tt, h), refl)) (λ n k b le h. blocks_reads.wider n k b.1 le h)
+
 pub metric_reads : Reads metric_at metric_tree_words (λ n m. BlocksShaped n m.blocks) closed
 unfolding metric_at
-metric_reads = made (both (start_reads (codes "metric") refl) (both name_reads (both (sign_reads OpenBrace) (both units_reads (both_open references_reads (both base_reads
-    (both_open initially_reads (both blocks_reads (sign_reads CloseBrace)) (λ n a b h. initially_ends a))) (λ n a b h. refl))))))
-    (λ p. record { line = p.0; name = p.1.0; units = p.1.1.1.0; constraints = p.1.1.1.1.0; timer = p.1.1.1.1.1.0; initially = p.1.1.1.1.1.1.0; blocks = p.1.1.1.1.1.1.1.0 })
+metric_reads = made (both (opened_reads (codes "metric") refl) (both units_reads (both_open references_reads (both base_reads (both body_reads (sign_reads CloseBrace))) (λ n a b h. refl))))
+    (λ p. record { line = p.0.0; name = p.0.1; units = p.1.0; constraints = p.1.1.0; timer = p.1.1.1.0; initially = p.1.1.1.1.0.0; blocks = p.1.1.1.1.0.1 })
     metric_at metric_tree_words (λ n m. BlocksShaped n m.blocks) closed
     (λ n words_ahead. simp bind_assoc)
-    (λ n p h. tree_words p.0 p.1.0 p.1.1.1.0 p.1.1.1.1.0 p.1.1.1.1.1.0 p.1.1.1.1.1.1.0 p.1.1.1.1.1.1.1.0) (λ n a h. refl) (λ n p h. h.1.1.1.1.1.1.1.0)
-    (λ n m h. ((m.line, (m.name, (tt, (m.units, (m.constraints, (m.timer, (m.initially, (m.blocks, tt)))))))), (tt, (tt, (tt, (tt, (all_any n m.constraints, (tt, (tt, (h, tt)))))))), refl))
+    (λ n p h. tree_words p.0.0 p.0.1 p.1.0 p.1.1.0 p.1.1.1.0 p.1.1.1.1.0.0 p.1.1.1.1.0.1) (λ n a h. refl) (λ n p h. h.1.1.1.1.0)
+    (λ n m h. (((m.line, m.name), (m.units, (m.constraints, (m.timer, ((m.initially, m.blocks), tt))))), (tt, (tt, (all_any n m.constraints, (tt, (h, tt))))), refl))
     (λ n k m le h. blocks_reads.wider n k m.blocks le h)
   where
     tree_words : (line : ℕ) (name units : List ℕ) (constraints : List (List ℕ)) (timer : Bool) (initially : Option ℕ) (blocks : List Block)
@@ -107,22 +121,21 @@ metric_reads = made (both (start_reads (codes "metric") refl) (both name_reads (
         ≡ Starts line (keyword (codes "metric")) ∷ Goes (NameWord name) ∷ Goes (SignWord OpenBrace) ∷ Goes (keyword (codes "units")) ∷ Goes (QuotedWord units) ∷ Goes (SignWord Semicolon)
         ∷ (flat_map (λ name. goes (reference_words name)) constraints
         ++ (Goes (keyword (codes "base")) ∷ Goes (keyword (codes "is")) ∷ Goes (choice_word (codes "timer") (codes "counter") timer)
-        ∷ (goes (initially_words initially) ++ (blocks_tree_words blocks ++ (Goes (SignWord CloseBrace) ∷ [])))))
+        ∷ ((goes (initially_words initially) ++ blocks_tree_words blocks) ++ (Goes (SignWord CloseBrace) ∷ []))))
     tree_words line name units constraints timer initially blocks = ap
         (λ (t : List TreeWord). Starts line (keyword (codes "metric")) ∷ Goes (NameWord name) ∷ Goes (SignWord OpenBrace) ∷ Goes (keyword (codes "units")) ∷ Goes (QuotedWord units) ∷ Goes (SignWord Semicolon) ∷ t)
         (goes_behind (flat_map reference_words constraints) (keyword (codes "base") ∷ keyword (codes "is") ∷ choice_word (codes "timer") (codes "counter") timer ∷ initially_words initially)
         (blocks_tree_words blocks ++ (Goes (SignWord CloseBrace) ∷ []))
-        ∙ ap (λ (t : List TreeWord). t ++ (Goes (keyword (codes "base")) ∷ Goes (keyword (codes "is")) ∷ Goes (choice_word (codes "timer") (codes "counter") timer)
-        ∷ (goes (initially_words initially) ++ (blocks_tree_words blocks ++ (Goes (SignWord CloseBrace) ∷ []))))) (goes-flat_map reference_words constraints))
+        ∙ rw (goes-flat_map reference_words constraints, append_assoc (goes (initially_words initially)) (blocks_tree_words blocks) (Goes (SignWord CloseBrace) ∷ [])) refl)
 
 pub constraint_reads : Reads constraint_at constraint_tree_words (λ n c. BlocksShaped n c.blocks) closed
 unfolding constraint_at
 constraint_reads = made (both (start_reads (codes "constraint") refl) (both name_reads (both path_reads (both (keyword_reads (codes "is") refl)
-    (both (choice_reads (codes "replace") (codes "counter") refl refl) (both_open initially_reads blocks_reads (λ n a b h. initially_ends a)))))))
+    (both (choice_reads (codes "replace") (codes "counter") refl refl) body_reads)))))
     (λ p. record { line = p.0; name = p.1.0; path = p.1.1.0; replace = p.1.1.1.1.0; initially = p.1.1.1.1.1.0; blocks = p.1.1.1.1.1.1 })
     constraint_at constraint_tree_words (λ n c. BlocksShaped n c.blocks) closed
-    (λ n words_ahead. simp bind_assoc) (λ n p h. refl) (λ n a h. refl) (λ n p h. h.1.1.1.1.1.1)
-    (λ n c h. ((c.line, (c.name, (c.path, (tt, (c.replace, (c.initially, c.blocks)))))), (tt, (tt, (tt, (tt, (tt, (tt, h)))))), refl))
+    (λ n words_ahead. simp bind_assoc) (λ n p h. refl) (λ n a h. refl) (λ n p h. h.1.1.1.1.1)
+    (λ n c h. ((c.line, (c.name, (c.path, (tt, (c.replace, (c.initially, c.blocks)))))), (tt, (tt, (tt, (tt, (tt, h))))), refl))
     (λ n k c le h. blocks_reads.wider n k c.blocks le h)
 
 -- ---- hypotheses
@@ -202,13 +215,13 @@ hypothesis_tree_words h = starts h.line (hypothesis_words h)
 
 pub hypothesis_reads : Reads (λ n. hypothesis_at) hypothesis_tree_words any closed
 unfolding hypothesis_at
-hypothesis_reads = made (both (start_reads (codes "hypothesis") refl) (both name_reads (both (sign_reads OpenBrace) (both_open parent_reads
+hypothesis_reads = made (both (opened_reads (codes "hypothesis") refl) (both_open parent_reads
     (both (named_field_reads (codes "metric") refl) (both (number_field_reads (codes "threshold") refl) (both_open axes_reads (sign_reads CloseBrace) (λ n a b h. axes_end a))))
-    (λ n a b h. parent_ends a)))))
-    (λ p. record { line = p.0; name = p.1.0; parent = p.1.1.1.0; metric = p.1.1.1.1.0; threshold = p.1.1.1.1.1.0; axes = p.1.1.1.1.1.1.0 })
+    (λ n a b h. parent_ends a)))
+    (λ p. record { line = p.0.0; name = p.0.1; parent = p.1.0; metric = p.1.1.0; threshold = p.1.1.1.0; axes = p.1.1.1.1.0 })
     (λ n. hypothesis_at) hypothesis_tree_words any closed
-    (λ n words_ahead. simp bind_assoc) (λ n p h. tree_words p.0 p.1.0 p.1.1.1.0 p.1.1.1.1.0 p.1.1.1.1.1.0 p.1.1.1.1.1.1.0) (λ n a h. refl) (λ n a h. tt)
-    (λ n h k. ((h.line, (h.name, (tt, (h.parent, (h.metric, (h.threshold, (h.axes, tt))))))), (tt, (tt, (tt, (tt, (tt, (tt, (tt, tt))))))), refl)) (λ n k b le h. tt)
+    (λ n words_ahead. simp bind_assoc) (λ n p h. tree_words p.0.0 p.0.1 p.1.0 p.1.1.0 p.1.1.1.0 p.1.1.1.1.0) (λ n a h. refl) (λ n a h. tt)
+    (λ n h k. (((h.line, h.name), (h.parent, (h.metric, (h.threshold, (h.axes, tt))))), (tt, (tt, (tt, (tt, (tt, tt))))), refl)) (λ n k b le h. tt)
   where
     tree_words : (line : ℕ) (name : List ℕ) (parent : Option (List ℕ)) (metric : List ℕ) (threshold : ℕ) (axes : List (List ℕ))
         → hypothesis_tree_words (record { line = line; name = name; parent = parent; metric = metric; threshold = threshold; axes = axes })

@@ -19,7 +19,6 @@ pub mod Exact
 pub mod Unique
 pub mod OneFault
 pub mod SmallItems
-pub mod ShippedSmall
 pub mod Tight
 pub mod Relining
 pub mod RelinedItems

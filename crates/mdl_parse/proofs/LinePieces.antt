@@ -119,12 +119,15 @@ some-append [] b e = absurd cc
 some-append (x ∷ a) b e = some x (a ++ b)
 
 -- a gap between two words is white, and they stand apart where there is none
-gap_fits : (left right : Word) (b : Bool) → b ≡ stand_apart left right → (t : Bool) →
-    ((is_white (if t && b then [] else codes " ") ≡ true) × ((nat_lt 0 (length (if t && b then [] else codes " ")) || b) ≡ true))
-gap_fits left right true e true = (refl, refl)
-gap_fits left right true e false = (refl, refl)
-gap_fits left right false e true = (refl, refl)
-gap_fits left right false e false = (refl, refl)
+gap_fits : (left right : Word) → (is_white (gap left right) ≡ true) × ((nat_lt 0 (length (gap left right)) || stand_apart left right) ≡ true)
+unfolding gap
+gap_fits left right = by (is_tight left right) (stand_apart left right)
+  where
+    by : (t b : Bool) → (is_white (if t && b then [] else codes " ") ≡ true) × ((nat_lt 0 (length (if t && b then [] else codes " ")) || b) ≡ true)
+    by true true = (refl, refl)
+    by true false = (refl, refl)
+    by false true = (refl, refl)
+    by false false = (refl, refl)
 
 abbrev Follows : List Piece → Type 0
 Follows rest = (left : Word) → follow left rest ≡ true
@@ -133,7 +136,7 @@ words_follow : (w : Word) (words : List Word) (rest : List Piece) → list_all i
 words_follow w [] rest e f = f w
 words_follow w (v ∷ words) rest e f =
     let parts = and_parts (is_word v) (list_all is_word words) e in
-    let fits = gap_fits w v (stand_apart w v) refl (is_tight w v) in
+    let fits = gap_fits w v in
     let first = both_true (is_white (gap w v) && is_word v) (nat_lt 0 (length (gap w v)) || stand_apart w v) (both_true (is_white (gap w v)) (is_word v) fits.0 parts.0) fits.1 in
     both_true (is_white (gap w v) && is_word v && (nat_lt 0 (length (gap w v)) || stand_apart w v)) (follow v (word_pieces v words ++ rest)) first (words_follow v words rest parts.1 f)
 

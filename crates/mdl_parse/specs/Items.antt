@@ -10,6 +10,7 @@ use Rattle.mdl_ast.specs.declared.items.Hypothesis.{Hypothesis}
 use Rattle.mdl_ast.specs.declared.items.SearchDecl.{SearchDecl}
 use Rattle.mdl_ast.specs.declared.items.PhaseDecl.{PhaseDecl}
 use Rattle.mdl_ast.specs.declared.items.Wish.{Wish}
+use Rattle.mdl_ast.specs.declared.block.Block.{Block}
 use Rattle.mdl_ast.specs.declared.metric.Metric.{Metric}
 use Rattle.mdl_ast.specs.declared.metric.Constraint.{Constraint}
 use Rattle.mdl_parse.specs.WordsInText.{PlacedWord}
@@ -19,6 +20,14 @@ use Rattle.mdl_parse.specs.Readers.{keyword_at, sign_at, start_at, name_at, numb
 use Rattle.mdl_parse.specs.Parts.{names_at, blocks_at}
 
 -- ---- metrics and constraints
+
+-- a keyword, a name and `{`: the line of the keyword, and the name
+unfoldable pub opened_at : List ℕ → List PlacedWord → Read (ℕ × List ℕ)
+opened_at text words_ahead = do
+  line ← start_at text words_ahead
+  name ← name_at line.1
+  opened ← sign_at OpenBrace name.1
+  Ok ((line.0, name.0), opened.1)
 
 unfoldable pub initial_at : List PlacedWord → Read ℕ
 initial_at words_ahead = do
@@ -53,18 +62,22 @@ base_at words_ahead = do
   timer ← choice_at (codes "timer") (codes "counter") of_kind.1
   Ok (timer.0, timer.1)
 
+-- the value at first, and the blocks
+unfoldable pub body_at : ℕ → List PlacedWord → Read (Option ℕ × List Block)
+body_at n words_ahead = do
+  initially ← initially_at words_ahead
+  blocks ← blocks_at n initially.1
+  Ok ((initially.0, blocks.0), blocks.1)
+
 unfoldable pub metric_at : ℕ → List PlacedWord → Read Metric
 metric_at n words_ahead = do
-  line ← start_at (codes "metric") words_ahead
-  name ← name_at line.1
-  opened ← sign_at OpenBrace name.1
-  units ← units_at opened.1
+  head ← opened_at (codes "metric") words_ahead
+  units ← units_at head.1
   constraints ← references_at units.1
   timer ← base_at constraints.1
-  initially ← initially_at timer.1
-  blocks ← blocks_at n initially.1
-  end ← sign_at CloseBrace blocks.1
-  Ok (record { line = line.0; name = name.0; units = units.0; constraints = constraints.0; timer = timer.0; initially = initially.0; blocks = blocks.0 }, end.1)
+  body ← body_at n timer.1
+  end ← sign_at CloseBrace body.1
+  Ok (record { line = head.0.0; name = head.0.1; units = units.0; constraints = constraints.0; timer = timer.0; initially = body.0.0; blocks = body.0.1 }, end.1)
 
 unfoldable pub constraint_at : ℕ → List PlacedWord → Read Constraint
 constraint_at n words_ahead = do
@@ -73,9 +86,8 @@ constraint_at n words_ahead = do
   path ← path_at name.1
   of_kind ← keyword_at (codes "is") path.1
   replace ← choice_at (codes "replace") (codes "counter") of_kind.1
-  initially ← initially_at replace.1
-  blocks ← blocks_at n initially.1
-  Ok (record { line = line.0; name = name.0; path = path.0; replace = replace.0; initially = initially.0; blocks = blocks.0 }, blocks.1)
+  body ← body_at n replace.1
+  Ok (record { line = line.0; name = name.0; path = path.0; replace = replace.0; initially = body.0.0; blocks = body.0.1 }, body.1)
 
 -- ---- hypotheses
 
@@ -110,15 +122,13 @@ axes_at words_ahead = if is_first (is_keyword (codes "axes")) words_ahead then a
 
 unfoldable pub hypothesis_at : List PlacedWord → Read Hypothesis
 hypothesis_at words_ahead = do
-  line ← start_at (codes "hypothesis") words_ahead
-  name ← name_at line.1
-  opened ← sign_at OpenBrace name.1
-  parent ← parent_at opened.1
+  head ← opened_at (codes "hypothesis") words_ahead
+  parent ← parent_at head.1
   metric ← named_field_at (codes "metric") parent.1
   threshold ← number_field_at (codes "threshold") metric.1
   axes ← axes_at threshold.1
   end ← sign_at CloseBrace axes.1
-  Ok (record { line = line.0; name = name.0; parent = parent.0; metric = metric.0; threshold = threshold.0; axes = axes.0 }, end.1)
+  Ok (record { line = head.0.0; name = head.0.1; parent = parent.0; metric = metric.0; threshold = threshold.0; axes = axes.0 }, end.1)
 
 -- ---- the other items
 

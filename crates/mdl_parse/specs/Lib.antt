@@ -15,4 +15,3 @@ pub mod Printing
 pub mod PrintParts
 pub mod Tight
 pub mod ButLines
-pub mod Shipped

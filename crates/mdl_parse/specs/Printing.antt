@@ -53,7 +53,7 @@ abbrev pub is_tight : Word → Word → Bool
 is_tight left right = is_closing right || is_opening left || (is_opening right && is_calling left)
 
 -- what stands between two words of a line; they never run into one another
-abbrev pub gap : Word → Word → List ℕ
+unfoldable pub gap : Word → Word → List ℕ
 gap left right = if is_tight left right && stand_apart left right then [] else codes " "
 
 -- the words of a line that stand behind a word

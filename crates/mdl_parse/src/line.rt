@@ -89,6 +89,7 @@ fn add_word(alloc: Global, out: &mut Vec<u8>, word: Seen) -> Result<(), NoMemory
 }
 
 /// Adds what stands between two words.
+#[tactic(auto, unfolding(crate::specs::Printing::gap))]
 fn add_gap(out: &mut Vec<u8>, left: Seen, right: Seen) -> Result<(), NoMemory>
     ensures { OnOk result (out.new.items ≡ out.old.items ++ gap (word_seen left.entry) (word_seen right.entry)) }
 {

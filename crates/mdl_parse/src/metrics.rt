@@ -2,16 +2,28 @@
 
 ghost use Rattle.std.specs.Prelude.{◌≡◌};
 ghost use Rattle.mdl_parse.specs.Gives.{Gives};
-ghost use Rattle.mdl_parse.specs.Items.{initial_at, initially_at, reference_at, references_at, units_at, base_at, metric_at, constraint_at, named_field_at, number_field_at, parent_at, axis_names_at, axes_at, hypothesis_at};
+ghost use Rattle.mdl_parse.specs.Items.{opened_at, initial_at, initially_at, reference_at, references_at, units_at, base_at, body_at, metric_at, constraint_at, named_field_at, number_field_at, parent_at, axis_names_at, axes_at, hypothesis_at};
 
 use crate::refusal::Stop;
 use crate::words::Words;
-use mdl_ast::{Constraint, Hypothesis, Metric};
+use mdl_ast::{Block, Constraint, Hypothesis, Metric};
 use pn_text::Sign;
 use pn_types::{Seq, Text};
 use std::alloc::Global;
 
 impl<'a> Words<'a> {
+    /// Passes the keyword, a name and `{`, and gives the line of the keyword and the name.
+    #[tactic(auto, unfolding(crate::specs::Items::opened_at))]
+    fn opened(&mut self, alloc: Global, text: &[u8]) -> Result<(u32, Text), Stop>
+        ensures read { Gives result self.new.words_ahead (opened_at text.now self.old.words_ahead) }
+        ensures ending { self.new.ending ≡ self.old.ending }
+    {
+        let line = self.start(text)?;
+        let name = self.name(alloc)?;
+        self.sign(Sign::OpenBrace)?;
+        Ok((line, name))
+    }
+
     /// Passes the value at first, where it is written.
     #[tactic(auto, unfolding(crate::specs::Items::initial_at, crate::specs::Steps::option_at))]
     fn initially(&mut self) -> Result<Option<u32>, Stop>
@@ -75,20 +87,28 @@ impl<'a> Words<'a> {
         Ok(self.choice(b"timer", b"counter")?)
     }
 
+    /// Passes the value at first and the blocks.
+    #[tactic(auto, unfolding(crate::specs::Items::body_at))]
+    fn body(&mut self, alloc: Global, most: usize) -> Result<(Option<u32>, Seq<Block>), Stop>
+        ensures read { Gives result self.new.words_ahead (body_at most self.old.words_ahead) }
+        ensures ending { self.new.ending ≡ self.old.ending }
+    {
+        let initially = self.initially()?;
+        let blocks = self.blocks(alloc, most)?;
+        Ok((initially, blocks))
+    }
+
     /// Passes a metric.
     #[tactic(auto, unfolding(crate::specs::Items::metric_at))]
     pub(crate) fn metric(&mut self, alloc: Global, most: usize) -> Result<Metric, Stop>
         ensures read { Gives result self.new.words_ahead (metric_at most self.old.words_ahead) }
         ensures ending { self.new.ending ≡ self.old.ending }
     {
-        let line = self.start(b"metric")?;
-        let name = self.name(alloc)?;
-        self.sign(Sign::OpenBrace)?;
+        let (line, name) = self.opened(alloc, b"metric")?;
         let units = self.units(alloc)?;
         let constraints = self.references(alloc)?;
         let timer = self.base()?;
-        let initially = self.initially()?;
-        let blocks = self.blocks(alloc, most)?;
+        let (initially, blocks) = self.body(alloc, most)?;
         self.sign(Sign::CloseBrace)?;
         Ok(Metric {
             line,
@@ -112,8 +132,7 @@ impl<'a> Words<'a> {
         let path = self.path(alloc)?;
         self.keyword(b"is")?;
         let replace = self.choice(b"replace", b"counter")?;
-        let initially = self.initially()?;
-        let blocks = self.blocks(alloc, most)?;
+        let (initially, blocks) = self.body(alloc, most)?;
         Ok(Constraint {
             line,
             name,
@@ -182,9 +201,7 @@ impl<'a> Words<'a> {
         ensures read { Gives result self.new.words_ahead (hypothesis_at self.old.words_ahead) }
         ensures ending { self.new.ending ≡ self.old.ending }
     {
-        let line = self.start(b"hypothesis")?;
-        let name = self.name(alloc)?;
-        self.sign(Sign::OpenBrace)?;
+        let (line, name) = self.opened(alloc, b"hypothesis")?;
         let parent = self.parent(alloc)?;
         let metric = self.named_field(alloc, b"metric")?;
         let threshold = self.number_field(b"threshold")?;

@@ -7,7 +7,7 @@ use Rattle.machine.specs.Cores.{In}
 use Rattle.mdl_ast.specs.declared.items.Conf.{Conf}
 use Rattle.mdl_check.specs.Checking.{IsAnswer}
 use Rattle.mdl_check.specs.Sound.{IsSound}
-use Rattle.mdl_parse.specs.Shipped.{shipped_conf}
+use Rattle.mdl_shipped.specs.Shipped.{shipped_conf}
 use Rattle.mdl_plan.specs.Fitting.{HasLowObjects}
 use Rattle.pn_types.specs.Images.{IsImage}
 use Rattle.pn_types.specs.declared.code.Point.{Point}

@@ -13,7 +13,7 @@ use Rattle.mdl_check.specs.Placed.{PlacedItem, Entry, entry, is_taken, placed, p
 use Rattle.mdl_check.specs.declared.checked.Checked.{Checked}
 use Rattle.mdl_check.specs.declared.fault.CheckKind.{CheckKind}
 use Rattle.mdl_check.specs.declared.fault.CheckKind.TheVariants.{TwiceNamed, WrongKind, CyclicParent}
-use Rattle.mdl_parse.specs.Shipped.{shipped_conf}
+use Rattle.mdl_shipped.specs.Shipped.{shipped_conf}
 use Rattle.pn_types.specs.declared.focus.Focus.{Focus}
 use Rattle.resource_tree.specs.Resources.{Resources}
 use Rattle.session.specs.Given.{HasWindow}

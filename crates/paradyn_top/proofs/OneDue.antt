@@ -14,7 +14,7 @@ use Rattle.mdl_check.specs.declared.fault.CheckFault.{CheckFault}
 use Rattle.mdl_check.specs.declared.fault.CheckFault.TheVariants.{NoMemory, At}
 use Rattle.mdl_check.specs.declared.fault.CheckKind.{CheckKind}
 use Rattle.mdl_parse.specs.Meaning.{OneConf, OneFault, ConfOrFault}
-use Rattle.mdl_parse.specs.Shipped.{shipped_conf}
+use Rattle.mdl_shipped.specs.Shipped.{shipped_conf}
 use Rattle.mdl_parse.specs.declared.fault.SyntaxKind.{SyntaxKind}
 use Rattle.mdl_plan.specs.Plans.{plan_of}
 use Rattle.mdl_plan.specs.declared.fault.PlanFault.{PlanFault}

@@ -18,7 +18,7 @@ use Rattle.elf_form.specs.declared.limits.TheConstants.{MAX_PROGRAM_LEN}
 use Rattle.live_run.specs.ByWorkers.{IsShared}
 use Rattle.mdl_ast.specs.declared.items.Conf.{Conf}
 use Rattle.mdl_ast.specs.declared.metric.Metric.{Metric}
-use Rattle.mdl_parse.specs.Shipped.{shipped_conf}
+use Rattle.mdl_shipped.specs.Shipped.{shipped_conf}
 use Rattle.mdl_plan.specs.Plans.{plan_of}
 use Rattle.mdl_plan.specs.declared.fault.PlanFault.{PlanFault}
 use Rattle.mdl_plan.specs.declared.fault.PlanFault.TheVariants as cause

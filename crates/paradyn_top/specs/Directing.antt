@@ -9,7 +9,7 @@ use Rattle.directives.specs.declared.fault.DirectiveFault.{DirectiveFault}
 use Rattle.directives.specs.declared.fault.DirectiveFault.TheVariants as fault
 use Rattle.mdl_ast.specs.declared.items.Conf.{Conf}
 use Rattle.mdl_ast.specs.declared.items.Item.{Item}
-use Rattle.mdl_parse.specs.Shipped.{shipped_conf}
+use Rattle.mdl_shipped.specs.Shipped.{shipped_conf}
 use Rattle.pn_types.specs.declared.image.Image.{Image}
 use Rattle.quanta_log.specs.declared.quantum.Quantum.{Quantum}
 use Rattle.refusals.specs.Kinds.{fault_at, directive_kind}

@@ -8,7 +8,7 @@ use Rattle.mdl_check.specs.Checking.{IsAnswer, prefixes_of}
 use Rattle.mdl_check.specs.declared.checked.Checked.{Checked}
 use Rattle.mdl_check.specs.declared.fault.CheckFault.TheVariants.{At}
 use Rattle.mdl_check.specs.declared.fault.CheckKind.{CheckKind}
-use Rattle.mdl_parse.specs.Shipped.{shipped_conf}
+use Rattle.mdl_shipped.specs.Shipped.{shipped_conf}
 use Rattle.pn_types.specs.declared.image.Image.{Image}
 use Rattle.refusals.specs.Kinds.{fault_at, check_kind}
 use Rattle.refusals.specs.Refusals.{Step}

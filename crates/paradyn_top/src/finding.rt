@@ -7,7 +7,7 @@ ghost use Rattle.code_points.specs.Procedures.{procedures_of, AreModulesGood, Ar
 ghost use Rattle.mdl_ast.specs.Small.{HasSmall};
 ghost use Rattle.mdl_check.specs.Sound.{IsSound};
 ghost use Rattle.mdl_check.specs.Placed.{placed_items};
-ghost use Rattle.mdl_parse.specs.Shipped.{shipped_conf};
+ghost use Rattle.mdl_shipped.specs.Shipped.{shipped_conf};
 ghost use Rattle.mdl_plan.specs.Fitting.{HasLowObjects};
 ghost use Rattle.paradyn_top.specs.Found.{resources_of, IsFound, IsCheck};
 ghost use Rattle.paradyn_top.specs.Given.{IsUnscratched, CanRun};
@@ -19,7 +19,7 @@ use crate::configuration::bad_configuration;
 use code_points::{objects, points, procedures};
 use mdl_ast::Conf;
 use mdl_check::{CheckFault, Checked, check, prefixes};
-use mdl_parse::shipped;
+use mdl_shipped::shipped;
 use pn_types::{Image, MAX_HARTS, NoMemory, Point, Proc, Seq};
 use refusals::{Refusal, check_kind};
 use resource_tree::Tree;

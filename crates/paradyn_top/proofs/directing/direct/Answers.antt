@@ -1,6 +1,6 @@
 use Rattle.std.proofs.Common.{ℕ, List, Result, subst, sym}
 use Rattle.command_words.specs.Asked.{asked_direct}
-use Rattle.mdl_parse.specs.Shipped.{shipped_conf}
+use Rattle.mdl_shipped.specs.Shipped.{shipped_conf}
 use Rattle.directives.specs.Applying.{IsAccepted}
 use Rattle.refusals.proofs.Steps.{comes_then, handed_on}
 use Rattle.refusals.specs.Refusals.{Step, Then}

@@ -1,7 +1,7 @@
 use Rattle.std.proofs.Common.{◌≡◌, ◌∙◌, ap, sym}
 use Rattle.directives.specs.Acts.{applied}
 use Rattle.mdl_ast.specs.declared.items.Conf.{Conf}
-use Rattle.mdl_parse.specs.Shipped.{shipped_conf}
+use Rattle.mdl_shipped.specs.Shipped.{shipped_conf}
 use Rattle.paradyn_top.proofs.Directed.{applied_few}
 use Rattle.paradyn_top.proofs.directing.directed.Goals as goal
 

@@ -12,7 +12,7 @@ use Rattle.mdl_ast.specs.declared.block.Set.{Set}
 use Rattle.mdl_ast.specs.declared.block.Set.TheVariants.{All}
 use Rattle.pn_types.specs.declared.compare.Cmp.TheVariants.{Eq, Lt}
 use Rattle.std.specs.Prelude.{Bool, true}
-use Rattle.mdl_parse.specs.Shipped.{plain, when_arg, before, around, in_proc, proc_entries, proc_calls, proc_time, on_object, procedure_calls, calls_made, cpu_inclusive, cpu, sync_wait, io_wait, small_io, shipped_conf}
+use Rattle.mdl_shipped.specs.Shipped.{plain, when_arg, before, around, in_proc, proc_entries, proc_calls, proc_time, on_object, procedure_calls, calls_made, cpu_inclusive, cpu, sync_wait, io_wait, small_io, shipped_conf}
 
 plain_small : (a : Action) → IsSmallAction a → IsSmall (plain a)
 plain_small a h = record { few = omega arith; rights = tt; act = h }

@@ -3,10 +3,12 @@
 ghost use Rattle.std.specs.Prelude.{◌≡◌, ◌++◌, ◌∷◌, [], IfOk, OnOk};
 ghost use Rattle.std.specs.List.{AllByRecursion};
 ghost use Rattle.mdl_ast.specs.Small.{HasSmall};
-ghost use Rattle.mdl_parse.specs.Shipped.{in_proc, proc_entries, proc_calls, proc_time, on_object, procedure_calls, calls_made, cpu_inclusive, cpu, sync_wait, io_wait, small_io, cpu_bound, excessive_sync, excessive_io, small_operations, lock_objects, constraint_items, first_metrics, waiting_metrics, hypothesis_items, shipped_conf};
+ghost use Rattle.mdl_ast.specs.declared.block.Set.TheVariants.{Names};
+ghost use Rattle.mdl_shipped.specs.Shipped.{locks, transfers, in_proc, proc_entries, proc_calls, proc_time, on_object, procedure_calls, calls_made, cpu_inclusive, cpu, sync_wait, io_wait, small_io, cpu_bound, excessive_sync, excessive_io, small_operations, lock_objects, constraint_items, first_metrics, waiting_metrics, hypothesis_items, shipped_conf};
 
-use crate::shipped_parts::{
-    around, before, constraint, counter, hypothesis, plain, text, texts, timer, var, when_arg,
+use crate::parts::{
+    around, before, constraint, counter, hypothesis, plain, text, texts, timer, var, waiting,
+    when_arg,
 };
 use mdl_ast::{
     Action, Conf, Constraint, EventKind, Hypothesis, Item, Metric, RightSide, Set, SyncDecl,
@@ -14,6 +16,33 @@ use mdl_ast::{
 };
 use pn_types::{Cmp, NoMemory, Seq};
 use std::alloc::Global;
+
+/// The procedures that wait for locks and barriers.
+#[tactic(auto, unfolding(crate::specs::Shipped::locks))]
+fn locks(alloc: Global) -> Result<Set, NoMemory>
+    ensures { IfOk result (λ set. set ≡ Names locks) }
+{
+    Ok(Set::Names(texts(alloc, &[b"lock_acquire", b"barrier_wait"])?))
+}
+
+/// Those that read and write.
+#[tactic(auto, unfolding(crate::specs::Shipped::transfers))]
+fn transfers(alloc: Global) -> Result<Set, NoMemory>
+    ensures { IfOk result (λ set. set ≡ Names transfers) }
+{
+    Ok(Set::Names(texts(alloc, &[b"read", b"write"])?))
+}
+
+/// All these.
+#[tactic(auto, unfolding(crate::specs::Shipped::locks, crate::specs::Shipped::transfers))]
+fn locks_and_transfers(alloc: Global) -> Result<Set, NoMemory>
+    ensures { IfOk result (λ set. set ≡ Names (locks ++ transfers)) }
+{
+    Ok(Set::Names(texts(
+        alloc,
+        &[b"lock_acquire", b"barrier_wait", b"read", b"write"],
+    )?))
+}
 
 /// Whether a hart is in the procedure.
 #[tactic(auto, unfolding(crate::specs::Shipped::in_proc))]
@@ -65,7 +94,7 @@ fn on_object(alloc: Global) -> Result<Constraint, NoMemory>
     let put = Action::Put(var(alloc, b"on_object")?, 1);
     let first = when_arg(alloc, 0, Cmp::Eq, RightSide::Value, put)?;
     let last = plain(alloc, Action::Put(var(alloc, b"on_object")?, 0));
-    let set = Set::Names(texts(alloc, &[b"lock_acquire", b"barrier_wait"])?);
+    let set = locks(alloc)?;
     let blocks = around(alloc, set, false, first, last)?;
     constraint(alloc, b"on_object", b"/SyncObject", false, blocks)
 }
@@ -95,9 +124,8 @@ fn calls_made(alloc: Global) -> Result<Metric, NoMemory>
 fn cpu_inclusive(alloc: Global) -> Result<Metric, NoMemory>
     ensures { IfOk result (λ made. made ≡ cpu_inclusive) }
 {
-    let constraints = texts(alloc, &[b"proc_time"])?;
     let blocks = Seq::from_vec(Vec::new(alloc));
-    timer(alloc, b"cpu_inclusive", constraints, Some(1), blocks)
+    timer(alloc, b"cpu_inclusive", &[b"proc_time"], Some(1), blocks)
 }
 
 /// Time without waiting.
@@ -105,15 +133,11 @@ fn cpu_inclusive(alloc: Global) -> Result<Metric, NoMemory>
 fn cpu(alloc: Global) -> Result<Metric, NoMemory>
     ensures { IfOk result (λ made. made ≡ cpu) }
 {
+    let set = locks_and_transfers(alloc)?;
     let stop = plain(alloc, Action::Stop(var(alloc, b"cpu")?));
     let start = plain(alloc, Action::Start(var(alloc, b"cpu")?));
-    let set = Set::Names(texts(
-        alloc,
-        &[b"lock_acquire", b"barrier_wait", b"read", b"write"],
-    )?);
     let blocks = around(alloc, set, false, stop, start)?;
-    let constraints = texts(alloc, &[b"proc_time"])?;
-    timer(alloc, b"cpu", constraints, Some(1), blocks)
+    timer(alloc, b"cpu", &[b"proc_time"], Some(1), blocks)
 }
 
 /// Time that is waited for locks and barriers.
@@ -121,12 +145,8 @@ fn cpu(alloc: Global) -> Result<Metric, NoMemory>
 fn sync_wait(alloc: Global) -> Result<Metric, NoMemory>
     ensures { IfOk result (λ made. made ≡ sync_wait) }
 {
-    let start = plain(alloc, Action::Start(var(alloc, b"sync_wait")?));
-    let stop = plain(alloc, Action::Stop(var(alloc, b"sync_wait")?));
-    let set = Set::Names(texts(alloc, &[b"lock_acquire", b"barrier_wait"])?);
-    let blocks = around(alloc, set, true, start, stop)?;
-    let constraints = texts(alloc, &[b"in_proc", b"on_object"])?;
-    timer(alloc, b"sync_wait", constraints, None, blocks)
+    let set = locks(alloc)?;
+    waiting(alloc, b"sync_wait", set, &[b"in_proc", b"on_object"])
 }
 
 /// Time that is waited for input and output.
@@ -134,12 +154,8 @@ fn sync_wait(alloc: Global) -> Result<Metric, NoMemory>
 fn io_wait(alloc: Global) -> Result<Metric, NoMemory>
     ensures { IfOk result (λ made. made ≡ io_wait) }
 {
-    let start = plain(alloc, Action::Start(var(alloc, b"io_wait")?));
-    let stop = plain(alloc, Action::Stop(var(alloc, b"io_wait")?));
-    let set = Set::Names(texts(alloc, &[b"read", b"write"])?);
-    let blocks = around(alloc, set, true, start, stop)?;
-    let constraints = texts(alloc, &[b"in_proc"])?;
-    timer(alloc, b"io_wait", constraints, None, blocks)
+    let set = transfers(alloc)?;
+    waiting(alloc, b"io_wait", set, &[b"in_proc"])
 }
 
 /// How often fewer than 64 bytes are read or written.
@@ -149,7 +165,7 @@ fn small_io(alloc: Global) -> Result<Metric, NoMemory>
 {
     let up = Action::Up(var(alloc, b"small_io")?);
     let small = when_arg(alloc, 2, Cmp::Lt, RightSide::Number(64), up)?;
-    let set = Set::Names(texts(alloc, &[b"read", b"write"])?);
+    let set = transfers(alloc)?;
     let blocks = before(alloc, set, EventKind::Entry, true, small)?;
     counter(alloc, b"small_io", b"operations", b"in_proc", blocks)
 }

@@ -2,7 +2,7 @@
 
 ghost use Rattle.std.specs.Prelude.{◌≡◌, ◌∷◌, [], IfOk, map, None, true, false, codes};
 ghost use Rattle.mdl_ast.specs.declared.action.VarName.TheVariants.{Named};
-ghost use Rattle.mdl_parse.specs.Shipped.{plain, when_arg, inserted, before, around, constraint, metric, hypothesis};
+ghost use Rattle.mdl_shipped.specs.Shipped.{plain, when_arg, inserted, before, around, constraint, metric, waiting, hypothesis};
 
 use mdl_ast::{
     Action, Block, Condition, Constraint, EventKind, Hypothesis, Insertion, LeftName, Metric,
@@ -204,14 +204,15 @@ pub(crate) fn counter(
 pub(crate) fn timer(
     alloc: Global,
     name: &[u8],
-    constraints: Seq<Text>,
+    constraints: &[&[u8]],
     initially: Option<u32>,
     blocks: Seq<Block>,
 ) -> Result<Metric, NoMemory>
-    ensures { IfOk result (λ made. made ≡ metric name.now (codes "ticks") constraints true initially blocks) }
+    ensures { IfOk result (λ made. made ≡ metric name.now (codes "ticks") (map (λ text. text.now) constraints.now) true initially blocks) }
 {
     let name = text(alloc, name)?;
     let units = text(alloc, b"ticks")?;
+    let constraints = texts(alloc, constraints)?;
     Ok(Metric {
         line: 0,
         name,
@@ -221,6 +222,21 @@ pub(crate) fn timer(
         initially,
         blocks,
     })
+}
+
+/// A timer of this name, from the entry of these procedures to their return.
+pub(crate) fn waiting(
+    alloc: Global,
+    name: &[u8],
+    procs: Set,
+    constraints: &[&[u8]],
+) -> Result<Metric, NoMemory>
+    ensures { IfOk result (λ made. made ≡ waiting name.now procs (map (λ text. text.now) constraints.now)) }
+{
+    let start = plain(alloc, Action::Start(var(alloc, name)?));
+    let stop = plain(alloc, Action::Stop(var(alloc, name)?));
+    let blocks = around(alloc, procs, true, start, stop)?;
+    timer(alloc, name, constraints, None, blocks)
 }
 
 /// A hypothesis.

@@ -43,10 +43,12 @@ before s kind constrained statement = record { line = 0; set = s; insertions = i
 abbrev pub around : Set → Bool → Statement → Statement → List Block
 around s constrained first last = record { line = 0; set = s; insertions = inserted true Entry constrained first ∷ inserted false Return false last ∷ [] } ∷ []
 
-abbrev pub locks : List (List ℕ)
+-- the procedures that wait for locks and barriers
+unfoldable pub locks : List (List ℕ)
 locks = codes "lock_acquire" ∷ codes "barrier_wait" ∷ []
 
-abbrev pub transfers : List (List ℕ)
+-- those that read and write
+unfoldable pub transfers : List (List ℕ)
 transfers = codes "read" ∷ codes "write" ∷ []
 
 -- ---- constraints
@@ -77,6 +79,11 @@ abbrev pub metric : List ℕ → List ℕ → List (List ℕ) → Bool → Optio
 metric name units constraints timer initially blocks =
     record { line = 0; name = name; units = units; constraints = constraints; timer = timer; initially = initially; blocks = blocks }
 
+-- a timer of this name, from the entry of these procedures to their return
+abbrev pub waiting : List ℕ → Set → List (List ℕ) → Metric
+waiting name procs constraints =
+    metric name (codes "ticks") constraints true None (around procs true (plain (act.Start (Named name))) (plain (act.Stop (Named name))))
+
 unfoldable pub procedure_calls : Metric
 procedure_calls = metric (codes "procedure_calls") (codes "calls") (codes "proc_entries" ∷ []) false None
     (before set.All Entry false (plain (act.Up (Named (codes "procedure_calls")))))
@@ -92,12 +99,10 @@ cpu = metric (codes "cpu") (codes "ticks") (codes "proc_time" ∷ []) true (Some
     (around (set.Names (locks ++ transfers)) false (plain (act.Stop (Named (codes "cpu")))) (plain (act.Start (Named (codes "cpu")))))
 
 unfoldable pub sync_wait : Metric
-sync_wait = metric (codes "sync_wait") (codes "ticks") (codes "in_proc" ∷ codes "on_object" ∷ []) true None
-    (around (set.Names locks) true (plain (act.Start (Named (codes "sync_wait")))) (plain (act.Stop (Named (codes "sync_wait")))))
+sync_wait = waiting (codes "sync_wait") (set.Names locks) (codes "in_proc" ∷ codes "on_object" ∷ [])
 
 unfoldable pub io_wait : Metric
-io_wait = metric (codes "io_wait") (codes "ticks") (codes "in_proc" ∷ []) true None
-    (around (set.Names transfers) true (plain (act.Start (Named (codes "io_wait")))) (plain (act.Stop (Named (codes "io_wait")))))
+io_wait = waiting (codes "io_wait") (set.Names transfers) (codes "in_proc" ∷ [])
 
 unfoldable pub small_io : Metric
 small_io = metric (codes "small_io") (codes "operations") (codes "in_proc" ∷ []) false None

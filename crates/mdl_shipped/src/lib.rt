@@ -1,0 +1,7 @@
+//! The shipped configuration.
+#![tactic(auto)]
+
+mod parts;
+mod shipping;
+
+pub use shipping::shipped;
