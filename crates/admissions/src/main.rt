@@ -14,7 +14,7 @@ ghost use Rattle.prim_code.specs.Named.{AreBelow};
 ghost use Rattle.instrument.specs.Admission.{slot_count};
 ghost use Rattle.instrument.specs.Armable.{IsArmable};
 
-use instrument::{Placer, Refused, State};
+use instrument::{InstrumentNo, Placer, Refused, State};
 use plans::{counted_words, timers};
 use pn_types::{Image, NoMemory, Plan, Segment, Seq};
 use std::alloc::Global;
@@ -87,6 +87,19 @@ struct Opened {
     stmts: usize,
 }
 
+/// The first Open of an instrument, where it is there and has one.
+fn open_of(placer: &Placer, number: InstrumentNo) -> Option<Opened> {
+    if placer.state(number) == State::Gone {
+        return None;
+    }
+    let range = placer.placed(number).opens.as_slice().first()?;
+    Some(Opened {
+        start: range.start,
+        len: range.len,
+        stmts: range.stmts.as_slice().len(),
+    })
+}
+
 /// The first Open of a plan's instrument, where the plan is admitted and has one.
 fn first_open(alloc: Global, plan: &Plan) -> Result<Option<Opened>, NoMemory>
     requires named { (s : Site) → In s plan.now.sites → AreBelow (length plan.now.vars) s.stmts }
@@ -96,40 +109,63 @@ fn first_open(alloc: Global, plan: &Plan) -> Result<Option<Opened>, NoMemory>
 {
     let image = image(alloc)?;
     let mut placer = Placer::new(alloc, &image, 1)?;
-    let Ok(number) = placer.admit(alloc, plan, None) else {
-        return Ok(None);
-    };
-    if placer.state(number) == State::Gone {
-        return Ok(None);
+    match placer.admit(alloc, plan, None) {
+        Ok(number) => Ok(open_of(&placer, number)),
+        Err(_) => Ok(None),
     }
-    match placer.placed(number).opens.as_slice().first() {
-        None => Ok(None),
-        Some(range) => Ok(Some(Opened {
-            start: range.start,
-            len: range.len,
-            stmts: range.stmts.as_slice().len(),
-        })),
-    }
+}
+
+/// Prints how often a plan is admitted, where so many instruments are allowed.
+fn print_filled(
+    rt: &impl Print,
+    alloc: Global,
+    what: &str,
+    instruments: u32,
+    plan: &Plan,
+    cost: Option<u64>,
+) -> io::Result<()>
+    requires some { 0 < instruments }
+    requires few { instruments ≤ MAX_INSTRUMENTS }
+    requires named { (s : Site) → In s plan.now.sites → AreBelow (length plan.now.vars) s.stmts }
+    requires words { predicted plan.now < 2 ^ 32 }
+    requires slots { slot_count plan.now.vars < 2 ^ 32 }
+    requires armable { IsArmable plan.now.vars plan.now.opens }
+{
+    let filled = fill(alloc, instruments, plan, cost)?;
+    println!(rt; "{what}: {filled:?}")
+}
+
+fn print_timers(rt: &impl Print, alloc: Global) -> io::Result<()> {
+    let three = timers(alloc, 3)?;
+    print_filled(rt, alloc, "3 timers, 1024 allowed", 1024, &three, None)
+}
+
+fn print_no_site(rt: &impl Print, alloc: Global) -> io::Result<()> {
+    let none = timers(alloc, 0)?;
+    print_filled(rt, alloc, "no site, 64 allowed", 64, &none, None)?;
+    print_filled(rt, alloc, "no site, 1024 allowed", 1024, &none, None)
+}
+
+fn print_everywhere(rt: &impl Print, alloc: Global) -> io::Result<()> {
+    let plan = counted_words(alloc, TEXT_AT, 4096)?;
+    print_filled(rt, alloc, "4096 sites", 64, &plan, None)?;
+    let what = "4096 sites, 20480 words allowed";
+    print_filled(rt, alloc, what, 64, &plan, Some(20_480))?;
+    let what = "4096 sites, 20479 words allowed";
+    print_filled(rt, alloc, what, 64, &plan, Some(20_479))
+}
+
+fn print_first_open(rt: &impl Print, alloc: Global) -> io::Result<()> {
+    let plan = counted_words(alloc, TEXT_AT, 4096)?;
+    let opened = first_open(alloc, &plan)?;
+    println!(rt; "4096 sites, admitted: {opened:?}")
 }
 
 fn main(rt: HostRuntime) -> Result<ExitCode, io::Error> {
     let alloc = rt.alloc();
-    let three = timers(alloc, 3)?;
-    let none = timers(alloc, 0)?;
-    let everywhere = counted_words(alloc, TEXT_AT, 4096)?;
-    let filled = fill(alloc, 1024, &three, None)?;
-    println!(rt; "3 timers, 1024 allowed: {filled:?}")?;
-    let filled = fill(alloc, 64, &none, None)?;
-    println!(rt; "no site, 64 allowed: {filled:?}")?;
-    let filled = fill(alloc, 1024, &none, None)?;
-    println!(rt; "no site, 1024 allowed: {filled:?}")?;
-    let filled = fill(alloc, 64, &everywhere, None)?;
-    println!(rt; "4096 sites: {filled:?}")?;
-    let filled = fill(alloc, 64, &everywhere, Some(20_480))?;
-    println!(rt; "4096 sites, 20480 words allowed: {filled:?}")?;
-    let filled = fill(alloc, 64, &everywhere, Some(20_479))?;
-    println!(rt; "4096 sites, 20479 words allowed: {filled:?}")?;
-    let opened = first_open(alloc, &everywhere)?;
-    println!(rt; "4096 sites, admitted: {opened:?}")?;
+    print_timers(&rt, alloc)?;
+    print_no_site(&rt, alloc)?;
+    print_everywhere(&rt, alloc)?;
+    print_first_open(&rt, alloc)?;
     Ok(ExitCode::SUCCESS)
 }
