@@ -1,12 +1,8 @@
--- One more item before the next.
+-- One more item that shows something from the beginning on.
 use Rattle.std.proofs.Common.{◌≡◌, ℕ, ◌==◌, ◌&&◌, ◌||◌, cond, Bool, true, false, Option, Some, None, List, [], ◌∷◌, ◌++◌, bytes_eq, refl, sym, ap, ◌∙◌, eqb-true, eq-eqb}
 use Rattle.std.specs.List.{list_any}
-use Rattle.std.specs.Prelude.{option_to_list}
 use Rattle.std.proofs.Math.Bool.{and_assoc, or-false}
-use Rattle.std.proofs.lemmas.Grind.{flat_map-append}
-use Rattle.std.proofs.lemmas.List.{append-nil}
 use Rattle.std.proofs.lemmas.List.Folds.{list_any-append}
-use Rattle.std.proofs.lemmas.List.Sums.{fold-append}
 use Rattle.std.proofs.lemmas.Slice.Eq.{bytes_eq-Decides}
 use Rattle.pn_types.specs.declared.focus.CodePart.{CodePart}
 use Rattle.pn_types.specs.declared.focus.CodePart.TheVariants.{All, Module, Procedure}
@@ -14,29 +10,13 @@ use Rattle.pn_types.specs.declared.focus.Focus.{Focus}
 use Rattle.mdl_ast.specs.declared.items.Item.{Item}
 use Rattle.mdl_ast.specs.declared.items.Item.TheVariants.{Include, Sync, Metric, Constraint, Hypothesis, Search, Phase, Wish}
 use Rattle.mdl_check.specs.Placed.{Entry}
-use Rattle.mdl_check.specs.Names.{name_in}
-use Rattle.mdl_check.specs.Rules.{is_include, is_search, is_shown_by, is_same_code, is_same_number, is_same_focus, tick_behind}
-use Rattle.mdl_check.specs.Indexes.{names_in, asked_behind, IsAsked}
+use Rattle.mdl_check.specs.Rules.{is_shown_by, is_same_code, is_same_number, is_same_focus}
 use Rattle.mdl_check.specs.Sights.{sight, is_same_sight, AreShown, IsFirstSight}
-use Rattle.mdl_check.specs.declared.before.Asked.{Asked}
-use Rattle.mdl_check.specs.declared.names.Namespace.{Namespace}
 use Rattle.mdl_check.specs.declared.sight.Sight.{Sight}
 use denote.Ref.{Bor}
 
-pub one_more_name : (n : Namespace) (es : List Entry) (e : Entry) → names_in n es ++ option_to_list (name_in n e.item) ≡ names_in n (es ++ e ∷ [])
-one_more_name n es e =
-    sym (flat_map-append (λ e. option_to_list (name_in n e.item)) es (e ∷ []) ∙ ap (λ (l : List (List ℕ)). names_in n es ++ l) (append-nil (option_to_list (name_in n e.item))))
-
 any_more : (p : Entry → Bool) (es : List Entry) (e : Entry) → list_any p (es ++ e ∷ []) ≡ (list_any p es || p e)
 any_more p es e = list_any-append p es (e ∷ []) ∙ ap (λ (b : Bool). list_any p es || b) (or-false (p e))
-
-pub more_asked : (es : List Entry) (e : Entry) (a : Asked) → IsAsked es a → IsAsked (es ++ e ∷ []) (asked_behind a e.item)
-more_asked es e a h = record {
-  metrics = ap (λ (b : Bool). b || is_include true e.item) h.metrics ∙ sym (any_more (λ e. is_include true e.item) es e);
-  hypotheses = ap (λ (b : Bool). b || is_include false e.item) h.hypotheses ∙ sym (any_more (λ e. is_include false e.item) es e);
-  search = ap (λ (b : Bool). b || is_search e.item) h.search ∙ sym (any_more (λ e. is_search e.item) es e);
-  tick = ap (λ (n : ℕ). tick_behind n e.item) h.tick ∙ sym (fold-append (λ (n : ℕ) (e : Entry). tick_behind n e.item) 0 es (e ∷ []));
-}
 
 -- ---- what is shown from the beginning on
 
@@ -97,11 +77,7 @@ one_more_sight es e s old new first h put metric f =
     ∙ ap (λ (b : Bool). list_any (λ e. is_shown_by metric.now (Some f) e.item e.focus) es || b) (sym (first metric f))
     ∙ sym (any_more (λ e. is_shown_by metric.now (Some f) e.item e.focus) es e)
 
--- ---- the whole
-
-pub more_names : (n : Namespace) (es all : List Entry) (e : Entry) (old new : List (List ℕ)) → old ≡ names_in n es → es ++ e ∷ [] ≡ all → new ≡ old ++ option_to_list (name_in n e.item) → new ≡ names_in n all
-more_names n es all e old new are whole more =
-    more ∙ ap (λ (l : List (List ℕ)). l ++ option_to_list (name_in n e.item)) are ∙ one_more_name n es e ∙ ap (names_in n) whole
+-- ---- a metric at no focus
 
 and_never : (b : Bool) → (b && false) ≡ false
 and_never true = refl

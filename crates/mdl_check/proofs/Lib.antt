@@ -4,6 +4,7 @@ mod Cycles
 mod Clearing
 mod OwnAncestors
 mod Befores
+mod ByKind
 mod Sames
 mod Entries
 mod OneAnswer

@@ -6,12 +6,11 @@ use Rattle.std.specs.Prelude.{option_to_list}
 use Rattle.std.proofs.lemmas.Iterator.Adapters.{position_from-zero}
 use Rattle.first_places.specs.Places.{first_place}
 use Rattle.first_places.proofs.Among.{stands_somewhere}
+use Rattle.mdl_ast.specs.declared.items.Item.{Item}
 use Rattle.mdl_ast.specs.declared.metric.Constraint.{Constraint as TheConstraint}
 use Rattle.mdl_check.specs.Placed.{Entry}
-use Rattle.mdl_check.specs.Names.{name_in, is_named, metric_name, number_from, metric_number, as_constraint, constraint_named, hypothesis_place, stands}
+use Rattle.mdl_check.specs.Names.{hypothesis_name, is_named, metric_name, number_from, metric_number, as_constraint, constraint_named, hypothesis_place, stands}
 use Rattle.mdl_check.specs.Indexes.{names_in, metric_names, constraint_names, constraints_in, places_from}
-use Rattle.mdl_check.specs.declared.names.Namespace.{Namespace}
-use Rattle.mdl_check.specs.declared.names.Namespace.TheVariants as namespace
 
 -- ---- the first of a name
 
@@ -106,37 +105,37 @@ constraint_is name es = found name (constraint_names es) (constraints_in es) ∙
 -- ---- hypotheses
 
 first_hypothesis : (name : List ℕ) (k : ℕ) (es : List Entry) →
-    position_from (λ e. is_named name (name_in namespace.Hypotheses e.item)) k es ≡ first_of name (names_in namespace.Hypotheses es) (places_from k es)
+    position_from (λ e. is_named name (hypothesis_name e.item)) k es ≡ first_of name (names_in hypothesis_name es) (places_from k es)
 first_hypothesis name k [] = refl
-first_hypothesis name k (e ∷ es) = by (name_in namespace.Hypotheses e.item) (first_hypothesis name (k + 1) es)
+first_hypothesis name k (e ∷ es) = by (hypothesis_name e.item) (first_hypothesis name (k + 1) es)
   where
     rest : Option ℕ
-    rest = position_from (λ e. is_named name (name_in namespace.Hypotheses e.item)) (k + 1) es
+    rest = position_from (λ e. is_named name (hypothesis_name e.item)) (k + 1) es
 
-    by : (o : Option (List ℕ)) → rest ≡ first_of name (names_in namespace.Hypotheses es) (places_from (k + 1) es) →
-        cond (is_named name o) (Some k) rest ≡ first_of name (option_to_list o ++ names_in namespace.Hypotheses es) (option_to_list (option_map (λ name. k) o) ++ places_from (k + 1) es)
+    by : (o : Option (List ℕ)) → rest ≡ first_of name (names_in hypothesis_name es) (places_from (k + 1) es) →
+        cond (is_named name o) (Some k) rest ≡ first_of name (option_to_list o ++ names_in hypothesis_name es) (option_to_list (option_map (λ name. k) o) ++ places_from (k + 1) es)
     by None h = h
     by (Some own) h = ap (cond (bytes_eq name own) (Some k)) h
 
-pub hypothesis_is : (name : List ℕ) (es : List Entry) → option_and_then (slice_get (places_from 0 es)) (first_place name (names_in namespace.Hypotheses es)) ≡ hypothesis_place es name
+pub hypothesis_is : (name : List ℕ) (es : List Entry) → option_and_then (slice_get (places_from 0 es)) (first_place name (names_in hypothesis_name es)) ≡ hypothesis_place es name
 hypothesis_is name es =
-    found name (names_in namespace.Hypotheses es) (places_from 0 es)
+    found name (names_in hypothesis_name es) (places_from 0 es)
     ∙ sym (first_hypothesis name 0 es)
-    ∙ sym (position_from-zero (λ e. is_named name (name_in namespace.Hypotheses e.item)) es)
+    ∙ sym (position_from-zero (λ e. is_named name (hypothesis_name e.item)) es)
 
 -- ---- whether a name stands there
 
-any_name : (n : Namespace) (name : List ℕ) (es : List Entry) → list_any (bytes_eq name) (names_in n es) ≡ stands n name es
-any_name n name [] = refl
-any_name n name (e ∷ es) = by (name_in n e.item) (any_name n name es)
+any_name : (own : Item → Option (List ℕ)) (name : List ℕ) (es : List Entry) → list_any (bytes_eq name) (names_in own es) ≡ stands own name es
+any_name own name [] = refl
+any_name own name (e ∷ es) = by (own e.item) (any_name own name es)
   where
-    by : (o : Option (List ℕ)) → list_any (bytes_eq name) (names_in n es) ≡ stands n name es →
-        list_any (bytes_eq name) (option_to_list o ++ names_in n es) ≡ (is_named name o || stands n name es)
+    by : (o : Option (List ℕ)) → list_any (bytes_eq name) (names_in own es) ≡ stands own name es →
+        list_any (bytes_eq name) (option_to_list o ++ names_in own es) ≡ (is_named name o || stands own name es)
     by None h = h
-    by (Some own) h = ap (λ (b : Bool). bytes_eq name own || b) h
+    by (Some other) h = ap (λ (b : Bool). bytes_eq name other || b) h
 
-pub stands_is : (n : Namespace) (name : List ℕ) (es : List Entry) → is_some (first_place name (names_in n es)) ≡ stands n name es
-stands_is n name es = stands_somewhere name (names_in n es) ∙ any_name n name es
+pub stands_is : (own : Item → Option (List ℕ)) (name : List ℕ) (es : List Entry) → is_some (first_place name (names_in own es)) ≡ stands own name es
+stands_is own name es = stands_somewhere name (names_in own es) ∙ any_name own name es
 
 -- ---- what an index finds
 
@@ -151,16 +150,16 @@ constraint_at name es all names uses o are values same h =
     ∙ constraint_is name es
     ∙ ap (λ (l : List Entry). constraint_named l name) same
 
-pub hypothesis_at : (name : List ℕ) (es all : List Entry) (names : List (List ℕ)) (places : List ℕ) (o : Option ℕ) → names ≡ names_in namespace.Hypotheses es → places ≡ places_from 0 es → es ≡ all → o ≡ first_place name names →
+pub hypothesis_at : (name : List ℕ) (es all : List Entry) (names : List (List ℕ)) (places : List ℕ) (o : Option ℕ) → names ≡ names_in hypothesis_name es → places ≡ places_from 0 es → es ≡ all → o ≡ first_place name names →
     option_and_then (slice_get places) o ≡ hypothesis_place all name
 hypothesis_at name es all names places o are values same h =
     ap (option_and_then (slice_get places)) (h ∙ ap (first_place name) are)
-    ∙ ap (λ (l : List ℕ). option_and_then (slice_get l) (first_place name (names_in namespace.Hypotheses es))) values
+    ∙ ap (λ (l : List ℕ). option_and_then (slice_get l) (first_place name (names_in hypothesis_name es))) values
     ∙ hypothesis_is name es
     ∙ ap (λ (l : List Entry). hypothesis_place l name) same
 
-pub stands_at : (n : Namespace) (name : List ℕ) (es all : List Entry) (names : List (List ℕ)) → names ≡ names_in n es → es ≡ all → is_some (first_place name names) ≡ stands n name all
-stands_at n name es all names are same = ap (λ (l : List (List ℕ)). is_some (first_place name l)) are ∙ stands_is n name es ∙ ap (stands n name) same
+pub stands_at : (own : Item → Option (List ℕ)) (name : List ℕ) (es all : List Entry) (names : List (List ℕ)) → names ≡ names_in own es → es ≡ all → is_some (first_place name names) ≡ stands own name all
+stands_at own name es all names are same = ap (λ (l : List (List ℕ)). is_some (first_place name l)) are ∙ stands_is own name es ∙ ap (stands own name) same
 
 -- there are no more metrics than items
 more : (o : Option ℕ) (a b : ℕ) → a ≤ b → IfSome o (λ n. n < a) → IfSome o (λ n. n < b)

@@ -6,27 +6,29 @@ use Rattle.mdl_ast.specs.declared.items.Item.{Item}
 use Rattle.mdl_ast.specs.declared.items.Item.TheVariants.{Metric, Constraint, Hypothesis, Phase}
 use Rattle.mdl_ast.specs.declared.metric.Constraint.{Constraint as TheConstraint}
 use Rattle.mdl_check.specs.Placed.{Entry}
-use Rattle.mdl_check.specs.declared.names.Namespace.{Namespace}
-use Rattle.mdl_check.specs.declared.names.Namespace.TheVariants as namespace
 
--- the name that an item has in a namespace: metrics and constraints share one
-abbrev pub name_in : Namespace → Item → Option (List ℕ)
-name_in namespace.Variables (Metric m) = Some m.name
-name_in namespace.Variables (Constraint c) = Some c.name
-name_in namespace.Variables item = None
-name_in namespace.Hypotheses (Hypothesis h) = Some h.name
-name_in namespace.Hypotheses item = None
-name_in namespace.Phases (Phase p) = Some p.name
-name_in namespace.Phases item = None
+-- the name of a metric or a constraint, which are told apart from one another
+abbrev pub variable_name : Item → Option (List ℕ)
+variable_name (Metric m) = Some m.name
+variable_name (Constraint c) = Some c.name
+variable_name item = None
+
+abbrev pub hypothesis_name : Item → Option (List ℕ)
+hypothesis_name (Hypothesis h) = Some h.name
+hypothesis_name item = None
+
+abbrev pub phase_name : Item → Option (List ℕ)
+phase_name (Phase p) = Some p.name
+phase_name item = None
 
 -- there is a name, and it is this one
 abbrev pub is_named : List ℕ → Option (List ℕ) → Bool
 is_named name None = false
 is_named name (Some own) = bytes_eq name own
 
--- one of the items has the name
-abbrev pub stands : Namespace → List ℕ → List Entry → Bool
-stands t name es = list_any (λ e. is_named name (name_in t e.item)) es
+-- one of the items has the name, of those of its kind
+abbrev pub stands : (Item → Option (List ℕ)) → List ℕ → List Entry → Bool
+stands own name es = list_any (λ e. is_named name (own e.item)) es
 
 -- the constraint that an item is
 abbrev pub as_constraint : Item → Option TheConstraint
@@ -60,4 +62,4 @@ metric_number es name = number_from 0 es name
 
 -- the place of the first hypothesis of this name
 abbrev pub hypothesis_place : List Entry → List ℕ → Option ℕ
-hypothesis_place es name = position (λ e. is_named name (name_in namespace.Hypotheses e.item)) es
+hypothesis_place es name = position (λ e. is_named name (hypothesis_name e.item)) es

@@ -1,14 +1,14 @@
 //! What stands before an item.
 
-ghost use Rattle.std.specs.Prelude.{◌≡◌, ◌++◌, ◌∷◌, [], IfOk, OnOk, length};
+ghost use Rattle.std.specs.Prelude.{◌≡◌, [], OnOk, length};
 ghost use Rattle.std.specs.List.{list_any};
-ghost use Rattle.mdl_check.specs.Names.{stands};
+ghost use Rattle.mdl_check.specs.Names.{variable_name, hypothesis_name, phase_name, stands};
 ghost use Rattle.mdl_check.specs.Rules.{is_include, is_search, is_shown_by, last_tick, tick_behind};
-ghost use Rattle.mdl_check.specs.Indexes.{NotesMore, asked_behind, none_asked};
+ghost use Rattle.mdl_check.specs.Indexes.{AreNoted, NotesMore, asked_behind, none_asked};
 ghost use Rattle.mdl_check.specs.Sights.{Puts, ShowsMore, is_same_sight};
 
 use crate::entry::Entry;
-use crate::names::{Namespace, add_name, name_in};
+use crate::names::{add_name, hypothesis_name, phase_name, variable_name};
 use crate::sight::{Sight, first_sight};
 use first_places::FirstPlaces;
 use mdl_ast::Item;
@@ -19,7 +19,7 @@ use std::marker::Model;
 
 /// What stands at most once, and the tick that a phase must be above.
 #[derive(Clone, Copy, Drop)]
-pub(crate) struct Asked {
+struct Asked {
     /// `include metrics` stands there.
     metrics: bool,
     /// `include hypotheses` stands there.
@@ -85,34 +85,34 @@ impl Asked {
     }
 }
 
-/// What items name, and what they show from the beginning on.
+/// What items name, show from the beginning on and ask for.
 #[derive(Drop)]
-struct Noted<'a> {
+pub(crate) struct Noted<'a> {
     variables: FirstPlaces,
     hypotheses: FirstPlaces,
     phases: FirstPlaces,
     /// What is to be shown from the beginning on.
     shown: HashSet<Sight<'a>>,
-}
-
-/// The items before one, and what they name and ask for.
-#[derive(Drop)]
-pub(crate) struct Before<'e, 'a> {
-    items: &'e [Entry<'a>],
-    noted: Noted<'a>,
     asked: Asked,
 }
 
-impl<'e, 'a> Model for Before<'e, 'a> {
+/// The items before one, and what is noted of them.
+#[derive(Drop)]
+pub(crate) struct Before<'n, 'e, 'a> {
+    items: &'e [Entry<'a>],
+    noted: &'n Noted<'a>,
+}
+
+impl<'n, 'e, 'a> Model for Before<'n, 'e, 'a> {
     ghost use Rattle.std.specs.Prelude.{List};
     ghost use Rattle.mdl_check.specs.Placed.{Entry};
-    ghost use Rattle.mdl_check.specs.Indexes.{IsBefore};
+    ghost use Rattle.mdl_check.specs.Indexes.{AreNoted};
 
     ghost Value = { List Entry };
 
     ghost view = { λ b. b.items.now };
 
-    ghost invariant = { λ b. IsBefore b.items.now b.noted.variables b.noted.hypotheses b.noted.phases b.asked b.noted.shown.keys };
+    ghost invariant = { λ b. AreNoted b.items.now b.noted.now };
 }
 
 /// Whether a sight is among those that are shown.
@@ -140,64 +140,39 @@ fn add_shown<'a>(shown: &mut HashSet<Sight<'a>>, entry: &Entry<'a>) -> Result<()
 }
 
 impl<'a> Noted<'a> {
-    /// Notes one more item.
-    fn add(&mut self, alloc: Global, entry: &Entry<'a>) -> Result<(), NoMemory>
-        ensures { OnOk result (NotesMore entry.now self.old self.new) }
+    /// What is noted before the first item.
+    pub(crate) fn none(alloc: Global) -> Noted<'a>
+        ensures { AreNoted [] result }
     {
-        let item = entry.item();
-        add_name(
-            alloc,
-            &mut self.variables,
-            name_in(Namespace::Variables, item),
-        )?;
-        add_name(
-            alloc,
-            &mut self.hypotheses,
-            name_in(Namespace::Hypotheses, item),
-        )?;
-        add_name(alloc, &mut self.phases, name_in(Namespace::Phases, item))?;
-        add_shown(&mut self.shown, entry)
-    }
-}
-
-impl<'e, 'a> Before<'e, 'a> {
-    /// What stands before the first item.
-    pub(crate) fn first(alloc: Global) -> Before<'e, 'a>
-        ensures { result ≡ [] }
-    {
-        Before {
-            items: &[],
-            noted: Noted {
-                variables: FirstPlaces::new(alloc),
-                hypotheses: FirstPlaces::new(alloc),
-                phases: FirstPlaces::new(alloc),
-                shown: HashSet::new(alloc),
-            },
+        Noted {
+            variables: FirstPlaces::new(alloc),
+            hypotheses: FirstPlaces::new(alloc),
+            phases: FirstPlaces::new(alloc),
+            shown: HashSet::new(alloc),
             asked: Asked::none(),
         }
     }
 
-    /// The same with one more item, where `items` are all of them.
-    pub(crate) fn behind(
-        self,
-        alloc: Global,
-        items: &'e [Entry<'a>],
-        entry: &Entry<'a>,
-    ) -> Result<Before<'e, 'a>, NoMemory>
-        requires { items.now ≡ self ++ entry.now ∷ [] }
-        ensures { IfOk result (λ more. more ≡ items.now) }
+    /// Notes one more item.
+    pub(crate) fn add(&mut self, alloc: Global, entry: &Entry<'a>) -> Result<(), NoMemory>
+        ensures { OnOk result (NotesMore entry.now self.old self.new) }
     {
-        let Before {
-            mut noted,
-            asked,
-            ..
-        } = self;
-        noted.add(alloc, entry)?;
-        Ok(Before {
-            items,
-            noted,
-            asked: asked.behind(entry.item()),
-        })
+        let item = entry.item();
+        self.asked = self.asked.behind(item);
+        add_name(alloc, &mut self.variables, variable_name(item))?;
+        add_name(alloc, &mut self.hypotheses, hypothesis_name(item))?;
+        add_name(alloc, &mut self.phases, phase_name(item))?;
+        add_shown(&mut self.shown, entry)
+    }
+}
+
+impl<'n, 'e, 'a> Before<'n, 'e, 'a> {
+    /// These items, of which this is noted.
+    pub(crate) fn new(items: &'e [Entry<'a>], noted: &'n Noted<'a>) -> Before<'n, 'e, 'a>
+        requires { AreNoted items.now noted.now }
+        ensures { result ≡ items.now }
+    {
+        Before { items, noted }
     }
 
     /// How many there are.
@@ -207,16 +182,25 @@ impl<'e, 'a> Before<'e, 'a> {
         self.items.len()
     }
 
-    /// Whether one of them has the name.
-    pub(crate) fn stands(&self, namespace: Namespace, name: &[u8]) -> bool
-        ensures { result ≡ stands namespace name.now self.now }
+    /// Whether one of them is a metric or a constraint of this name.
+    pub(crate) fn has_variable(&self, name: &[u8]) -> bool
+        ensures { result ≡ stands variable_name name.now self.now }
     {
-        let names = match namespace {
-            Namespace::Variables => &self.noted.variables,
-            Namespace::Hypotheses => &self.noted.hypotheses,
-            Namespace::Phases => &self.noted.phases,
-        };
-        names.lookup(name).is_some()
+        self.noted.variables.lookup(name).is_some()
+    }
+
+    /// Whether one of them is a hypothesis of this name.
+    pub(crate) fn has_hypothesis(&self, name: &[u8]) -> bool
+        ensures { result ≡ stands hypothesis_name name.now self.now }
+    {
+        self.noted.hypotheses.lookup(name).is_some()
+    }
+
+    /// Whether one of them is a phase of this name.
+    pub(crate) fn has_phase(&self, name: &[u8]) -> bool
+        ensures { result ≡ stands phase_name name.now self.now }
+    {
+        self.noted.phases.lookup(name).is_some()
     }
 
     /// Whether one of them is such an include.
@@ -224,9 +208,9 @@ impl<'e, 'a> Before<'e, 'a> {
         ensures { result ≡ list_any (λ e. is_include metrics e.item) self.now }
     {
         if metrics {
-            self.asked.metrics
+            self.noted.asked.metrics
         } else {
-            self.asked.hypotheses
+            self.noted.asked.hypotheses
         }
     }
 
@@ -234,14 +218,14 @@ impl<'e, 'a> Before<'e, 'a> {
     pub(crate) fn has_search(&self) -> bool
         ensures { result ≡ list_any (λ e. is_search e.item) self.now }
     {
-        self.asked.search
+        self.noted.asked.search
     }
 
     /// The tick of the last phase, or 0.
     pub(crate) fn last_tick(&self) -> u32
         ensures { result ≡ last_tick self.now }
     {
-        self.asked.tick
+        self.noted.asked.tick
     }
 
     /// Whether one of them shows the metric at the focus from the beginning on.

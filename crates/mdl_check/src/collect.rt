@@ -1,8 +1,9 @@
 //! The items of a faultless configuration, by their kinds.
 
-ghost use Rattle.std.specs.Prelude.{◌≡◌, ◌<◌, ◌^◌, ◌++◌, IfOk, OnOk, flat_map, length};
-ghost use Rattle.mdl_check.specs.Names.{metric_number};
-ghost use Rattle.mdl_check.specs.Checking.{metric_of, constraint_of, hypothesis_of, phase_of, search_behind, search_in, wish_of, checked_of};
+ghost use Rattle.std.specs.Prelude.{◌≡◌, ◌<◌, ◌^◌, ◌++◌, List, [], IfOk, OnOk, length};
+ghost use Rattle.mdl_check.specs.Placed.{Entry};
+ghost use Rattle.mdl_check.specs.Checking.{metric_of, constraint_of, hypothesis_of, phase_of, search_behind, wish_of, checked_of};
+ghost use Rattle.mdl_check.specs.Indexes.{AddsMore, AreByKind};
 
 use crate::checked::{Checked, CheckedWish};
 use crate::copies;
@@ -12,6 +13,17 @@ use mdl_ast::{Constraint, Hypothesis, Item, Metric, PhaseDecl, SearchDecl};
 use pn_types::{Focus, NoMemory, Seq};
 use std::alloc::Global;
 
+/// Items by their kinds.
+#[derive(Drop)]
+struct ByKind {
+    metrics: Vec<Metric>,
+    constraints: Vec<Constraint>,
+    hypotheses: Vec<Hypothesis>,
+    search: Option<SearchDecl>,
+    phases: Vec<PhaseDecl>,
+    wishes: Vec<CheckedWish>,
+}
+
 fn add_metric(alloc: Global, metrics: &mut Vec<Metric>, entry: &Entry<'_>) -> Result<(), NoMemory>
     ensures { OnOk result (metrics.new.items ≡ metrics.old.items ++ metric_of entry.now.line entry.now.item) }
 {
@@ -19,16 +31,6 @@ fn add_metric(alloc: Global, metrics: &mut Vec<Metric>, entry: &Entry<'_>) -> Re
         metrics.push(copies::metric(alloc, entry.line(), metric)?)?;
     }
     Ok(())
-}
-
-fn metrics(alloc: Global, all: &[Entry<'_>]) -> Result<Seq<Metric>, NoMemory>
-    ensures { IfOk result (λ metrics. metrics ≡ flat_map (λ e. metric_of e.line e.item) all.now) }
-{
-    let mut metrics = Vec::new(alloc);
-    for entry in all {
-        add_metric(alloc, &mut metrics, entry)?;
-    }
-    Ok(Seq::from_vec(metrics))
 }
 
 fn add_constraint(
@@ -44,16 +46,6 @@ fn add_constraint(
     Ok(())
 }
 
-fn constraints(alloc: Global, all: &[Entry<'_>]) -> Result<Seq<Constraint>, NoMemory>
-    ensures { IfOk result (λ constraints. constraints ≡ flat_map (λ e. constraint_of e.line e.item) all.now) }
-{
-    let mut constraints = Vec::new(alloc);
-    for entry in all {
-        add_constraint(alloc, &mut constraints, entry)?;
-    }
-    Ok(Seq::from_vec(constraints))
-}
-
 fn add_hypothesis(
     alloc: Global,
     hypotheses: &mut Vec<Hypothesis>,
@@ -67,16 +59,6 @@ fn add_hypothesis(
     Ok(())
 }
 
-fn hypotheses(alloc: Global, all: &[Entry<'_>]) -> Result<Seq<Hypothesis>, NoMemory>
-    ensures { IfOk result (λ hypotheses. hypotheses ≡ flat_map (λ e. hypothesis_of e.line e.item) all.now) }
-{
-    let mut hypotheses = Vec::new(alloc);
-    for entry in all {
-        add_hypothesis(alloc, &mut hypotheses, entry)?;
-    }
-    Ok(Seq::from_vec(hypotheses))
-}
-
 fn add_phase(alloc: Global, phases: &mut Vec<PhaseDecl>, entry: &Entry<'_>) -> Result<(), NoMemory>
     ensures { OnOk result (phases.new.items ≡ phases.old.items ++ phase_of entry.now.line entry.now.item) }
 {
@@ -84,16 +66,6 @@ fn add_phase(alloc: Global, phases: &mut Vec<PhaseDecl>, entry: &Entry<'_>) -> R
         phases.push(copies::phase(alloc, entry.line(), phase)?)?;
     }
     Ok(())
-}
-
-fn phases(alloc: Global, all: &[Entry<'_>]) -> Result<Seq<PhaseDecl>, NoMemory>
-    ensures { IfOk result (λ phases. phases ≡ flat_map (λ e. phase_of e.line e.item) all.now) }
-{
-    let mut phases = Vec::new(alloc);
-    for entry in all {
-        add_phase(alloc, &mut phases, entry)?;
-    }
-    Ok(Seq::from_vec(phases))
 }
 
 /// The search that an item is, or else the one before.
@@ -107,16 +79,6 @@ fn search_behind(before: Option<SearchDecl>, entry: &Entry<'_>) -> Option<Search
         }),
         _ => before,
     }
-}
-
-fn search(all: &[Entry<'_>]) -> Option<SearchDecl>
-    ensures { result ≡ search_in None all.now }
-{
-    let mut search = None;
-    for entry in all {
-        search = search_behind(search, entry);
-    }
-    search
 }
 
 fn add_wish(
@@ -146,15 +108,63 @@ fn add_wish(
     Ok(())
 }
 
-fn wishes(alloc: Global, index: &Index<'_, '_>) -> Result<Seq<CheckedWish>, NoMemory>
-    requires { length index.now < 2 ^ 32 }
-    ensures { IfOk result (λ wishes. wishes ≡ flat_map (λ e. wish_of index.now e.item e.focus) index.now) }
-{
-    let mut wishes = Vec::new(alloc);
-    for entry in index.all() {
-        add_wish(index, &mut wishes, entry.item(), entry.focus())?;
+impl ByKind {
+    fn none(alloc: Global) -> ByKind
+        ensures { (all : List Entry) → AreByKind all [] result }
+    {
+        ByKind {
+            metrics: Vec::new(alloc),
+            constraints: Vec::new(alloc),
+            hypotheses: Vec::new(alloc),
+            search: None,
+            phases: Vec::new(alloc),
+            wishes: Vec::new(alloc),
+        }
     }
-    Ok(Seq::from_vec(wishes))
+
+    /// Adds an item to those of its kind.
+    fn add(
+        &mut self,
+        alloc: Global,
+        index: &Index<'_, '_>,
+        entry: &Entry<'_>,
+    ) -> Result<(), NoMemory>
+        requires { length index.now < 2 ^ 32 }
+        ensures { OnOk result (AddsMore index.now entry.now self.old self.new) }
+    {
+        self.search = search_behind(self.search, entry);
+        add_metric(alloc, &mut self.metrics, entry)?;
+        add_constraint(alloc, &mut self.constraints, entry)?;
+        add_hypothesis(alloc, &mut self.hypotheses, entry)?;
+        add_phase(alloc, &mut self.phases, entry)?;
+        add_wish(index, &mut self.wishes, entry.item(), entry.focus())
+    }
+
+    /// Adds all items, where there is none yet.
+    fn fill(&mut self, alloc: Global, index: &Index<'_, '_>) -> Result<(), NoMemory>
+        requires few { length index.now < 2 ^ 32 }
+        requires none { AreByKind index.now [] self.old }
+        ensures { OnOk result (AreByKind index.now index.now self.new) }
+    {
+        for entry in index.all() {
+            self.add(alloc, index, entry)?;
+        }
+        Ok(())
+    }
+
+    /// The items, where they are all of these.
+    fn checked(self) -> Checked
+        ensures { (all : List Entry) → AreByKind all all self → result ≡ checked_of all }
+    {
+        Checked {
+            metrics: Seq::from_vec(self.metrics),
+            constraints: Seq::from_vec(self.constraints),
+            hypotheses: Seq::from_vec(self.hypotheses),
+            search: self.search,
+            phases: Seq::from_vec(self.phases),
+            wishes: Seq::from_vec(self.wishes),
+        }
+    }
 }
 
 /// The items by their kinds, of which there are fewer than 2^32.
@@ -162,13 +172,7 @@ pub(crate) fn checked(alloc: Global, index: &Index<'_, '_>) -> Result<Checked, N
     requires { length index.now < 2 ^ 32 }
     ensures { IfOk result (λ checked. checked ≡ checked_of index.now) }
 {
-    let all = index.all();
-    Ok(Checked {
-        metrics: metrics(alloc, all)?,
-        constraints: constraints(alloc, all)?,
-        hypotheses: hypotheses(alloc, all)?,
-        search: search(all),
-        phases: phases(alloc, all)?,
-        wishes: wishes(alloc, index)?,
-    })
+    let mut items = ByKind::none(alloc);
+    items.fill(alloc, index)?;
+    Ok(items.checked())
 }

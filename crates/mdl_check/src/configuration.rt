@@ -1,6 +1,6 @@
 //! The check.
 
-ghost use Rattle.std.specs.Prelude.{◌≡◌, ◌<◌, ◌^◌, ◌++◌, IfOk, OnOk, length};
+ghost use Rattle.std.specs.Prelude.{◌≡◌, ◌<◌, ◌^◌, ◌++◌, IfOk, OnOk, flat_map, length};
 ghost use Rattle.std.specs.List.{AllByRecursion};
 ghost use Rattle.mdl_ast.specs.Small.{HasSmall};
 ghost use Rattle.mdl_check.specs.Sound.{IsSound};
@@ -11,7 +11,7 @@ ghost use Rattle.mdl_check.specs.Judged.{IsJudged};
 
 use crate::checked::Checked;
 use crate::collect::checked;
-use crate::entry::Entry;
+use crate::entry::{Entry, PlacedItem};
 use crate::fault::CheckFault;
 use crate::index::Index;
 use crate::judge::first_fault;
@@ -94,14 +94,27 @@ fn add_prefix(alloc: Global, prefixes: &mut Vec<Text>, item: &Item) -> Result<()
     Ok(())
 }
 
+/// Adds the names of those of these items that are a `sync`.
+fn add_prefixes(
+    alloc: Global,
+    prefixes: &mut Vec<Text>,
+    places: &[PlacedItem<'_>],
+) -> Result<(), NoMemory>
+    ensures { OnOk result (prefixes.new.items ≡ prefixes.old.items ++ flat_map (λ place. sync_of place.item) places.now) }
+{
+    for place in places {
+        add_prefix(alloc, prefixes, place.item())?;
+    }
+    Ok(())
+}
+
 /// The names of the `sync` items in the order of the text, those of an include behind it. Objects whose names begin with
 /// one of these are locks and the like.
 pub fn prefixes(alloc: Global, conf: &Conf, shipped: &Conf) -> Result<Vec<Text>, NoMemory>
     ensures { IfOk result (λ prefixes. prefixes.items ≡ prefixes_of shipped.now.items conf.now.items) }
 {
+    let places = placed_items(alloc, shipped.items.as_slice(), conf.items.as_slice())?;
     let mut prefixes = Vec::new(alloc);
-    for place in &placed_items(alloc, shipped.items.as_slice(), conf.items.as_slice())? {
-        add_prefix(alloc, &mut prefixes, place.item())?;
-    }
+    add_prefixes(alloc, &mut prefixes, &places)?;
     Ok(prefixes)
 }

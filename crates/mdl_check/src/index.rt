@@ -1,14 +1,14 @@
 //! What the names of a configuration lead to.
 
-ghost use Rattle.std.specs.Prelude.{◌≡◌, ◌<◌, ◌++◌, [], IfOk, IfSome, OnOk, Some, length, is_some, option_to_list, slice_get};
+ghost use Rattle.std.specs.Prelude.{◌≡◌, ◌<◌, ◌++◌, [], IfOk, IfSome, OnOk, Some, length, option_to_list, slice_get};
 ghost use Rattle.std.specs.Option.{option_map};
-ghost use Rattle.mdl_check.specs.Names.{constraint_named, metric_number, hypothesis_place, stands, as_constraint};
+ghost use Rattle.mdl_check.specs.Names.{constraint_named, metric_number, hypothesis_name, hypothesis_place, stands, as_constraint};
 ghost use Rattle.mdl_check.specs.Rules.{is_misused, is_on};
 ghost use Rattle.mdl_check.specs.Indexes.{IsIndexOf, constraints_in, places_from, place_if};
 
 use crate::entry::Entry;
 use crate::names::{
-    Namespace, add_constraint_names, add_hypothesis_names, add_metric_names, as_constraint, name_in,
+    add_constraint_names, add_hypothesis_names, add_metric_names, as_constraint, hypothesis_name,
 };
 use crate::uses::{Use, have};
 use first_places::FirstPlaces;
@@ -124,7 +124,7 @@ fn add_uses<'a>(uses: &mut Vec<ConstraintUse<'a>>, all: &[Entry<'a>]) -> Result<
 fn add_place(places: &mut Vec<usize>, entry: &Entry<'_>, place: usize) -> Result<(), NoMemory>
     ensures { OnOk result (places.new.items ≡ places.old.items ++ place_if entry.now place) }
 {
-    if name_in(Namespace::Hypotheses, entry.item()).is_some() {
+    if hypothesis_name(entry.item()).is_some() {
         places.push(place)?;
     }
     Ok(())
@@ -226,7 +226,7 @@ impl<'e, 'a> Index<'e, 'a> {
 
     /// Whether there is a hypothesis of this name.
     pub(crate) fn has_hypothesis(&self, name: &[u8]) -> bool
-        ensures { result ≡ stands Namespace.Hypotheses name.now self.now }
+        ensures { result ≡ stands hypothesis_name name.now self.now }
     {
         self.kept.hypotheses.lookup(name).is_some()
     }

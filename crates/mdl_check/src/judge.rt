@@ -1,11 +1,12 @@
 //! The first faulty item.
 
-ghost use Rattle.std.specs.Prelude.{◌≡◌, IfOk};
+ghost use Rattle.std.specs.Prelude.{◌≡◌, [], IfOk};
 ghost use Rattle.mdl_check.specs.Rules.{fault_of, parents_of};
 ghost use Rattle.mdl_check.specs.Checking.{first_fault};
+ghost use Rattle.mdl_check.specs.Indexes.{AreNoted};
 
 use crate::ancestors::Ancestry;
-use crate::before::Before;
+use crate::before::{Before, Noted};
 use crate::entry::Entry;
 use crate::fault::CheckKind;
 use crate::index::Index;
@@ -18,7 +19,7 @@ use std::alloc::Global;
 fn fault_of<'a>(
     index: &Index<'_, 'a>,
     ancestry: &Ancestry,
-    before: &Before<'_, 'a>,
+    before: &Before<'_, '_, 'a>,
     entry: &Entry<'a>,
 ) -> Option<CheckKind>
     requires { ancestry.now ≡ parents_of index.now }
@@ -43,22 +44,24 @@ fn fault_of<'a>(
     None
 }
 
-/// The line of the first faulty item and what is wrong with it, given the parents of all items.
-fn first_fault_by(
+/// The line of the first faulty item and what is wrong with it, given the parents of all items, where nothing is noted yet.
+fn first_fault_by<'a>(
     alloc: Global,
-    index: &Index<'_, '_>,
+    index: &Index<'_, 'a>,
     ancestry: &Ancestry,
+    noted: &mut Noted<'a>,
 ) -> Result<Option<(u32, CheckKind)>, NoMemory>
-    requires { ancestry.now ≡ parents_of index.now }
+    requires parents { ancestry.now ≡ parents_of index.now }
+    requires none { AreNoted [] noted.old }
     ensures { IfOk result (λ fault. fault ≡ first_fault index.now) }
 {
     let all = index.all();
-    let mut before = Before::first(alloc);
     for (place, entry) in all.iter().enumerate() {
+        let before = Before::new(&all[..place], noted);
         if let Some(kind) = fault_of(index, ancestry, &before, entry) {
             return Ok(Some((entry.line(), kind)));
         }
-        before = before.behind(alloc, &all[..=place], entry)?;
+        noted.add(alloc, entry)?;
     }
     Ok(None)
 }
@@ -71,5 +74,6 @@ pub(crate) fn first_fault(
     ensures { IfOk result (λ fault. fault ≡ first_fault index.now) }
 {
     let ancestry = Ancestry::of(alloc, index)?;
-    first_fault_by(alloc, index, &ancestry)
+    let mut noted = Noted::none(alloc);
+    first_fault_by(alloc, index, &ancestry, &mut noted)
 }

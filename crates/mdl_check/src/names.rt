@@ -2,7 +2,7 @@
 
 ghost use Rattle.std.specs.Prelude.{◌≡◌, ◌++◌, OnOk, option_to_list};
 ghost use Rattle.std.specs.Option.{option_map};
-ghost use Rattle.mdl_check.specs.Names.{name_in, is_named, metric_name, as_constraint};
+ghost use Rattle.mdl_check.specs.Names.{variable_name, hypothesis_name, phase_name, is_named, metric_name, as_constraint};
 ghost use Rattle.mdl_check.specs.Indexes.{names_in, metric_names, constraint_names};
 
 use crate::entry::Entry;
@@ -11,26 +11,33 @@ use mdl_ast::{Constraint, Item};
 use pn_types::NoMemory;
 use std::alloc::Global;
 
-/// What names are told apart in.
-#[derive(Clone, Copy, Drop)]
-pub(crate) enum Namespace {
-    /// The metrics and the constraints.
-    Variables,
-    /// The hypotheses.
-    Hypotheses,
-    /// The phases.
-    Phases,
+/// The name of a metric or a constraint.
+pub(crate) fn variable_name(item: &Item) -> Option<&[u8]>
+    ensures { option_map (λ name. name.now) result ≡ variable_name item.now }
+{
+    match item {
+        Item::Metric(metric) => Some(metric.name.bytes()),
+        Item::Constraint(constraint) => Some(constraint.name.bytes()),
+        _ => None,
+    }
 }
 
-/// The name that an item has in a namespace.
-pub(crate) fn name_in(namespace: Namespace, item: &Item) -> Option<&[u8]>
-    ensures { option_map (λ name. name.now) result ≡ name_in namespace item.now }
+/// The name of a hypothesis.
+pub(crate) fn hypothesis_name(item: &Item) -> Option<&[u8]>
+    ensures { option_map (λ name. name.now) result ≡ hypothesis_name item.now }
 {
-    match (namespace, item) {
-        (Namespace::Variables, Item::Metric(metric)) => Some(metric.name.bytes()),
-        (Namespace::Variables, Item::Constraint(constraint)) => Some(constraint.name.bytes()),
-        (Namespace::Hypotheses, Item::Hypothesis(hypothesis)) => Some(hypothesis.name.bytes()),
-        (Namespace::Phases, Item::Phase(phase)) => Some(phase.name.bytes()),
+    match item {
+        Item::Hypothesis(hypothesis) => Some(hypothesis.name.bytes()),
+        _ => None,
+    }
+}
+
+/// The name of a phase.
+pub(crate) fn phase_name(item: &Item) -> Option<&[u8]>
+    ensures { option_map (λ name. name.now) result ≡ phase_name item.now }
+{
+    match item {
+        Item::Phase(phase) => Some(phase.name.bytes()),
         _ => None,
     }
 }
@@ -85,10 +92,10 @@ pub(crate) fn add_hypothesis_names(
     names: &mut FirstPlaces,
     all: &[Entry<'_>],
 ) -> Result<(), NoMemory>
-    ensures { OnOk result (names.new ≡ names.old ++ names_in Namespace.Hypotheses all.now) }
+    ensures { OnOk result (names.new ≡ names.old ++ names_in hypothesis_name all.now) }
 {
     for entry in all {
-        add_name(alloc, names, name_in(Namespace::Hypotheses, entry.item()))?;
+        add_name(alloc, names, hypothesis_name(entry.item()))?;
     }
     Ok(())
 }

@@ -6,7 +6,6 @@ ghost use Rattle.mdl_check.specs.Rules.{is_on, are_two_on, is_metric_repeated, i
 
 use crate::before::Before;
 use crate::index::Index;
-use crate::names::Namespace;
 use mdl_ast::{Item, Metric, PhaseDecl, Wish};
 use pn_types::{Focus, Text};
 
@@ -27,23 +26,22 @@ fn are_two_on(index: &Index<'_, '_>, path: &[u8], names: &[Text]) -> bool
     1 < names.iter().filter(|name| is_on(index, path, name)).count()
 }
 
-fn is_metric_repeated(index: &Index<'_, '_>, before: &Before<'_, '_>, metric: &Metric) -> bool
+fn is_metric_repeated(index: &Index<'_, '_>, before: &Before<'_, '_, '_>, metric: &Metric) -> bool
     ensures { result ≡ is_metric_repeated index.now before.now metric.now }
 {
     let constraints = metric.constraints.as_slice();
-    before.stands(Namespace::Variables, metric.name.bytes())
+    before.has_variable(metric.name.bytes())
         || are_two_on(index, b"/Code", constraints)
         || are_two_on(index, b"/SyncObject", constraints)
 }
 
-fn is_phase_repeated(before: &Before<'_, '_>, phase: &PhaseDecl) -> bool
+fn is_phase_repeated(before: &Before<'_, '_, '_>, phase: &PhaseDecl) -> bool
     ensures { result ≡ is_phase_repeated before.now phase.now }
 {
-    phase.name.bytes() == b"global".as_slice()
-        || before.stands(Namespace::Phases, phase.name.bytes())
+    phase.name.bytes() == b"global".as_slice() || before.has_phase(phase.name.bytes())
 }
 
-fn is_wish_repeated<'a>(before: &Before<'_, 'a>, wish: &'a Wish, focus: Option<Focus>) -> bool
+fn is_wish_repeated<'a>(before: &Before<'_, '_, 'a>, wish: &'a Wish, focus: Option<Focus>) -> bool
     ensures { result ≡ is_wish_repeated before.now wish.now focus }
 {
     wish.at == 0 && wish.show && before.shows(wish.metric.bytes(), focus)
@@ -52,7 +50,7 @@ fn is_wish_repeated<'a>(before: &Before<'_, 'a>, wish: &'a Wish, focus: Option<F
 /// Whether an item before this one has its name or asks for what it asks for.
 pub(crate) fn is_repeated<'a>(
     index: &Index<'_, 'a>,
-    before: &Before<'_, 'a>,
+    before: &Before<'_, '_, 'a>,
     item: &'a Item,
     focus: Option<Focus>,
 ) -> bool
@@ -62,12 +60,8 @@ pub(crate) fn is_repeated<'a>(
         Item::Include(include) => before.includes(include.metrics),
         Item::Sync(_) => false,
         Item::Metric(metric) => is_metric_repeated(index, before, metric),
-        Item::Constraint(constraint) => {
-            before.stands(Namespace::Variables, constraint.name.bytes())
-        }
-        Item::Hypothesis(hypothesis) => {
-            before.stands(Namespace::Hypotheses, hypothesis.name.bytes())
-        }
+        Item::Constraint(constraint) => before.has_variable(constraint.name.bytes()),
+        Item::Hypothesis(hypothesis) => before.has_hypothesis(hypothesis.name.bytes()),
         Item::Search(_) => before.has_search(),
         Item::Phase(phase) => is_phase_repeated(before, phase),
         Item::Wish(wish) => is_wish_repeated(before, wish, focus),

@@ -169,7 +169,7 @@ fn is_constraint_wrong(constraint: &Constraint) -> bool
 }
 
 /// Whether what the item names can't be used so, or a number is out of its range.
-pub(crate) fn is_wrong(index: &Index<'_, '_>, before: &Before<'_, '_>, item: &Item) -> bool
+pub(crate) fn is_wrong(index: &Index<'_, '_>, before: &Before<'_, '_, '_>, item: &Item) -> bool
     ensures { result ≡ is_wrong index.now before.now item.now }
 {
     match item {

@@ -11,7 +11,7 @@ use Rattle.mdl_check.proofs.before.Before.shows.Goals as goal
 pub returns-in-Some : goal.returns-in-Some
 returns-in-Some c =
     c.is_shown.ensures
-    ∙ ap (λ (s : Sight). list_any (is_same_sight s) c.self.inside.noted.shown.keys) c.new.ensures
+    ∙ ap (λ (s : Sight). list_any (is_same_sight s) c.self.inside.noted.now.shown.keys) c.new.ensures
     ∙ c.self.invariant.shown_are c.args.metric c.in-Some.focus
     ∙ ap (λ (es : List Entry). list_any (λ e. is_shown_by c.args.metric.now (Some c.in-Some.focus) e.item e.focus) es) c.self.view_is
     ∙ ap (λ (o : Option Focus). list_any (λ e. is_shown_by c.args.metric.now o e.item e.focus) c.args.self.now) (sym c.in-Some.is)
