@@ -12,7 +12,7 @@ last_search : (before : Option SearchDecl) (es : List Entry) (e : Entry) → sea
 last_search before [] e = refl
 last_search before (x ∷ es) e = last_search (search_behind before x.line x.item) es e
 
-more : {X : Type 0} (of : Entry → List X) (es : List Entry) (e : Entry) (old new : List X) → old ≡ flat_map of es → new ≡ old ++ of e → new ≡ flat_map of (es ++ e ∷ [])
+pub more : {X : Type 0} (of : Entry → List X) (es : List Entry) (e : Entry) (old new : List X) → old ≡ flat_map of es → new ≡ old ++ of e → new ≡ flat_map of (es ++ e ∷ [])
 more of es e old new are added = added ∙ ap (λ l. l ++ of e) are ∙ sym (flat_map-append of es (e ∷ []) ∙ ap (λ l. flat_map of es ++ l) (append-nil (of e)))
 
 pub one_more_item : (all es : List Entry) (e : Entry) (old new : ByKind) → AreByKind all es old → AddsMore all e old new → AreByKind all (es ++ e ∷ []) new

@@ -5,6 +5,7 @@ mod Clearing
 mod OwnAncestors
 mod Befores
 mod ByKind
+mod Keeping
 mod Sames
 mod Entries
 mod OneAnswer

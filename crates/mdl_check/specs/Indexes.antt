@@ -1,4 +1,4 @@
--- For proofs alone: what is kept of the items, so that each name is found at once.
+-- For proofs alone: what is kept of the items, so that each name is found at once, and the items by their kinds.
 use Rattle.std.specs.Prelude.{ℕ, ◌≡◌, ◌+◌, ◌||◌, true, false, Option, None, List, [], ◌∷◌, ◌++◌, flat_map, option_to_list}
 use Rattle.std.specs.List.{list_any}
 use Rattle.std.specs.Option.{option_map}
@@ -12,6 +12,7 @@ use Rattle.mdl_check.specs.Checking.{metric_of, constraint_of, hypothesis_of, ph
 use Rattle.mdl_check.specs.declared.before.Asked.{Asked}
 use Rattle.mdl_check.specs.declared.before.Noted.{Noted}
 use Rattle.mdl_check.specs.declared.collect.ByKind.{ByKind}
+use Rattle.mdl_check.specs.declared.index.Kept.{Kept}
 
 -- ---- all items
 
@@ -36,12 +37,21 @@ abbrev pub places_from : ℕ → List Entry → List ℕ
 places_from k [] = []
 places_from k (e ∷ es) = place_if e k ++ places_from (k + 1) es
 
-pub record IsIndexOf (es : List Entry) (metrics constraints : List (List ℕ)) (uses : List TheConstraint) (hypotheses : List (List ℕ)) (places : List ℕ) : Type 0 where
-  pub metrics_are : metrics ≡ metric_names es
-  pub constraints_are : constraints ≡ constraint_names es
-  pub uses_are : uses ≡ constraints_in es
-  pub hypotheses_are : hypotheses ≡ names_in hypothesis_name es
-  pub places_are : places ≡ places_from 0 es
+-- this is kept of the items of a list
+pub record IsKept (es : List Entry) (kept : Kept) : Type 0 where
+  pub metrics_are : kept.metrics ≡ metric_names es
+  pub constraints_are : kept.constraints ≡ constraint_names es
+  pub uses_are : kept.uses.items ≡ constraints_in es
+  pub hypotheses_are : kept.hypotheses ≡ names_in hypothesis_name es
+  pub places_are : kept.places.items ≡ places_from 0 es
+
+-- the same with one more item, which stands at place k
+pub record KeepsMore (e : Entry) (k : ℕ) (old new : Kept) : Type 0 where
+  pub metrics : new.metrics ≡ old.metrics ++ option_to_list (metric_name e.item)
+  pub constraints : new.constraints ≡ old.constraints ++ option_to_list (option_map (λ c. c.name) (as_constraint e.item))
+  pub uses : new.uses.items ≡ old.uses.items ++ option_to_list (as_constraint e.item)
+  pub hypotheses : new.hypotheses ≡ old.hypotheses ++ option_to_list (hypothesis_name e.item)
+  pub places : new.places.items ≡ old.places.items ++ place_if e k
 
 -- ---- the items before one
 

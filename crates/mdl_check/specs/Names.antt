@@ -7,7 +7,7 @@ use Rattle.mdl_ast.specs.declared.items.Item.TheVariants.{Metric, Constraint, Hy
 use Rattle.mdl_ast.specs.declared.metric.Constraint.{Constraint as TheConstraint}
 use Rattle.mdl_check.specs.Placed.{Entry}
 
--- the name of a metric or a constraint, which are told apart from one another
+-- the name of a metric or a constraint: the two share one namespace
 abbrev pub variable_name : Item → Option (List ℕ)
 variable_name (Metric m) = Some m.name
 variable_name (Constraint c) = Some c.name
@@ -26,7 +26,7 @@ abbrev pub is_named : List ℕ → Option (List ℕ) → Bool
 is_named name None = false
 is_named name (Some own) = bytes_eq name own
 
--- one of the items has the name, of those of its kind
+-- one of the items has the name, as what its kind is named
 abbrev pub stands : (Item → Option (List ℕ)) → List ℕ → List Entry → Bool
 stands own name es = list_any (λ e. is_named name (own e.item)) es
 

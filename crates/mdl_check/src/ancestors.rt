@@ -28,11 +28,11 @@ fn parent_place(index: &Index<'_, '_>, item: &Item) -> Option<usize>
 fn parents_of(alloc: Global, index: &Index<'_, '_>) -> Result<Vec<Option<usize>>, NoMemory>
     ensures { IfOk result (λ parents. parents.items ≡ parents_of index.now) }
 {
-    index
-        .all()
-        .iter()
-        .map(|entry| parent_place(index, entry.item()))
-        .collect(alloc)
+    let mut parents = Vec::new(alloc);
+    for entry in index.all() {
+        parents.push(parent_place(index, entry.item()))?;
+    }
+    Ok(parents)
 }
 
 /// The place of the parent of the item at a place.

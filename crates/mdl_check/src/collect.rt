@@ -1,13 +1,14 @@
 //! The items of a faultless configuration, by their kinds.
 
-ghost use Rattle.std.specs.Prelude.{◌≡◌, ◌<◌, ◌^◌, ◌++◌, List, [], IfOk, OnOk, length};
+ghost use Rattle.std.specs.Prelude.{◌≡◌, ◌<◌, ◌^◌, ◌++◌, List, [], None, OnOk, length};
 ghost use Rattle.mdl_check.specs.Placed.{Entry};
-ghost use Rattle.mdl_check.specs.Checking.{metric_of, constraint_of, hypothesis_of, phase_of, search_behind, wish_of, checked_of};
+ghost use Rattle.mdl_check.specs.Checking.{metric_of, constraint_of, hypothesis_of, phase_of, search_behind, wish_of, first_fault, checked_of};
 ghost use Rattle.mdl_check.specs.Indexes.{AddsMore, AreByKind};
+ghost use Rattle.mdl_check.specs.Judged.{IsJudged};
 
 use crate::checked::{Checked, CheckedWish};
-use crate::copies;
 use crate::entry::Entry;
+use crate::fault::CheckFault;
 use crate::index::Index;
 use mdl_ast::{Constraint, Hypothesis, Item, Metric, PhaseDecl, SearchDecl};
 use pn_types::{Focus, NoMemory, Seq};
@@ -28,7 +29,9 @@ fn add_metric(alloc: Global, metrics: &mut Vec<Metric>, entry: &Entry<'_>) -> Re
     ensures { OnOk result (metrics.new.items ≡ metrics.old.items ++ metric_of entry.now.line entry.now.item) }
 {
     if let Item::Metric(metric) = entry.item() {
-        metrics.push(copies::metric(alloc, entry.line(), metric)?)?;
+        let mut copy = metric.copy(alloc)?;
+        copy.line = entry.line();
+        metrics.push(copy)?;
     }
     Ok(())
 }
@@ -41,7 +44,9 @@ fn add_constraint(
     ensures { OnOk result (constraints.new.items ≡ constraints.old.items ++ constraint_of entry.now.line entry.now.item) }
 {
     if let Item::Constraint(constraint) = entry.item() {
-        constraints.push(copies::constraint(alloc, entry.line(), constraint)?)?;
+        let mut copy = constraint.copy(alloc)?;
+        copy.line = entry.line();
+        constraints.push(copy)?;
     }
     Ok(())
 }
@@ -54,7 +59,9 @@ fn add_hypothesis(
     ensures { OnOk result (hypotheses.new.items ≡ hypotheses.old.items ++ hypothesis_of entry.now.line entry.now.item) }
 {
     if let Item::Hypothesis(hypothesis) = entry.item() {
-        hypotheses.push(copies::hypothesis(alloc, entry.line(), hypothesis)?)?;
+        let mut copy = hypothesis.copy(alloc)?;
+        copy.line = entry.line();
+        hypotheses.push(copy)?;
     }
     Ok(())
 }
@@ -63,7 +70,9 @@ fn add_phase(alloc: Global, phases: &mut Vec<PhaseDecl>, entry: &Entry<'_>) -> R
     ensures { OnOk result (phases.new.items ≡ phases.old.items ++ phase_of entry.now.line entry.now.item) }
 {
     if let Item::Phase(phase) = entry.item() {
-        phases.push(copies::phase(alloc, entry.line(), phase)?)?;
+        let mut copy = phase.copy(alloc)?;
+        copy.line = entry.line();
+        phases.push(copy)?;
     }
     Ok(())
 }
@@ -167,10 +176,11 @@ impl ByKind {
     }
 }
 
-/// The items by their kinds, of which there are fewer than 2^32.
-pub(crate) fn checked(alloc: Global, index: &Index<'_, '_>) -> Result<Checked, NoMemory>
-    requires { length index.now < 2 ^ 32 }
-    ensures { IfOk result (λ checked. checked ≡ checked_of index.now) }
+/// What faultless items are answered with, of which there are fewer than 2^32.
+pub(crate) fn checked(alloc: Global, index: &Index<'_, '_>) -> Result<Checked, CheckFault>
+    requires few { length index.now < 2 ^ 32 }
+    requires faultless { first_fault index.now ≡ None }
+    ensures { IsJudged index.now result }
 {
     let mut items = ByKind::none(alloc);
     items.fill(alloc, index)?;

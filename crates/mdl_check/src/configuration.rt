@@ -1,35 +1,41 @@
 //! The check.
 
-ghost use Rattle.std.specs.Prelude.{◌≡◌, ◌<◌, ◌^◌, ◌++◌, IfOk, OnOk, flat_map, length};
+ghost use Rattle.std.specs.Prelude.{◌≡◌, ◌<◌, ◌^◌, ◌++◌, [], IfOk, OnOk, flat_map, length};
 ghost use Rattle.std.specs.List.{AllByRecursion};
 ghost use Rattle.mdl_ast.specs.Small.{HasSmall};
 ghost use Rattle.mdl_check.specs.Sound.{IsSound};
 ghost use Rattle.mdl_check.specs.Placed.{placed_items};
 ghost use Rattle.mdl_check.specs.Ancestors.{CyclicIsOwnAncestor};
 ghost use Rattle.mdl_check.specs.Checking.{IsAnswer, OneAnswer, sync_of, prefixes_of};
+ghost use Rattle.mdl_check.specs.Indexes.{IsKept};
 ghost use Rattle.mdl_check.specs.Judged.{IsJudged};
 
 use crate::checked::Checked;
 use crate::collect::checked;
 use crate::entry::{Entry, PlacedItem};
 use crate::fault::CheckFault;
-use crate::index::Index;
-use crate::judge::first_fault;
+use crate::index::{Index, Kept};
+use crate::judge::find_fault;
 use crate::places::{entries, placed_items};
 use mdl_ast::{Conf, Item};
 use pn_types::{NoMemory, Text};
 use resource_tree::{Tree, one_reading};
 use std::alloc::Global;
 
-/// What the items of this index are answered with.
-fn judged_by(alloc: Global, index: &Index<'_, '_>) -> Result<Checked, CheckFault>
-    requires { length index.now < 2 ^ 32 }
-    ensures { IsJudged index.now result }
+/// What these items are answered with, where nothing is kept of them yet.
+fn judged_by<'a>(
+    alloc: Global,
+    all: &[Entry<'a>],
+    kept: &mut Kept<'a>,
+) -> Result<Checked, CheckFault>
+    requires few { length all.now < 2 ^ 32 }
+    requires none { IsKept [] kept.old }
+    ensures { IsJudged all.now result }
 {
-    if let Some((line, kind)) = first_fault(alloc, index)? {
-        return Err(CheckFault::At { line, kind });
-    }
-    Ok(checked(alloc, index)?)
+    kept.fill(alloc, all)?;
+    let index = Index::new(all, kept);
+    find_fault(alloc, &index)?;
+    checked(alloc, &index)
 }
 
 /// What these items are answered with.
@@ -37,8 +43,8 @@ fn judged(alloc: Global, all: &[Entry<'_>]) -> Result<Checked, CheckFault>
     requires { length all.now < 2 ^ 32 }
     ensures { IsJudged all.now result }
 {
-    let index = Index::of(alloc, all)?;
-    judged_by(alloc, &index)
+    let mut kept = Kept::none(alloc);
+    judged_by(alloc, all, &mut kept)
 }
 
 /// Checks a configuration against the tree of a program's resources, where `include metrics` stands for the shipped
@@ -68,8 +74,7 @@ pub fn check(alloc: Global, conf: &Conf, shipped: &Conf, tree: &Tree) -> Result<
     // What is parsed or shipped has small statements.
     ensures sound { AllByRecursion HasSmall shipped.now.items → AllByRecursion HasSmall conf.now.items → IfOk result IsSound }
 {
-    let places = placed_items(alloc, shipped.items.as_slice(), conf.items.as_slice())?;
-    let all = entries(alloc, tree, &places)?;
+    let all = entries(alloc, tree, shipped.items.as_slice(), conf.items.as_slice())?;
     judged(alloc, &all)
 }
 

@@ -1,15 +1,13 @@
 //! What the names of a configuration lead to.
 
-ghost use Rattle.std.specs.Prelude.{◌≡◌, ◌<◌, ◌++◌, [], IfOk, IfSome, OnOk, Some, length, option_to_list, slice_get};
+ghost use Rattle.std.specs.Prelude.{◌≡◌, ◌<◌, ◌++◌, [], IfSome, OnOk, Some, length, option_to_list, slice_get};
 ghost use Rattle.std.specs.Option.{option_map};
 ghost use Rattle.mdl_check.specs.Names.{constraint_named, metric_number, hypothesis_name, hypothesis_place, stands, as_constraint};
 ghost use Rattle.mdl_check.specs.Rules.{is_misused, is_on};
-ghost use Rattle.mdl_check.specs.Indexes.{IsIndexOf, constraints_in, places_from, place_if};
+ghost use Rattle.mdl_check.specs.Indexes.{IsKept, KeepsMore, place_if};
 
 use crate::entry::Entry;
-use crate::names::{
-    add_constraint_names, add_hypothesis_names, add_metric_names, as_constraint, hypothesis_name,
-};
+use crate::names::{add_name, as_constraint, constraint_name, hypothesis_name, metric_name};
 use crate::uses::{Use, have};
 use first_places::FirstPlaces;
 use mdl_ast::Constraint;
@@ -72,10 +70,10 @@ impl<'a> ConstraintUse<'a> {
 
 /// What is kept of items, so that each name is found at once.
 #[derive(Drop)]
-struct Kept<'a> {
+pub(crate) struct Kept<'a> {
     metrics: FirstPlaces,
     constraints: FirstPlaces,
-    /// The constraints in their order.
+    /// The constraints in their order, each looked through once.
     uses: Vec<ConstraintUse<'a>>,
     hypotheses: FirstPlaces,
     /// The places of the hypotheses among all items.
@@ -86,19 +84,19 @@ struct Kept<'a> {
 #[derive(Drop)]
 pub(crate) struct Index<'e, 'a> {
     all: &'e [Entry<'a>],
-    kept: Kept<'a>,
+    kept: &'e Kept<'a>,
 }
 
 impl<'e, 'a> Model for Index<'e, 'a> {
     ghost use Rattle.std.specs.Prelude.{List};
     ghost use Rattle.mdl_check.specs.Placed.{Entry};
-    ghost use Rattle.mdl_check.specs.Indexes.{IsIndexOf};
+    ghost use Rattle.mdl_check.specs.Indexes.{IsKept};
 
     ghost Value = { List Entry };
 
     ghost view = { λ i. i.all.now };
 
-    ghost invariant = { λ i. IsIndexOf i.all.now i.kept.metrics i.kept.constraints i.kept.uses.items i.kept.hypotheses i.kept.places.items };
+    ghost invariant = { λ i. IsKept i.all.now i.kept.now };
 }
 
 fn add_use<'a>(uses: &mut Vec<ConstraintUse<'a>>, entry: &Entry<'a>) -> Result<(), NoMemory>
@@ -106,16 +104,6 @@ fn add_use<'a>(uses: &mut Vec<ConstraintUse<'a>>, entry: &Entry<'a>) -> Result<(
 {
     if let Some(constraint) = as_constraint(entry.item()) {
         uses.push(ConstraintUse::new(constraint))?;
-    }
-    Ok(())
-}
-
-/// Adds the constraints, each looked through once.
-fn add_uses<'a>(uses: &mut Vec<ConstraintUse<'a>>, all: &[Entry<'a>]) -> Result<(), NoMemory>
-    ensures { OnOk result (uses.new.items ≡ uses.old.items ++ constraints_in all.now) }
-{
-    for entry in all {
-        add_use(uses, entry)?;
     }
     Ok(())
 }
@@ -130,19 +118,10 @@ fn add_place(places: &mut Vec<usize>, entry: &Entry<'_>, place: usize) -> Result
     Ok(())
 }
 
-/// Adds the places of the hypotheses.
-fn add_places(places: &mut Vec<usize>, all: &[Entry<'_>]) -> Result<(), NoMemory>
-    ensures { OnOk result (places.new.items ≡ places.old.items ++ places_from 0 all.now) }
-{
-    for (place, entry) in all.iter().enumerate() {
-        add_place(places, entry, place)?;
-    }
-    Ok(())
-}
-
 impl<'a> Kept<'a> {
-    fn new(alloc: Global) -> Kept<'a>
-        ensures { IsIndexOf [] result.metrics result.constraints result.uses.items result.hypotheses result.places.items }
+    /// What is kept of no items.
+    pub(crate) fn none(alloc: Global) -> Kept<'a>
+        ensures { IsKept [] result }
     {
         Kept {
             metrics: FirstPlaces::new(alloc),
@@ -153,16 +132,27 @@ impl<'a> Kept<'a> {
         }
     }
 
-    /// Keeps what is needed of these items, where nothing is kept yet.
-    fn fill(&mut self, alloc: Global, all: &[Entry<'a>]) -> Result<(), NoMemory>
-        requires { IsIndexOf [] self.old.metrics self.old.constraints self.old.uses.items self.old.hypotheses self.old.places.items }
-        ensures { OnOk result (IsIndexOf all.now self.new.metrics self.new.constraints self.new.uses.items self.new.hypotheses self.new.places.items) }
+    /// Keeps what is needed of one more item, which stands at this place.
+    fn add(&mut self, alloc: Global, entry: &Entry<'a>, place: usize) -> Result<(), NoMemory>
+        ensures { OnOk result (KeepsMore entry.now place self.old self.new) }
     {
-        add_metric_names(alloc, &mut self.metrics, all)?;
-        add_constraint_names(alloc, &mut self.constraints, all)?;
-        add_uses(&mut self.uses, all)?;
-        add_hypothesis_names(alloc, &mut self.hypotheses, all)?;
-        add_places(&mut self.places, all)
+        let item = entry.item();
+        add_name(alloc, &mut self.metrics, metric_name(item))?;
+        add_name(alloc, &mut self.constraints, constraint_name(item))?;
+        add_use(&mut self.uses, entry)?;
+        add_name(alloc, &mut self.hypotheses, hypothesis_name(item))?;
+        add_place(&mut self.places, entry, place)
+    }
+
+    /// Keeps what is needed of these items, where nothing is kept yet. Its cost is linear in their bytes.
+    pub(crate) fn fill(&mut self, alloc: Global, all: &[Entry<'a>]) -> Result<(), NoMemory>
+        requires { IsKept [] self.old }
+        ensures { OnOk result (IsKept all.now self.new) }
+    {
+        for (place, entry) in all.iter().enumerate() {
+            self.add(alloc, entry, place)?;
+        }
+        Ok(())
     }
 }
 
@@ -184,13 +174,12 @@ fn place_at(places: &[usize], number: usize) -> Option<usize>
 }
 
 impl<'e, 'a> Index<'e, 'a> {
-    /// The index of these items. Its cost is linear in their bytes.
-    pub(crate) fn of(alloc: Global, all: &'e [Entry<'a>]) -> Result<Index<'e, 'a>, NoMemory>
-        ensures { IfOk result (λ index. index ≡ all.now) }
+    /// The index of these items, of which this is kept.
+    pub(crate) fn new(all: &'e [Entry<'a>], kept: &'e Kept<'a>) -> Index<'e, 'a>
+        requires { IsKept all.now kept.now }
+        ensures { result ≡ all.now }
     {
-        let mut kept = Kept::new(alloc);
-        kept.fill(alloc, all)?;
-        Ok(Index { all, kept })
+        Index { all, kept }
     }
 
     /// All items.

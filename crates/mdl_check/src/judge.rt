@@ -1,18 +1,18 @@
 //! The first faulty item.
 
-ghost use Rattle.std.specs.Prelude.{◌≡◌, [], IfOk};
+ghost use Rattle.std.specs.Prelude.{◌≡◌, [], IfErr, None, OnOk};
 ghost use Rattle.mdl_check.specs.Rules.{fault_of, parents_of};
 ghost use Rattle.mdl_check.specs.Checking.{first_fault};
 ghost use Rattle.mdl_check.specs.Indexes.{AreNoted};
+ghost use Rattle.mdl_check.specs.Judged.{IsFirstFault};
 
 use crate::ancestors::Ancestry;
 use crate::before::{Before, Noted};
 use crate::entry::Entry;
-use crate::fault::CheckKind;
+use crate::fault::{CheckFault, CheckKind};
 use crate::index::Index;
 use crate::repeated::is_repeated;
 use crate::wrong::{is_astray, is_unknown, is_wrong};
-use pn_types::NoMemory;
 use std::alloc::Global;
 
 /// What is wrong with an item, given all items, their parents, and the items before this one.
@@ -44,36 +44,38 @@ fn fault_of<'a>(
     None
 }
 
-/// The line of the first faulty item and what is wrong with it, given the parents of all items, where nothing is noted yet.
-fn first_fault_by<'a>(
+/// Looks for the first faulty item, given the parents of all items, where nothing is noted yet.
+fn find_fault_by<'a>(
     alloc: Global,
     index: &Index<'_, 'a>,
     ancestry: &Ancestry,
     noted: &mut Noted<'a>,
-) -> Result<Option<(u32, CheckKind)>, NoMemory>
+) -> Result<(), CheckFault>
     requires parents { ancestry.now ≡ parents_of index.now }
     requires none { AreNoted [] noted.old }
-    ensures { IfOk result (λ fault. fault ≡ first_fault index.now) }
+    ensures none { OnOk result (first_fault index.now ≡ None) }
+    ensures fault { IfErr result (IsFirstFault index.now) }
 {
     let all = index.all();
     for (place, entry) in all.iter().enumerate() {
         let before = Before::new(&all[..place], noted);
         if let Some(kind) = fault_of(index, ancestry, &before, entry) {
-            return Ok(Some((entry.line(), kind)));
+            return Err(CheckFault::At {
+                line: entry.line(),
+                kind,
+            });
         }
         noted.add(alloc, entry)?;
     }
-    Ok(None)
+    Ok(())
 }
 
-/// The line of the first faulty item and what is wrong with it.
-pub(crate) fn first_fault(
-    alloc: Global,
-    index: &Index<'_, '_>,
-) -> Result<Option<(u32, CheckKind)>, NoMemory>
-    ensures { IfOk result (λ fault. fault ≡ first_fault index.now) }
+/// Looks for the first faulty item, whose line and fault are told.
+pub(crate) fn find_fault(alloc: Global, index: &Index<'_, '_>) -> Result<(), CheckFault>
+    ensures none { OnOk result (first_fault index.now ≡ None) }
+    ensures fault { IfErr result (IsFirstFault index.now) }
 {
     let ancestry = Ancestry::of(alloc, index)?;
     let mut noted = Noted::none(alloc);
-    first_fault_by(alloc, index, &ancestry, &mut noted)
+    find_fault_by(alloc, index, &ancestry, &mut noted)
 }

@@ -6,7 +6,6 @@ mod before;
 mod checked;
 mod collect;
 mod configuration;
-mod copies;
 mod entry;
 mod fault;
 mod index;

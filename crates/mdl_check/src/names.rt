@@ -3,9 +3,7 @@
 ghost use Rattle.std.specs.Prelude.{◌≡◌, ◌++◌, OnOk, option_to_list};
 ghost use Rattle.std.specs.Option.{option_map};
 ghost use Rattle.mdl_check.specs.Names.{variable_name, hypothesis_name, phase_name, is_named, metric_name, as_constraint};
-ghost use Rattle.mdl_check.specs.Indexes.{names_in, metric_names, constraint_names};
 
-use crate::entry::Entry;
 use first_places::FirstPlaces;
 use mdl_ast::{Constraint, Item};
 use pn_types::NoMemory;
@@ -53,7 +51,7 @@ pub(crate) fn is_named(name: &[u8], own: Option<&[u8]>) -> bool
 }
 
 /// The name of a metric.
-fn metric_name(item: &Item) -> Option<&[u8]>
+pub(crate) fn metric_name(item: &Item) -> Option<&[u8]>
     ensures { option_map (λ name. name.now) result ≡ metric_name item.now }
 {
     match item {
@@ -86,51 +84,10 @@ pub(crate) fn add_name(
     Ok(())
 }
 
-/// Adds the names of the hypotheses.
-pub(crate) fn add_hypothesis_names(
-    alloc: Global,
-    names: &mut FirstPlaces,
-    all: &[Entry<'_>],
-) -> Result<(), NoMemory>
-    ensures { OnOk result (names.new ≡ names.old ++ names_in hypothesis_name all.now) }
-{
-    for entry in all {
-        add_name(alloc, names, hypothesis_name(entry.item()))?;
-    }
-    Ok(())
-}
-
-/// Adds the names of the metrics.
-pub(crate) fn add_metric_names(
-    alloc: Global,
-    names: &mut FirstPlaces,
-    all: &[Entry<'_>],
-) -> Result<(), NoMemory>
-    ensures { OnOk result (names.new ≡ names.old ++ metric_names all.now) }
-{
-    for entry in all {
-        add_name(alloc, names, metric_name(entry.item()))?;
-    }
-    Ok(())
-}
-
-fn constraint_name(item: &Item) -> Option<&[u8]>
+/// The name of a constraint.
+pub(crate) fn constraint_name(item: &Item) -> Option<&[u8]>
     ensures { option_map (λ name. name.now) result ≡ option_map (λ c. c.name) (as_constraint item.now) }
 {
     let constraint = as_constraint(item)?;
     Some(constraint.name.bytes())
-}
-
-/// Adds the names of the constraints.
-pub(crate) fn add_constraint_names(
-    alloc: Global,
-    names: &mut FirstPlaces,
-    all: &[Entry<'_>],
-) -> Result<(), NoMemory>
-    ensures { OnOk result (names.new ≡ names.old ++ constraint_names all.now) }
-{
-    for entry in all {
-        add_name(alloc, names, constraint_name(entry.item()))?;
-    }
-    Ok(())
 }

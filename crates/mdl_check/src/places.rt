@@ -103,7 +103,7 @@ fn focus_of(tree: &Tree, item: &Item) -> Option<Focus>
 }
 
 /// The items at these places, with their foci.
-pub(crate) fn entries<'a>(
+fn entries_at<'a>(
     alloc: Global,
     tree: &Tree,
     placed_items: &[PlacedItem<'a>],
@@ -115,4 +115,17 @@ pub(crate) fn entries<'a>(
         entries.push(Entry::new(placed, focus_of(tree, placed.item())))?;
     }
     Ok(entries)
+}
+
+/// All items in their order, with their foci.
+pub(crate) fn entries<'a>(
+    alloc: Global,
+    tree: &Tree,
+    shipped: &'a [Item],
+    items: &'a [Item],
+) -> Result<Vec<Entry<'a>>, NoMemory>
+    ensures { IfOk result (λ entries. AreEntries tree.now (placed_items shipped.now items.now) entries.items) }
+{
+    let places = placed_items(alloc, shipped, items)?;
+    entries_at(alloc, tree, &places)
 }

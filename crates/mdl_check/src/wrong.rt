@@ -4,7 +4,7 @@ ghost use Rattle.std.specs.Prelude.{◌≡◌, ◌&&◌, ◌||◌, not, is_some,
 ghost use Rattle.std.specs.List.{list_any, list_all};
 ghost use Rattle.std.specs.Option.{option_map};
 ghost use Rattle.std.specs.Str.{bytes_eq};
-ghost use Rattle.mdl_check.specs.Names.{constraint_named, metric_number};
+ghost use Rattle.mdl_check.specs.Names.{constraint_named};
 ghost use Rattle.mdl_check.specs.Statements.{have};
 ghost use Rattle.mdl_check.specs.declared.uses.Use.TheVariants as uses;
 ghost use Rattle.mdl_check.specs.Rules.{own_variable, is_axis, is_orphan, is_metric_unknown, is_hypothesis_unknown, is_unknown, misuse, is_misused, has_bad_value, is_metric_wrong, is_constraint_wrong, is_wrong, is_astray};
@@ -48,16 +48,12 @@ fn is_orphan(index: &Index<'_, '_>, parent: &Option<Text>) -> bool
     }
 }
 
-fn is_no_constraint(index: &Index<'_, '_>, name: &Text) -> bool
-    ensures { result ≡ not (is_some (constraint_named index.now name.now)) }
-{
-    index.constraint_named(name.bytes()).is_none()
-}
-
 fn has_unknown_constraint(index: &Index<'_, '_>, names: &[Text]) -> bool
     ensures { result ≡ list_any (λ name. not (is_some (constraint_named index.now name))) names.now }
 {
-    names.iter().any(|name| is_no_constraint(index, name))
+    names
+        .iter()
+        .any(|name| index.constraint_named(name.bytes()).is_none())
 }
 
 fn is_metric_unknown(index: &Index<'_, '_>, metric: &Metric) -> bool
@@ -71,16 +67,10 @@ fn is_metric_unknown(index: &Index<'_, '_>, metric: &Metric) -> bool
         )
 }
 
-fn is_no_metric(index: &Index<'_, '_>, name: &[u8]) -> bool
-    ensures { result ≡ not (is_some (metric_number index.now name.now)) }
-{
-    index.metric_number(name).is_none()
-}
-
 fn is_hypothesis_unknown(index: &Index<'_, '_>, hypothesis: &Hypothesis) -> bool
     ensures { result ≡ is_hypothesis_unknown index.now hypothesis.now }
 {
-    is_no_metric(index, hypothesis.metric.bytes())
+    index.metric_number(hypothesis.metric.bytes()).is_none()
         || is_orphan(index, &hypothesis.parent)
         || !are_axes(hypothesis.axes.as_slice())
 }
@@ -97,7 +87,7 @@ pub(crate) fn is_unknown(index: &Index<'_, '_>, item: &Item) -> bool
             have(Use::OtherName, own, constraint.blocks.as_slice())
         }
         Item::Hypothesis(hypothesis) => is_hypothesis_unknown(index, hypothesis),
-        Item::Wish(wish) => is_no_metric(index, wish.metric.bytes()),
+        Item::Wish(wish) => index.metric_number(wish.metric.bytes()).is_none(),
     }
 }
 

@@ -1,33 +1,13 @@
--- A token in view and those behind it.
-use Rattle.std.proofs.Common.{◌≡◌, ℕ, ◌≤◌, Option, Some, None, List, [], ◌∷◌, length, map, sym, ap, subst, ◌∙◌, arith}
-use Rattle.pn_text.specs.Scans.{Scan, AreSpans}
+-- The token in view stands in the text.
+use Rattle.std.proofs.Common.{ℕ, ◌≤◌, List, [], ◌∷◌, length, slice_index_or, arith}
+use Rattle.pn_text.specs.Scans.{AreSpans}
 use Rattle.pn_text.specs.declared.token.Token.{Token}
-use Rattle.mdl_parse.specs.WordsInText.{placed_word}
-use Rattle.mdl_parse.specs.Steps.{behind}
-use Rattle.mdl_parse.specs.Gives.{tokens_ahead, HasEnded, StandIn, in_view}
-
-spans_earlier : (at : ℕ) (tokens : List Token) (len : ℕ) → AreSpans at tokens len → AreSpans 0 tokens len
-spans_earlier at [] len h = omega arith
-spans_earlier at (token ∷ tokens) len h = (omega arith, h.1, h.2)
 
 spans_within : (at : ℕ) (tokens : List Token) (len : ℕ) → AreSpans at tokens len → at ≤ len
 spans_within at [] len h = h
 spans_within at (token ∷ tokens) len h = let k = spans_within token.to tokens len h.2 in omega arith
 
--- the token in view stands in the text
-pub view_stands : (text : List ℕ) (token : Option Token) (scan : Scan) (t : Token) → StandIn text token scan → token ≡ Some t → (t.from ≤ t.to) × (t.to ≤ length text)
-view_stands text None scan t h e = absurd cc
-view_stands text (Some u) scan t h e =
-    let same : u ≡ t = cc in
-    subst (λ (x : Token). (x.from ≤ x.to) × (x.to ≤ length text)) same (omega arith, spans_within u.to scan.tokens (length text) h.spans.2)
-
-pub advanced_stands : (text : List ℕ) (token next : Option Token) (scan after : Scan) → StandIn text token scan → tokens_ahead next after ≡ scan.tokens → HasEnded next after → StandIn text next after
-advanced_stands text None next scan after h e d = record { spans = subst (λ (t : List Token). AreSpans 0 t (length text)) (sym (e ∙ h.ended)) h.spans; ended = d }
-advanced_stands text (Some token) next scan after h e d = record { spans = subst (λ (t : List Token). AreSpans 0 t (length text)) (sym e) (spans_earlier token.to scan.tokens (length text) h.spans.2); ended = d }
-
-pub advanced_words_ahead : (text : List ℕ) (token next : Option Token) (scan after : Scan) → StandIn text token scan → tokens_ahead next after ≡ scan.tokens → (in_view text next after).words_ahead ≡ behind (in_view text token scan).words_ahead
-advanced_words_ahead text None next scan after h e = ap (map (placed_word text)) (e ∙ h.ended)
-advanced_words_ahead text (Some token) next scan after h e = ap (map (placed_word text)) e
-
-pub new_stands : (text : List ℕ) (token : Option Token) (scan : Scan) (tokens : List Token) → tokens_ahead token scan ≡ tokens → AreSpans 0 tokens (length text) → HasEnded token scan → StandIn text token scan
-new_stands text token scan tokens e h d = record { spans = subst (λ (t : List Token). AreSpans 0 t (length text)) (sym e) h; ended = d }
+-- the first stands in the text
+pub view_stands : (tokens : List Token) (len : ℕ) (none : Token) → AreSpans 0 tokens len → 1 ≤ length tokens → ((slice_index_or tokens 0 none).from ≤ (slice_index_or tokens 0 none).to) × ((slice_index_or tokens 0 none).to ≤ len)
+view_stands [] len none h l = absurd (omega arith)
+view_stands (token ∷ tokens) len none h l = (omega (arith, h.1), spans_within token.to tokens len h.2)

@@ -5,7 +5,7 @@ use Rattle.pn_text.specs.declared.token.LexFault.{LexFault}
 use Rattle.mdl_parse.specs.declared.refusal.Refusal.{Refusal}
 use Rattle.mdl_parse.specs.declared.fault.ParseFault.{ParseFault}
 use Rattle.mdl_parse.specs.declared.fault.ParseFault.TheVariants.{At}
-use Rattle.mdl_parse.specs.WordsInText.{PlacedWord, Ahead}
+use Rattle.mdl_parse.specs.WordsInText.{PlacedWord}
 use Rattle.mdl_parse.specs.Meaning.{refusal_kind, lex_kind}
 
 abbrev pub lex_fault : LexFault → ParseFault
@@ -15,19 +15,13 @@ abbrev pub end_fault : Ending → Refusal → ParseFault
 end_fault (AtEnd last) why = At last.line last.col (refusal_kind why)
 end_fault (AtFault fault) why = lex_fault fault
 
+-- the fault of words that can't go on as they do
 abbrev pub fault_in : List PlacedWord → Ending → Refusal → ParseFault
 fault_in [] ending why = end_fault ending why
 fault_in (placed ∷ words_ahead) ending why = At placed.line placed.col (refusal_kind why)
 
--- the fault of words that can't go on as they do
-abbrev pub fault_of : Ahead → Refusal → ParseFault
-fault_of ahead why = fault_in ahead.words_ahead ahead.ending why
-
+-- the fault that stands behind all words, if there is one
 abbrev pub unread_in : List PlacedWord → Ending → Option ParseFault
 unread_in [] (AtEnd last) = None
 unread_in [] (AtFault fault) = Some (lex_fault fault)
 unread_in (placed ∷ words_ahead) ending = None
-
--- the fault that stands behind all words, if there is one
-abbrev pub unread_of : Ahead → Option ParseFault
-unread_of ahead = unread_in ahead.words_ahead ahead.ending

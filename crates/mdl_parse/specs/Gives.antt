@@ -1,8 +1,6 @@
 -- For proofs alone: what a function of the parser answers.
-use Rattle.std.specs.Prelude.{◌≡◌, ℕ, Option, Some, None, Result, Ok, Err, List, [], ◌∷◌, map, length}
+use Rattle.std.specs.Prelude.{◌≡◌, Result, Ok, Err, List}
 use Rattle.pn_text.specs.Words.{Word, NameWord, NumberWord, QuotedWord, FocusPath, DollarFocus, DollarAll, DollarMetric, DollarValue, DollarArg, SignWord}
-use Rattle.pn_text.specs.Scans.{Scan, AreSpans}
-use Rattle.pn_text.specs.declared.token.Token.{Token}
 use Rattle.mdl_parse.specs.declared.refusal.Stop.{Stop as Refused_or_memory}
 use Rattle.mdl_parse.specs.declared.refusal.Stop.TheVariants.{NoMemory, Refused}
 use Rattle.mdl_ast.specs.declared.action.VarName.{VarName}
@@ -11,7 +9,7 @@ use Rattle.mdl_parse.specs.declared.seen.Seen.{Seen}
 use Rattle.mdl_parse.specs.declared.seen.Seen.TheVariants as seen
 use Rattle.mdl_parse.specs.declared.seen.SeenVar.{SeenVar}
 use Rattle.mdl_parse.specs.declared.seen.SeenVar.TheVariants as var
-use Rattle.mdl_parse.specs.WordsInText.{PlacedWord, Ahead, placed_word}
+use Rattle.mdl_parse.specs.WordsInText.{PlacedWord}
 use Rattle.mdl_parse.specs.Steps.{Read, stop}
 
 -- it stops where reading stops, unless memory is wanting
@@ -40,22 +38,3 @@ word_seen (seen.Sign sign) = SignWord sign
 abbrev pub var_seen : SeenVar → VarName
 var_seen (var.Named name) = Named name.now
 var_seen var.TheMetric = TheMetric
-
--- ---- a token in view, and those behind it
-
-abbrev pub tokens_ahead : Option Token → Scan → List Token
-tokens_ahead None scan = []
-tokens_ahead (Some token) scan = token ∷ scan.tokens
-
--- where no token is in view none is to come
-abbrev pub HasEnded : Option Token → Scan → Type 0
-HasEnded None scan = scan.tokens ≡ []
-HasEnded (Some token) scan = Unit {0}
-
-abbrev pub in_view : List ℕ → Option Token → Scan → Ahead
-in_view text token scan = record { words_ahead = map (placed_word text) (tokens_ahead token scan); ending = scan.ending }
-
--- the tokens stand in the text
-pub record StandIn (text : List ℕ) (token : Option Token) (scan : Scan) : Type 0 where
-  pub spans : AreSpans 0 (tokens_ahead token scan) (length text)
-  pub ended : HasEnded token scan

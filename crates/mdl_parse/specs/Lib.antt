@@ -11,6 +11,7 @@ pub mod ItemGrammar
 pub mod Shapes
 pub mod Meaning
 pub mod Ends
+pub mod Lexing
 pub mod Printing
 pub mod PrintParts
 pub mod Tight

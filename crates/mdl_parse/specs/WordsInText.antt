@@ -1,7 +1,7 @@
 -- Words that stand in a text, and the words that a tree has.
 use Rattle.std.specs.Prelude.{◌≡◌, ℕ, true, List, [], ◌∷◌, map}
 use Rattle.pn_text.specs.Words.{Word, is_word, word_of}
-use Rattle.pn_text.specs.Scans.{Ending, tokens_of}
+use Rattle.pn_text.specs.Scans.{tokens_of}
 use Rattle.pn_text.specs.declared.token.Token.{Token}
 
 -- some text has the word
@@ -19,11 +19,6 @@ abbrev pub AreWords : List PlacedWord → Type 0
 AreWords [] = Unit {0}
 AreWords (placed ∷ words_ahead) = IsWord placed.word × AreWords words_ahead
 
--- the words that are to come, and how they end
-pub record Ahead : Type 0 where
-  pub words_ahead : List PlacedWord
-  pub ending : Ending
-
 -- a token of a text
 abbrev pub placed_word : List ℕ → Token → PlacedWord
 placed_word text token = record { word = word_of text token; line = token.line; col = token.col }
@@ -31,9 +26,6 @@ placed_word text token = record { word = word_of text token; line = token.line; 
 -- The words of a text, up to its end or its fault.
 abbrev pub placed_words : List ℕ → List PlacedWord
 placed_words text = map (placed_word text) (tokens_of text).tokens
-
-abbrev pub ahead : List ℕ → Ahead
-ahead text = record { words_ahead = placed_words text; ending = (tokens_of text).ending }
 
 -- a word of a tree: the first of a part, whose line the tree holds, or another
 pub data TreeWord : Type 0 where

@@ -17,8 +17,7 @@ impl<'a> Words<'a> {
     /// Passes the keyword if it is in view, and says whether it was.
     #[tactic(auto, unfolding(crate::specs::Parts::flag_at))]
     fn flag(&mut self, text: &[u8]) -> Result<bool, Stop>
-        ensures read { Gives result self.new.words_ahead (flag_at text.now self.old.words_ahead) }
-        ensures ending { self.new.ending ≡ self.old.ending }
+        ensures { Gives result self.new (flag_at text.now self.old) }
     {
         if self.is_keyword(text) {
             self.keyword(text)?;
@@ -30,8 +29,7 @@ impl<'a> Words<'a> {
     /// Passes all statements that stand here.
     #[tactic(auto, using(crate::proofs::Loops::loop_shorter, crate::proofs::Loops::loop_more, crate::proofs::Loops::loop_all, crate::proofs::Loops::loop_stops, crate::proofs::BlockRules::statements_loop))]
     fn statements(&mut self, alloc: Global, most: usize) -> Result<Seq<Statement>, Stop>
-        ensures read { Gives result self.new.words_ahead (many_at is_var (statement_at most) self.old.words_ahead) }
-        ensures ending { self.new.ending ≡ self.old.ending }
+        ensures { Gives result self.new (many_at is_var (statement_at most) self.old) }
     {
         let mut statements = Vec::new(alloc);
         'statements: while self.is_var() {
@@ -44,8 +42,7 @@ impl<'a> Words<'a> {
     /// Passes an insertion.
     #[tactic(auto, unfolding(crate::specs::Parts::insertion_at))]
     fn insertion(&mut self, alloc: Global, most: usize) -> Result<Insertion, Stop>
-        ensures read { Gives result self.new.words_ahead (insertion_at most self.old.words_ahead) }
-        ensures ending { self.new.ending ≡ self.old.ending }
+        ensures { Gives result self.new (insertion_at most self.old) }
     {
         let line = self.line();
         let prepend = self.choice(b"prepend", b"append")?;
@@ -66,8 +63,7 @@ impl<'a> Words<'a> {
     /// Passes all insertions that stand here.
     #[tactic(auto, using(crate::proofs::Loops::loop_shorter, crate::proofs::Loops::loop_more, crate::proofs::Loops::loop_all, crate::proofs::Loops::loop_stops, crate::proofs::BlockRules::insertions_loop))]
     fn insertions(&mut self, alloc: Global, most: usize) -> Result<Seq<Insertion>, Stop>
-        ensures read { Gives result self.new.words_ahead (many_at is_insertion (insertion_at most) self.old.words_ahead) }
-        ensures ending { self.new.ending ≡ self.old.ending }
+        ensures { Gives result self.new (many_at is_insertion (insertion_at most) self.old) }
     {
         let mut insertions = Vec::new(alloc);
         'insertions: while self.is_insertion() {
@@ -80,8 +76,7 @@ impl<'a> Words<'a> {
     /// Passes a comma and a name.
     #[tactic(auto, unfolding(crate::specs::Parts::another_at))]
     fn another(&mut self, alloc: Global) -> Result<Text, Stop>
-        ensures read { Gives result self.new.words_ahead (another_at self.old.words_ahead) }
-        ensures ending { self.new.ending ≡ self.old.ending }
+        ensures { Gives result self.new (another_at self.old) }
     {
         self.sign(Sign::Comma)?;
         Ok(self.name(alloc)?)
@@ -90,8 +85,7 @@ impl<'a> Words<'a> {
     /// Passes names between commas, at least one.
     #[tactic(auto, using(crate::proofs::Loops::loop_shorter, crate::proofs::Loops::loop_more, crate::proofs::Loops::loop_all, crate::proofs::Loops::loop_stops, crate::proofs::BlockRules::names_loop, crate::proofs::NameLoop::names_begin, crate::proofs::NameLoop::names_stop))]
     pub(crate) fn names(&mut self, alloc: Global) -> Result<Seq<Text>, Stop>
-        ensures read { Gives result self.new.words_ahead (names_at self.old.words_ahead) }
-        ensures ending { self.new.ending ≡ self.old.ending }
+        ensures { Gives result self.new (names_at self.old) }
     {
         let mut names = Vec::new(alloc);
         let name = self.name(alloc)?;
@@ -106,8 +100,7 @@ impl<'a> Words<'a> {
     /// Passes names in brackets.
     #[tactic(auto, unfolding(crate::specs::Parts::named_at))]
     fn named(&mut self, alloc: Global) -> Result<Set, Stop>
-        ensures read { Gives result self.new.words_ahead (named_at self.old.words_ahead) }
-        ensures ending { self.new.ending ≡ self.old.ending }
+        ensures { Gives result self.new (named_at self.old) }
     {
         self.sign(Sign::OpenBracket)?;
         let names = self.names(alloc)?;
@@ -118,8 +111,7 @@ impl<'a> Words<'a> {
     /// Passes a set of procedures.
     #[tactic(auto, unfolding(crate::specs::Parts::set_at))]
     fn set(&mut self, alloc: Global) -> Result<Set, Stop>
-        ensures read { Gives result self.new.words_ahead (set_at self.old.words_ahead) }
-        ensures ending { self.new.ending ≡ self.old.ending }
+        ensures { Gives result self.new (set_at self.old) }
     {
         if self.is_sign(Sign::OpenBracket) {
             Ok(self.named(alloc)?)
@@ -131,8 +123,7 @@ impl<'a> Words<'a> {
     /// Passes a block.
     #[tactic(auto, unfolding(crate::specs::Parts::block_at))]
     fn block(&mut self, alloc: Global, most: usize) -> Result<Block, Stop>
-        ensures read { Gives result self.new.words_ahead (block_at most self.old.words_ahead) }
-        ensures ending { self.new.ending ≡ self.old.ending }
+        ensures { Gives result self.new (block_at most self.old) }
     {
         let line = self.start(b"foreach")?;
         self.keyword(b"func")?;
@@ -151,8 +142,7 @@ impl<'a> Words<'a> {
     /// Passes all blocks that stand here.
     #[tactic(auto, using(crate::proofs::Loops::loop_shorter, crate::proofs::Loops::loop_more, crate::proofs::Loops::loop_all, crate::proofs::Loops::loop_stops, crate::proofs::BlockRules::blocks_loop))]
     fn all_blocks(&mut self, alloc: Global, most: usize) -> Result<Seq<Block>, Stop>
-        ensures read { Gives result self.new.words_ahead (many_at (is_keyword (codes "foreach")) (block_at most) self.old.words_ahead) }
-        ensures ending { self.new.ending ≡ self.old.ending }
+        ensures { Gives result self.new (many_at (is_keyword (codes "foreach")) (block_at most) self.old) }
     {
         let mut blocks = Vec::new(alloc);
         'each: while self.is_keyword(b"foreach") {
@@ -165,8 +155,7 @@ impl<'a> Words<'a> {
     /// Passes the blocks of a metric or a constraint, in braces.
     #[tactic(auto, unfolding(crate::specs::Parts::blocks_at))]
     pub(crate) fn blocks(&mut self, alloc: Global, most: usize) -> Result<Seq<Block>, Stop>
-        ensures read { Gives result self.new.words_ahead (blocks_at most self.old.words_ahead) }
-        ensures ending { self.new.ending ≡ self.old.ending }
+        ensures { Gives result self.new (blocks_at most self.old) }
     {
         self.sign(Sign::OpenBrace)?;
         let blocks = self.all_blocks(alloc, most)?;

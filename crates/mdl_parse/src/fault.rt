@@ -1,11 +1,14 @@
 //! What is wrong with a text.
 
 ghost use Rattle.std.specs.Prelude.{◌≡◌};
+ghost use Rattle.mdl_parse.specs.declared.fault.ParseFault.TheVariants.{NoMemory};
 ghost use Rattle.mdl_parse.specs.Meaning.{refusal_kind, lex_kind};
-ghost use Rattle.mdl_parse.specs.Ends.{lex_fault};
+ghost use Rattle.mdl_parse.specs.Ends.{lex_fault, end_fault};
+ghost use Rattle.mdl_parse.specs.Lexing.{ending_of};
 
 use crate::refusal::Refusal;
 use pn_text::{LexFault, Place};
+use std::alloc::AllocFailed;
 
 /// What kind of fault it is.
 #[derive(Clone, Copy, Debug, PartialEq, Eq, Drop)]
@@ -38,6 +41,14 @@ pub enum ParseFault {
     },
 }
 
+impl<T: Drop> From<AllocFailed<T>> for ParseFault {
+    ghost from_gives = { λ _ e. e ≡ NoMemory };
+
+    fn from(_fault: AllocFailed<T>) -> ParseFault {
+        ParseFault::NoMemory
+    }
+}
+
 /// The kind of the fault of a word.
 pub(crate) fn refusal_kind(why: Refusal) -> SyntaxKind
     ensures { result ≡ refusal_kind why }
@@ -61,5 +72,19 @@ pub(crate) fn lex_fault(fault: LexFault) -> ParseFault
         line: place.line,
         col: place.col,
         kind,
+    }
+}
+
+/// The fault where no word is left: what stands behind them is none, or the text ends too early.
+pub(crate) fn end_fault(ending: Result<Place, LexFault>, why: Refusal) -> ParseFault
+    ensures { result ≡ end_fault (ending_of ending) why }
+{
+    match ending {
+        Ok(last) => ParseFault::At {
+            line: last.line,
+            col: last.col,
+            kind: refusal_kind(why),
+        },
+        Err(fault) => lex_fault(fault),
     }
 }

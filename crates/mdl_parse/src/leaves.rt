@@ -1,6 +1,6 @@
 //! Single words of the grammar.
 //!
-//! A function that answers Refused leaves the word in view that doesn't fit. None changes how the words end.
+//! A function that answers Refused leaves the word in view that doesn't fit.
 
 ghost use Rattle.std.specs.Prelude.{◌≡◌, codes, IfOk, IfErr};
 ghost use Rattle.mdl_parse.specs.declared.refusal.Stop.TheVariants.{NoMemory};
@@ -41,8 +41,7 @@ impl<'a> Words<'a> {
     /// Passes the keyword.
     #[tactic(auto, unfolding(crate::specs::Steps::leaf_at))]
     pub(crate) fn keyword(&mut self, text: &[u8]) -> Result<(), Stop>
-        ensures read { Gives result self.new.words_ahead (keyword_at text.now self.old.words_ahead) }
-        ensures ending { self.new.ending ≡ self.old.ending }
+        ensures { Gives result self.new (keyword_at text.now self.old) }
     {
         if let Some(word) = self.word()
             && word.is_keyword(text)
@@ -56,8 +55,7 @@ impl<'a> Words<'a> {
     /// Passes the keyword with which a part begins, and gives its line.
     #[tactic(auto, unfolding(crate::specs::Readers::start_at))]
     pub(crate) fn start(&mut self, text: &[u8]) -> Result<u32, Stop>
-        ensures read { Gives result self.new.words_ahead (start_at text.now self.old.words_ahead) }
-        ensures ending { self.new.ending ≡ self.old.ending }
+        ensures { Gives result self.new (start_at text.now self.old) }
     {
         let line = self.line();
         self.keyword(text)?;
@@ -67,8 +65,7 @@ impl<'a> Words<'a> {
     /// Passes the sign.
     #[tactic(auto, unfolding(crate::specs::Steps::leaf_at))]
     pub(crate) fn sign(&mut self, sign: Sign) -> Result<(), Stop>
-        ensures read { Gives result self.new.words_ahead (sign_at sign self.old.words_ahead) }
-        ensures ending { self.new.ending ≡ self.old.ending }
+        ensures { Gives result self.new (sign_at sign self.old) }
     {
         if let Some(word) = self.word()
             && word.is_sign(sign)
@@ -82,8 +79,7 @@ impl<'a> Words<'a> {
     /// Passes `$arg`.
     #[tactic(auto, unfolding(crate::specs::Steps::leaf_at))]
     pub(crate) fn arg(&mut self) -> Result<(), Stop>
-        ensures read { Gives result self.new.words_ahead (arg_at self.old.words_ahead) }
-        ensures ending { self.new.ending ≡ self.old.ending }
+        ensures { Gives result self.new (arg_at self.old) }
     {
         if let Some(word) = self.word()
             && word.is_arg()
@@ -97,8 +93,7 @@ impl<'a> Words<'a> {
     /// Passes a name.
     #[tactic(auto, unfolding(crate::specs::Steps::leaf_at))]
     pub(crate) fn name(&mut self, alloc: Global) -> Result<Text, Stop>
-        ensures read { Gives result self.new.words_ahead (name_at self.old.words_ahead) }
-        ensures ending { self.new.ending ≡ self.old.ending }
+        ensures { Gives result self.new (name_at self.old) }
     {
         let Some(name) = self.word().and_then(Seen::name) else {
             return Err(UNEXPECTED);
@@ -111,8 +106,7 @@ impl<'a> Words<'a> {
     /// Passes a string, and gives the text between its quotes.
     #[tactic(auto, unfolding(crate::specs::Steps::leaf_at))]
     pub(crate) fn quoted(&mut self, alloc: Global) -> Result<Text, Stop>
-        ensures read { Gives result self.new.words_ahead (quoted_at self.old.words_ahead) }
-        ensures ending { self.new.ending ≡ self.old.ending }
+        ensures { Gives result self.new (quoted_at self.old) }
     {
         let Some(quoted) = self.word().and_then(Seen::quoted) else {
             return Err(UNEXPECTED);
@@ -125,8 +119,7 @@ impl<'a> Words<'a> {
     /// Passes a focus.
     #[tactic(auto, unfolding(crate::specs::Steps::leaf_at))]
     pub(crate) fn path(&mut self, alloc: Global) -> Result<Text, Stop>
-        ensures read { Gives result self.new.words_ahead (path_at self.old.words_ahead) }
-        ensures ending { self.new.ending ≡ self.old.ending }
+        ensures { Gives result self.new (path_at self.old) }
     {
         let Some(path) = self.word().and_then(Seen::path) else {
             return Err(UNEXPECTED);
@@ -139,8 +132,7 @@ impl<'a> Words<'a> {
     /// Passes a number.
     #[tactic(auto, unfolding(crate::specs::Steps::leaf_at))]
     pub(crate) fn number(&mut self) -> Result<u32, Stop>
-        ensures read { Gives result self.new.words_ahead (number_at self.old.words_ahead) }
-        ensures ending { self.new.ending ≡ self.old.ending }
+        ensures { Gives result self.new (number_at self.old) }
     {
         let Some(number) = self.word().and_then(Seen::number) else {
             return Err(UNEXPECTED);
@@ -152,8 +144,7 @@ impl<'a> Words<'a> {
     /// Passes the name of a kind of points.
     #[tactic(auto, unfolding(crate::specs::Steps::leaf_at))]
     pub(crate) fn event(&mut self) -> Result<EventKind, Stop>
-        ensures read { Gives result self.new.words_ahead (event_at self.old.words_ahead) }
-        ensures ending { self.new.ending ≡ self.old.ending }
+        ensures { Gives result self.new (event_at self.old) }
     {
         let Some(event) = self.word().and_then(Seen::event) else {
             return Err(UNEXPECTED);
@@ -165,8 +156,7 @@ impl<'a> Words<'a> {
     /// Passes a comparison.
     #[tactic(auto, unfolding(crate::specs::Steps::leaf_at))]
     pub(crate) fn cmp(&mut self) -> Result<Cmp, Stop>
-        ensures read { Gives result self.new.words_ahead (cmp_at self.old.words_ahead) }
-        ensures ending { self.new.ending ≡ self.old.ending }
+        ensures { Gives result self.new (cmp_at self.old) }
     {
         let Some(cmp) = self.word().and_then(Seen::cmp) else {
             return Err(UNEXPECTED);
@@ -178,8 +168,7 @@ impl<'a> Words<'a> {
     /// Passes the right side of a condition.
     #[tactic(auto, unfolding(crate::specs::Steps::leaf_at))]
     pub(crate) fn right(&mut self) -> Result<RightSide, Stop>
-        ensures read { Gives result self.new.words_ahead (right_at self.old.words_ahead) }
-        ensures ending { self.new.ending ≡ self.old.ending }
+        ensures { Gives result self.new (right_at self.old) }
     {
         let Some(right) = self.word().and_then(Seen::right) else {
             return Err(UNEXPECTED);
@@ -191,8 +180,7 @@ impl<'a> Words<'a> {
     /// Passes `++` or `--`.
     #[tactic(auto, unfolding(crate::specs::Steps::leaf_at))]
     pub(crate) fn step(&mut self) -> Result<Change, Stop>
-        ensures read { Gives result self.new.words_ahead (step_at self.old.words_ahead) }
-        ensures ending { self.new.ending ≡ self.old.ending }
+        ensures { Gives result self.new (step_at self.old) }
     {
         let Some(step) = self.word().and_then(Seen::step) else {
             return Err(UNEXPECTED);
@@ -204,8 +192,7 @@ impl<'a> Words<'a> {
     /// Passes `$focus` or `$all`.
     #[tactic(auto, unfolding(crate::specs::Steps::leaf_at))]
     pub(crate) fn whole(&mut self) -> Result<Set, Stop>
-        ensures read { Gives result self.new.words_ahead (whole_at self.old.words_ahead) }
-        ensures ending { self.new.ending ≡ self.old.ending }
+        ensures { Gives result self.new (whole_at self.old) }
     {
         let Some(whole) = self.word().and_then(Seen::whole) else {
             return Err(UNEXPECTED);
@@ -217,8 +204,7 @@ impl<'a> Words<'a> {
     /// Passes one of two keywords, and says whether it was the first.
     #[tactic(auto, unfolding(crate::specs::Steps::leaf_at))]
     pub(crate) fn choice(&mut self, one: &[u8], other: &[u8]) -> Result<bool, Stop>
-        ensures read { Gives result self.new.words_ahead (choice_at one.now other.now self.old.words_ahead) }
-        ensures ending { self.new.ending ≡ self.old.ending }
+        ensures { Gives result self.new (choice_at one.now other.now self.old) }
     {
         let Some(word) = self.word() else {
             return Err(UNEXPECTED);
@@ -233,8 +219,7 @@ impl<'a> Words<'a> {
     /// Passes a variable.
     #[tactic(auto, unfolding(crate::specs::Steps::leaf_at))]
     pub(crate) fn var(&mut self, alloc: Global) -> Result<VarName, Stop>
-        ensures read { Gives result self.new.words_ahead (var_at self.old.words_ahead) }
-        ensures ending { self.new.ending ≡ self.old.ending }
+        ensures { Gives result self.new (var_at self.old) }
     {
         let Some(seen) = self.word().and_then(Seen::var) else {
             return Err(UNEXPECTED);

@@ -7,6 +7,7 @@ mod fault;
 mod gaps;
 mod items;
 mod leaves;
+mod lexing;
 mod line;
 mod metrics;
 mod parsing;

@@ -3,16 +3,42 @@
 ghost use Rattle.std.specs.Prelude.{◌+◌, ◌<◌, ◌^◌, length, IfOk, IfErr};
 ghost use Rattle.std.specs.List.{AllByRecursion};
 ghost use Rattle.mdl_ast.specs.Small.{HasSmall};
+ghost use Rattle.mdl_parse.specs.Lexing.{AreTokens};
 ghost use Rattle.mdl_parse.specs.Meaning.{IsConf, Faults, OneConf, OneFault, ConfOrFault};
 
 use crate::fault::ParseFault;
+use crate::lexing::tokenize;
 use crate::refusal::Stop;
 use crate::words::Words;
 use mdl_ast::Conf;
+use pn_text::{LexFault, Place, Token};
 use std::alloc::Global;
 
 /// The most conditions that a statement has.
 const MAX_CONDITIONS: usize = 16;
+
+/// The configuration that a text spells, or its first fault, where these are its tokens, which end so.
+fn parsed(
+    alloc: Global,
+    text: &[u8],
+    tokens: &[Token],
+    ending: Result<Place, LexFault>,
+) -> Result<Conf, ParseFault>
+    requires { AreTokens text.now tokens.now ending }
+    ensures conf { IfOk result (λ conf. IsConf text.now conf) }
+    ensures fault { IfErr result (λ fault. Faults text.now fault) }
+    ensures small { IfOk result (λ conf. AllByRecursion HasSmall conf.items) }
+{
+    let mut words = Words::new(text, tokens);
+    match words.items(alloc, MAX_CONDITIONS) {
+        Ok(items) => match words.unread(ending) {
+            Some(fault) => Err(fault),
+            None => Ok(Conf { items }),
+        },
+        Err(Stop::NoMemory) => Err(ParseFault::NoMemory),
+        Err(Stop::Refused(why)) => Err(words.fault(ending, why)),
+    }
+}
 
 /// The configuration that a text spells, or its first fault. The text is shorter than 2^32 - 1 bytes.
 pub fn parse(alloc: Global, text: &[u8]) -> Result<Conf, ParseFault>
@@ -21,15 +47,8 @@ pub fn parse(alloc: Global, text: &[u8]) -> Result<Conf, ParseFault>
     ensures fault { IfErr result (λ fault. Faults text.now fault) }
     ensures small { IfOk result (λ conf. AllByRecursion HasSmall conf.items) }
 {
-    let mut words = Words::new(text);
-    match words.items(alloc, MAX_CONDITIONS) {
-        Ok(items) => match words.unread() {
-            Some(fault) => Err(fault),
-            None => Ok(Conf { items }),
-        },
-        Err(Stop::NoMemory) => Err(ParseFault::NoMemory),
-        Err(Stop::Refused(why)) => Err(words.fault(why)),
-    }
+    let tokens = tokenize(alloc, text)?;
+    parsed(alloc, text, &tokens.all, tokens.ending)
 }
 
 /// A text spells one configuration, or it has one fault.

@@ -16,8 +16,7 @@ impl<'a> Words<'a> {
     /// Passes an argument: `$arg [ NUMBER ]`.
     #[tactic(auto, unfolding(crate::specs::Parts::argument_at))]
     fn argument(&mut self) -> Result<LeftName, Stop>
-        ensures read { Gives result self.new.words_ahead (argument_at self.old.words_ahead) }
-        ensures ending { self.new.ending ≡ self.old.ending }
+        ensures { Gives result self.new (argument_at self.old) }
     {
         self.arg()?;
         self.sign(Sign::OpenBracket)?;
@@ -29,8 +28,7 @@ impl<'a> Words<'a> {
     /// Passes the left side of a condition.
     #[tactic(auto, unfolding(crate::specs::Parts::left_at, crate::specs::Parts::variable_at))]
     fn left(&mut self, alloc: Global) -> Result<LeftName, Stop>
-        ensures read { Gives result self.new.words_ahead (left_at self.old.words_ahead) }
-        ensures ending { self.new.ending ≡ self.old.ending }
+        ensures { Gives result self.new (left_at self.old) }
     {
         if self.is_arg() {
             return Ok(self.argument()?);
@@ -42,8 +40,7 @@ impl<'a> Words<'a> {
     /// Passes a condition: `if ( left cmp right )`.
     #[tactic(auto, unfolding(crate::specs::Parts::condition_at))]
     fn condition(&mut self, alloc: Global) -> Result<Condition, Stop>
-        ensures read { Gives result self.new.words_ahead (condition_at self.old.words_ahead) }
-        ensures ending { self.new.ending ≡ self.old.ending }
+        ensures { Gives result self.new (condition_at self.old) }
     {
         self.keyword(b"if")?;
         self.sign(Sign::OpenParen)?;
@@ -57,8 +54,7 @@ impl<'a> Words<'a> {
     /// Passes what is done with a variable.
     #[tactic(auto, unfolding(crate::specs::Parts::change_at, crate::specs::Parts::put_at))]
     fn change(&mut self) -> Result<Change, Stop>
-        ensures read { Gives result self.new.words_ahead (change_at self.old.words_ahead) }
-        ensures ending { self.new.ending ≡ self.old.ending }
+        ensures { Gives result self.new (change_at self.old) }
     {
         if self.is_sign(Sign::Assign) {
             self.sign(Sign::Assign)?;
@@ -71,8 +67,7 @@ impl<'a> Words<'a> {
     /// Passes a change of a variable: `var++;`, `var--;` or `var = NUMBER;`.
     #[tactic(auto, unfolding(crate::specs::Parts::changed_at))]
     fn changed(&mut self, alloc: Global) -> Result<Action, Stop>
-        ensures read { Gives result self.new.words_ahead (changed_at self.old.words_ahead) }
-        ensures ending { self.new.ending ≡ self.old.ending }
+        ensures { Gives result self.new (changed_at self.old) }
     {
         let var = self.var(alloc)?;
         let change = self.change()?;
@@ -83,8 +78,7 @@ impl<'a> Words<'a> {
     /// Passes the start or the stop of a timer.
     #[tactic(auto, unfolding(crate::specs::Parts::timed_at))]
     fn timed(&mut self, alloc: Global) -> Result<Action, Stop>
-        ensures read { Gives result self.new.words_ahead (timed_at self.old.words_ahead) }
-        ensures ending { self.new.ending ≡ self.old.ending }
+        ensures { Gives result self.new (timed_at self.old) }
     {
         let start = self.choice(b"start", b"stop")?;
         self.sign(Sign::OpenParen)?;
@@ -97,8 +91,7 @@ impl<'a> Words<'a> {
     /// Passes what a statement does.
     #[tactic(auto, unfolding(crate::specs::Parts::action_at))]
     fn action(&mut self, alloc: Global) -> Result<Action, Stop>
-        ensures read { Gives result self.new.words_ahead (action_at self.old.words_ahead) }
-        ensures ending { self.new.ending ≡ self.old.ending }
+        ensures { Gives result self.new (action_at self.old) }
     {
         if self.is_timing() {
             Ok(self.timed(alloc)?)
@@ -109,8 +102,7 @@ impl<'a> Words<'a> {
 
     /// Passes the conditions of a statement, of which there are at most so many.
     fn conditions(&mut self, alloc: Global, most: usize) -> Result<Seq<Condition>, Stop>
-        ensures read { Gives result self.new.words_ahead (conditions_at most self.old.words_ahead) }
-        ensures ending { self.new.ending ≡ self.old.ending }
+        ensures { Gives result self.new (conditions_at most self.old) }
     {
         let mut conds = Vec::new(alloc);
         'conditions: while self.is_keyword(b"if") {
@@ -126,8 +118,7 @@ impl<'a> Words<'a> {
     /// Passes a statement with at most so many conditions.
     #[tactic(auto, unfolding(crate::specs::Parts::statement_at))]
     pub(crate) fn statement(&mut self, alloc: Global, most: usize) -> Result<Statement, Stop>
-        ensures read { Gives result self.new.words_ahead (statement_at most self.old.words_ahead) }
-        ensures ending { self.new.ending ≡ self.old.ending }
+        ensures { Gives result self.new (statement_at most self.old) }
     {
         let line = self.line();
         let conds = self.conditions(alloc, most)?;

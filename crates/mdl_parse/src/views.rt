@@ -10,7 +10,7 @@ use pn_text::Sign;
 impl<'a> Words<'a> {
     /// Whether the keyword is in view.
     pub(crate) fn is_keyword(&self, text: &[u8]) -> bool
-        ensures { result ≡ is_first (is_keyword text.now) self.now.words_ahead }
+        ensures { result ≡ is_first (is_keyword text.now) self.now }
     {
         match self.word() {
             Some(word) => word.is_keyword(text),
@@ -20,7 +20,7 @@ impl<'a> Words<'a> {
 
     /// Whether the sign is in view.
     pub(crate) fn is_sign(&self, sign: Sign) -> bool
-        ensures { result ≡ is_first (is_sign sign) self.now.words_ahead }
+        ensures { result ≡ is_first (is_sign sign) self.now }
     {
         match self.word() {
             Some(word) => word.is_sign(sign),
@@ -30,7 +30,7 @@ impl<'a> Words<'a> {
 
     /// Whether `$arg` is in view.
     pub(crate) fn is_arg(&self) -> bool
-        ensures { result ≡ is_first is_arg self.now.words_ahead }
+        ensures { result ≡ is_first is_arg self.now }
     {
         match self.word() {
             Some(word) => word.is_arg(),
@@ -40,7 +40,7 @@ impl<'a> Words<'a> {
 
     /// Whether a variable is in view.
     pub(crate) fn is_var(&self) -> bool
-        ensures { result ≡ is_first is_var self.now.words_ahead }
+        ensures { result ≡ is_first is_var self.now }
     {
         match self.word() {
             Some(word) => word.is_var(),
@@ -50,7 +50,7 @@ impl<'a> Words<'a> {
 
     /// Whether a word is in view.
     pub(crate) fn has_more(&self) -> bool
-        ensures { result ≡ is_first is_any self.now.words_ahead }
+        ensures { result ≡ is_first is_any self.now }
     {
         match self.word() {
             Some(_) => true,
@@ -60,7 +60,7 @@ impl<'a> Words<'a> {
 
     /// Whether an insertion begins here.
     pub(crate) fn is_insertion(&self) -> bool
-        ensures { result ≡ is_first is_insertion self.now.words_ahead }
+        ensures { result ≡ is_first is_insertion self.now }
     {
         match self.word() {
             Some(word) => word.is_keyword(b"prepend") || word.is_keyword(b"append"),
@@ -70,7 +70,7 @@ impl<'a> Words<'a> {
 
     /// Whether a timer is started or stopped here.
     pub(crate) fn is_timing(&self) -> bool
-        ensures { result ≡ is_first is_timing self.now.words_ahead }
+        ensures { result ≡ is_first is_timing self.now }
     {
         match self.word() {
             Some(word) => word.is_keyword(b"start") || word.is_keyword(b"stop"),

@@ -1,48 +1,38 @@
 //! The words of a text, one after another, the next one in view.
 
-ghost use Rattle.std.specs.Prelude.{◌≡◌, ◌+◌, ◌<◌, ◌^◌, length};
+ghost use Rattle.std.specs.Prelude.{◌≡◌, length, map};
 ghost use Rattle.std.specs.Option.{option_map};
+ghost use Rattle.pn_text.specs.Scans.{AreSpans};
 ghost use Rattle.pn_text.specs.Words.{without_quotes};
-ghost use Rattle.mdl_parse.specs.WordsInText.{ahead};
+ghost use Rattle.mdl_parse.specs.WordsInText.{placed_word};
 ghost use Rattle.mdl_parse.specs.Steps.{first_word, behind, line_at};
-ghost use Rattle.mdl_parse.specs.Ends.{unread_of, fault_of};
-ghost use Rattle.mdl_parse.specs.Gives.{word_seen, tokens_ahead, HasEnded};
+ghost use Rattle.mdl_parse.specs.Ends.{unread_in, fault_in};
+ghost use Rattle.mdl_parse.specs.Lexing.{ending_of};
+ghost use Rattle.mdl_parse.specs.Gives.{word_seen};
 
-use crate::fault::{ParseFault, lex_fault, refusal_kind};
+use crate::fault::{ParseFault, end_fault, lex_fault, refusal_kind};
 use crate::refusal::Refusal;
 use crate::seen::Seen;
-use pn_text::{Scanner, Token, TokenKind};
+use pn_text::{LexFault, Place, Token, TokenKind};
 use std::marker::Model;
 
 /// The words of a text that are to come.
 #[derive(Drop)]
 pub(crate) struct Words<'a> {
     text: &'a [u8],
-    scanner: Scanner<'a>,
-    token: Option<Token>,
+    tokens: &'a [Token],
 }
 
 impl<'a> Model for Words<'a> {
-    ghost use Rattle.mdl_parse.specs.WordsInText.{Ahead};
-    ghost use Rattle.mdl_parse.specs.Gives.{in_view, StandIn};
+    ghost use Rattle.std.specs.Prelude.{List, length, map};
+    ghost use Rattle.pn_text.specs.Scans.{AreSpans};
+    ghost use Rattle.mdl_parse.specs.WordsInText.{PlacedWord, placed_word};
 
-    ghost Value = { Ahead };
+    ghost Value = { List PlacedWord };
 
-    ghost view = { λ w. in_view w.text.now w.token w.scanner };
+    ghost view = { λ w. map (placed_word w.text.now) w.tokens.now };
 
-    ghost invariant = { λ w. StandIn w.text.now w.token w.scanner };
-}
-
-/// The token that a scanner answers, and None at its end or its fault.
-fn next_token(scanner: &mut Scanner) -> Option<Token>
-    ensures tokens { tokens_ahead result scanner.new ≡ scanner.old.tokens }
-    ensures ending { scanner.new.ending ≡ scanner.old.ending }
-    ensures ended { HasEnded result scanner.new }
-{
-    match scanner.next() {
-        Ok(token) => token,
-        Err(_) => None,
-    }
+    ghost invariant = { λ w. AreSpans 0 w.tokens.now (length w.text.now) };
 }
 
 /// What stands between the first byte and the last.
@@ -56,35 +46,31 @@ fn without_quotes(text: &[u8]) -> &[u8]
 }
 
 impl<'a> Words<'a> {
-    /// The words of a text.
-    pub(crate) fn new(text: &'a [u8]) -> Words<'a>
-        requires { length text.now + 1 < 2 ^ 32 }
-        ensures { result ≡ ahead text.now }
+    /// The words that these tokens of the text are.
+    pub(crate) fn new(text: &'a [u8], tokens: &'a [Token]) -> Words<'a>
+        requires { AreSpans 0 tokens.now (length text.now) }
+        ensures { result ≡ map (placed_word text.now) tokens.now }
     {
-        let mut scanner = Scanner::new(text);
-        let token = next_token(&mut scanner);
-        Words {
-            text,
-            scanner,
-            token,
-        }
+        Words { text, tokens }
     }
 
     /// The line of the word in view, and 0 at the end.
     pub(crate) fn line(&self) -> u32
-        ensures { result ≡ line_at self.now.words_ahead }
+        ensures { result ≡ line_at self.now }
     {
-        match self.token {
-            Some(token) => token.line,
-            None => 0,
+        match self.tokens {
+            [token, ..] => token.line,
+            [] => 0,
         }
     }
 
     /// The word in view, and None at the end.
     pub(crate) fn word(&self) -> Option<Seen<'a>>
-        ensures { option_map word_seen result ≡ first_word self.now.words_ahead }
+        ensures { option_map word_seen result ≡ first_word self.now }
     {
-        let token = self.token?;
+        let [token, ..] = self.tokens else {
+            return None;
+        };
         let text = &self.text[token.from..token.to];
         Some(match token.kind {
             TokenKind::Name => Seen::Name(text),
@@ -102,46 +88,34 @@ impl<'a> Words<'a> {
 
     /// Passes the word in view.
     pub(crate) fn advance(&mut self)
-        ensures words_ahead { self.new.words_ahead ≡ behind self.old.words_ahead }
-        ensures ending { self.new.ending ≡ self.old.ending }
+        ensures { self.new ≡ behind self.old }
     {
-        self.token = next_token(&mut self.scanner);
-    }
-
-    /// The fault that stands behind all words, if they are passed and there is one.
-    pub(crate) fn unread(&mut self) -> Option<ParseFault>
-        ensures { result ≡ unread_of self.old }
-    {
-        if self.token.is_some() {
-            return None;
-        }
-        match self.scanner.next() {
-            Ok(_) => None,
-            Err(fault) => Some(lex_fault(fault)),
+        if let [_, behind @ ..] = self.tokens {
+            self.tokens = behind;
         }
     }
 
-    /// The fault of the words: the one in view can't stand there, or none is.
-    pub(crate) fn fault(&mut self, why: Refusal) -> ParseFault
-        ensures { result ≡ fault_of self.old why }
+    /// The fault that stands behind all words, which end so, if they are passed and there is one.
+    pub(crate) fn unread(&self, ending: Result<Place, LexFault>) -> Option<ParseFault>
+        ensures { result ≡ unread_in self.now (ending_of ending) }
     {
-        if let Some(token) = self.token {
-            return ParseFault::At {
+        match (self.tokens, ending) {
+            ([], Err(fault)) => Some(lex_fault(fault)),
+            _ => None,
+        }
+    }
+
+    /// The fault of the words, which end so: the one in view can't stand there, or none is.
+    pub(crate) fn fault(&self, ending: Result<Place, LexFault>, why: Refusal) -> ParseFault
+        ensures { result ≡ fault_in self.now (ending_of ending) why }
+    {
+        match self.tokens {
+            [token, ..] => ParseFault::At {
                 line: token.line,
                 col: token.col,
                 kind: refusal_kind(why),
-            };
-        }
-        match self.scanner.next() {
-            Ok(_) => {
-                let last = self.scanner.place();
-                ParseFault::At {
-                    line: last.line,
-                    col: last.col,
-                    kind: refusal_kind(why),
-                }
-            }
-            Err(fault) => lex_fault(fault),
+            },
+            [] => end_fault(ending, why),
         }
     }
 }

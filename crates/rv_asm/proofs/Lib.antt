@@ -2,7 +2,6 @@ pub mod Sizes
 pub mod LineLabels
 pub mod Entries
 pub mod Forms
-pub mod Cuts
 pub mod Strings
 pub mod Codes
 pub mod FormatFields

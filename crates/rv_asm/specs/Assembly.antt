@@ -119,10 +119,15 @@ sized d text =
     else if nat_lt MAX_DATA_LEN (len_all d.data_part) then Err (DataTooLong (len_all d.data_part))
     else Ok (image_of d text)
 
+-- the program of what the lines make
+abbrev pub completed : Draft → Result Image AsmFault
+completed d = do
+  whole ← closed d
+  bytes ← code whole.labels whole.text_part
+  sized whole bytes
+
 -- the program of a text, or the first fault
 unfoldable pub assembled : List ℕ → Result Image AsmFault
 assembled text = do
   d ← passed 1 blank_draft (lines text)
-  whole ← closed d
-  bytes ← code whole.labels whole.text_part
-  sized whole bytes
+  completed d

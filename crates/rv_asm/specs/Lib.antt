@@ -5,6 +5,7 @@ pub mod Tokens
 pub mod Operations
 pub mod Operands
 pub mod Statements
+pub mod FormsSeen
 pub mod Parsing
 pub mod Seen
 pub mod Checks

@@ -5,7 +5,7 @@ ghost use Rattle.rv_word.specs.Names.{words_of, scratch_in};
 ghost use Rattle.pn_types.specs.Images.{IsImage, text_of};
 ghost use Rattle.pn_types.specs.GoodNames.{is_good_name};
 ghost use Rattle.std.specs.List.{All};
-ghost use Rattle.rv_asm.specs.Assembly.{sized, assembled, names_room};
+ghost use Rattle.rv_asm.specs.Assembly.{sized, completed, assembled, names_room};
 ghost use Rattle.rv_asm.specs.Seen.{Gives};
 ghost use Rattle.rv_asm.specs.declared.fault.AsmFault.TheVariants.{NoMemory};
 
@@ -38,6 +38,17 @@ fn sized(alloc: Global, draft: &Draft, text: Vec<u8>) -> Result<Image, AsmFault>
     Ok(image(alloc, draft, text)?)
 }
 
+/// The program of what the lines make, if no procedure is open.
+fn completed(alloc: Global, draft: &Draft) -> Result<Image, AsmFault>
+    ensures { Gives (λ image. image) result (completed draft.now) }
+{
+    if let Some(line) = draft.opened {
+        return Err(AsmFault::BadLine(line));
+    }
+    let bytes = code(alloc, &draft.labels, draft.text_part.as_slice())?;
+    sized(alloc, draft, bytes)
+}
+
 /// The program that the text stands for, or why it is none: the fault of the first line that is faulty in itself, else
 /// that of the first that leads nowhere or too far, else what is wrong with the whole.
 #[tactic(auto, unfolding(crate::specs::Assembly::assembled))]
@@ -51,9 +62,5 @@ pub fn assemble(alloc: Global, text: &[u8]) -> Result<Image, AsmFault>
     ensures named { IfOk result (λ image. names_room image.symbols ≤ 127 * (length text.now + 1)) }
 {
     let draft = pass(alloc, text)?;
-    if let Some(line) = draft.opened {
-        return Err(AsmFault::BadLine(line));
-    }
-    let bytes = code(alloc, &draft.labels, draft.text_part.as_slice())?;
-    sized(alloc, &draft, bytes)
+    completed(alloc, &draft)
 }

@@ -1,25 +1,68 @@
 //! Statements with a name or a string, by their names and operands.
 
 ghost use Rattle.std.specs.Prelude.{◌≡◌};
-ghost use Rattle.std.specs.Option.{option_and_then, option_map};
+ghost use Rattle.std.specs.Option.{option_map};
 ghost use Rattle.rv_word.specs.declared.instr.Instr.TheVariants as instr;
 ghost use Rattle.rv_asm.specs.declared.statement.Statement.TheVariants as the;
-ghost use Rattle.rv_asm.specs.Registers.{named};
+ghost use Rattle.rv_asm.specs.FormsSeen.{named_form};
 ghost use Rattle.rv_asm.specs.Operands.{name_number, one_name, one_string, register_name, registers_name};
-ghost use Rattle.rv_asm.specs.Operations.{branch_ops, zero_branch_ops};
-ghost use Rattle.rv_asm.specs.Statements.{◌⇒◌, Found, joined, made_by, before_name, named_singles, named_forms, operation};
+ghost use Rattle.rv_asm.specs.Statements.{◌⇒◌, Found, joined, made_by, named_forms, operation};
 
 use crate::operands::{name_number, one_name, one_string, register_name, registers_name};
-use crate::operations::{branch_op, zero_branch_op};
 use crate::plain::plain_statement;
+use crate::rows::named_row;
 use crate::statement::Statement;
-use rv_word::Instr;
+use rv_word::{BranchOp, Instr};
+
+/// The operands of a statement with a name or a string, and what they make.
+#[derive(Clone, Copy)]
+pub(crate) enum NamedForm {
+    /// `rs1, rs2, NAME`
+    Branch(BranchOp),
+    /// `rs, NAME`, a branch on the register and zero
+    ZeroBranch(BranchOp),
+    /// `NAME`
+    Name(Statement),
+    /// `.ascii "text"`
+    Ascii,
+    /// `.object NAME N`
+    Object,
+    /// `jal rd, NAME`
+    Jal,
+    /// `la rd, NAME`
+    LoadAddress,
+}
+
+/// The names of these statements.
+const NAMED_FORMS: [(&[u8], NamedForm); 16] = [
+    (b"beq", NamedForm::Branch(BranchOp::Beq)),
+    (b"bne", NamedForm::Branch(BranchOp::Bne)),
+    (b"blt", NamedForm::Branch(BranchOp::Blt)),
+    (b"bge", NamedForm::Branch(BranchOp::Bge)),
+    (b"bltu", NamedForm::Branch(BranchOp::Bltu)),
+    (b"bgeu", NamedForm::Branch(BranchOp::Bgeu)),
+    (b"beqz", NamedForm::ZeroBranch(BranchOp::Beq)),
+    (b"bnez", NamedForm::ZeroBranch(BranchOp::Bne)),
+    (b".module", NamedForm::Name(Statement::Module)),
+    (
+        b"j",
+        NamedForm::Name(Statement::Jump(Instr::Jal { rd: 0, offset: 0 })),
+    ),
+    (
+        b"call",
+        NamedForm::Name(Statement::Jump(Instr::Jal { rd: 1, offset: 0 })),
+    ),
+    (b".proc", NamedForm::Name(Statement::Procedure)),
+    (b".ascii", NamedForm::Ascii),
+    (b".object", NamedForm::Object),
+    (b"jal", NamedForm::Jal),
+    (b"la", NamedForm::LoadAddress),
+];
 
 /// A branch.
-fn branch_statement<'a>(name: &[u8], text: &'a [u8]) -> Option<(Statement, &'a [u8])>
-    ensures { option_map {U = Found} (λ found. (found.0, found.1.now)) result ≡ option_and_then (λ op. (registers_name ⇒ λ r. (the.Jump (instr.Branch op r.0 r.1 0), r.2)) text.now) (named name.now branch_ops) }
+fn branch_statement<'a>(op: BranchOp, text: &'a [u8]) -> Option<(Statement, &'a [u8])>
+    ensures { option_map {U = Found} (λ found. (found.0, found.1.now)) result ≡ (registers_name ⇒ λ r. (the.Jump (instr.Branch op r.0 r.1 0), r.2)) text.now }
 {
-    let op = branch_op(name)?;
     let (rs1, rs2, target) = registers_name(text)?;
     let instr = Instr::Branch {
         op,
@@ -31,10 +74,9 @@ fn branch_statement<'a>(name: &[u8], text: &'a [u8]) -> Option<(Statement, &'a [
 }
 
 /// A branch on a register and zero.
-fn zero_branch_statement<'a>(name: &[u8], text: &'a [u8]) -> Option<(Statement, &'a [u8])>
-    ensures { option_map {U = Found} (λ found. (found.0, found.1.now)) result ≡ option_and_then (λ op. (register_name ⇒ λ r. (the.Jump (instr.Branch op r.0 0 0), r.1)) text.now) (named name.now zero_branch_ops) }
+fn zero_branch_statement<'a>(op: BranchOp, text: &'a [u8]) -> Option<(Statement, &'a [u8])>
+    ensures { option_map {U = Found} (λ found. (found.0, found.1.now)) result ≡ (register_name ⇒ λ r. (the.Jump (instr.Branch op r.0 0 0), r.1)) text.now }
 {
-    let op = zero_branch_op(name)?;
     let (rs1, target) = register_name(text)?;
     let instr = Instr::Branch {
         op,
@@ -45,26 +87,10 @@ fn zero_branch_statement<'a>(name: &[u8], text: &'a [u8]) -> Option<(Statement, 
     Some((Statement::Jump(instr), target))
 }
 
-/// The statement of this name that a name alone follows.
-fn before_name(name: &[u8]) -> Option<Statement>
-    ensures { result ≡ named name.now before_name }
-{
-    if name == b".module".as_slice() {
-        return Some(Statement::Module);
-    }
-    match name {
-        b"j" => Some(Statement::Jump(Instr::Jal { rd: 0, offset: 0 })),
-        b"call" => Some(Statement::Jump(Instr::Jal { rd: 1, offset: 0 })),
-        b".proc" => Some(Statement::Procedure),
-        _ => None,
-    }
-}
-
 /// A statement that a name alone follows.
-fn name_statement<'a>(name: &[u8], text: &'a [u8]) -> Option<(Statement, &'a [u8])>
-    ensures { option_map {U = Found} (λ found. (found.0, found.1.now)) result ≡ option_and_then (λ statement. (one_name ⇒ λ name. (statement, name)) text.now) (named name.now before_name) }
+fn name_statement<'a>(statement: Statement, text: &'a [u8]) -> Option<(Statement, &'a [u8])>
+    ensures { option_map {U = Found} (λ found. (found.0, found.1.now)) result ≡ (one_name ⇒ λ name. (statement, name)) text.now }
 {
-    let statement = before_name(name)?;
     let operand = one_name(text)?;
     Some((statement, operand))
 }
@@ -101,20 +127,18 @@ fn ascii_statement<'a>(text: &'a [u8]) -> Option<(Statement, &'a [u8])>
     Some((Statement::Ascii, bytes))
 }
 
-/// A statement with a name or a string whose form no other has.
-fn named_single_statement<'a>(name: &[u8], text: &'a [u8]) -> Option<(Statement, &'a [u8])>
-    ensures { option_map {U = Found} (λ found. (found.0, found.1.now)) result ≡ made_by named_singles name.now text.now }
+/// The statement of this form, by its operands.
+fn of_form<'a>(form: NamedForm, text: &'a [u8]) -> Option<(Statement, &'a [u8])>
+    ensures { option_map {U = Found} (λ found. (found.0, found.1.now)) result ≡ named_form form text.now }
 {
-    if name == b".object".as_slice() {
-        return object_statement(text);
-    }
-    if name == b".ascii".as_slice() {
-        return ascii_statement(text);
-    }
-    match name {
-        b"jal" => jal_statement(text),
-        b"la" => la_statement(text),
-        _ => None,
+    match form {
+        NamedForm::Branch(op) => branch_statement(op, text),
+        NamedForm::ZeroBranch(op) => zero_branch_statement(op, text),
+        NamedForm::Name(statement) => name_statement(statement, text),
+        NamedForm::Ascii => ascii_statement(text),
+        NamedForm::Object => object_statement(text),
+        NamedForm::Jal => jal_statement(text),
+        NamedForm::LoadAddress => la_statement(text),
     }
 }
 
@@ -122,10 +146,8 @@ fn named_single_statement<'a>(name: &[u8], text: &'a [u8]) -> Option<(Statement,
 fn named_statement<'a>(name: &[u8], text: &'a [u8]) -> Option<(Statement, &'a [u8])>
     ensures { option_map {U = Found} (λ found. (found.0, found.1.now)) result ≡ made_by (joined named_forms) name.now text.now }
 {
-    branch_statement(name, text)
-        .or(zero_branch_statement(name, text))
-        .or(name_statement(name, text))
-        .or(named_single_statement(name, text))
+    let form = named_row(name, &NAMED_FORMS)?;
+    of_form(form, text)
 }
 
 /// A statement by its name and what stands behind it, with the name or the string that it has, else with nothing.

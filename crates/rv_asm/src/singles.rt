@@ -5,7 +5,7 @@ ghost use Rattle.rv_word.specs.declared.instr.ImmOp.TheVariants as imm;
 ghost use Rattle.rv_word.specs.declared.instr.Instr.TheVariants as instr;
 ghost use Rattle.rv_asm.specs.declared.statement.Statement.TheVariants as the;
 ghost use Rattle.rv_asm.specs.Operands.{one_number, one_register, register_memory, register_number, registers_number, two_registers};
-ghost use Rattle.rv_asm.specs.Statements.{◌⇒◌, made_by, singles};
+ghost use Rattle.rv_asm.specs.Statements.{◌⇒◌};
 
 use crate::operands::{
     one_number, one_register, register_memory, register_number, registers_number, two_registers,
@@ -14,7 +14,7 @@ use crate::statement::Statement;
 use rv_word::{ImmOp, Instr};
 
 /// `addiw rd, rs1, N`
-fn addiw_statement(text: &[u8]) -> Option<Statement>
+pub(crate) fn addiw_statement(text: &[u8]) -> Option<Statement>
     ensures { result ≡ (registers_number ⇒ λ r. the.Numbered (instr.Addiw r.0 r.1 0) r.2) text.now }
 {
     let (rd, rs1, number) = registers_number(text)?;
@@ -23,7 +23,7 @@ fn addiw_statement(text: &[u8]) -> Option<Statement>
 }
 
 /// `jalr rd, N(rs1)`
-fn jalr_statement(text: &[u8]) -> Option<Statement>
+pub(crate) fn jalr_statement(text: &[u8]) -> Option<Statement>
     ensures { result ≡ (register_memory ⇒ λ r. the.Numbered (instr.Jalr r.0 r.2 0) r.1) text.now }
 {
     let (rd, number, rs1) = register_memory(text)?;
@@ -32,7 +32,7 @@ fn jalr_statement(text: &[u8]) -> Option<Statement>
 }
 
 /// `lui rd, N`
-fn lui_statement(text: &[u8]) -> Option<Statement>
+pub(crate) fn lui_statement(text: &[u8]) -> Option<Statement>
     ensures { result ≡ (register_number ⇒ λ r. the.Numbered (instr.Lui r.0 0) r.1) text.now }
 {
     let (rd, number) = register_number(text)?;
@@ -40,7 +40,7 @@ fn lui_statement(text: &[u8]) -> Option<Statement>
 }
 
 /// `auipc rd, N`
-fn auipc_statement(text: &[u8]) -> Option<Statement>
+pub(crate) fn auipc_statement(text: &[u8]) -> Option<Statement>
     ensures { result ≡ (register_number ⇒ λ r. the.Numbered (instr.Auipc r.0 0) r.1) text.now }
 {
     let (rd, number) = register_number(text)?;
@@ -48,7 +48,7 @@ fn auipc_statement(text: &[u8]) -> Option<Statement>
 }
 
 /// `li rd, N`
-fn li_statement(text: &[u8]) -> Option<Statement>
+pub(crate) fn li_statement(text: &[u8]) -> Option<Statement>
     ensures { result ≡ (register_number ⇒ λ r. the.LoadNumber r.0 r.1) text.now }
 {
     let (rd, number) = register_number(text)?;
@@ -56,7 +56,7 @@ fn li_statement(text: &[u8]) -> Option<Statement>
 }
 
 /// `mv rd, rs`
-fn mv_statement(text: &[u8]) -> Option<Statement>
+pub(crate) fn mv_statement(text: &[u8]) -> Option<Statement>
     ensures { result ≡ (two_registers ⇒ λ r. the.Instruction (instr.OpImm imm.Addi r.0 r.1 0)) text.now }
 {
     let (rd, rs1) = two_registers(text)?;
@@ -70,7 +70,7 @@ fn mv_statement(text: &[u8]) -> Option<Statement>
 }
 
 /// `jr rs`
-fn jr_statement(text: &[u8]) -> Option<Statement>
+pub(crate) fn jr_statement(text: &[u8]) -> Option<Statement>
     ensures { result ≡ (one_register ⇒ λ base. the.Instruction (instr.Jalr 0 base 0)) text.now }
 {
     let rs1 = one_register(text)?;
@@ -83,7 +83,7 @@ fn jr_statement(text: &[u8]) -> Option<Statement>
 }
 
 /// `.zero N`
-fn zero_statement(text: &[u8]) -> Option<Statement>
+pub(crate) fn zero_statement(text: &[u8]) -> Option<Statement>
     ensures { result ≡ (one_number ⇒ λ n. the.Zeros n) text.now }
 {
     let number = one_number(text)?;
@@ -91,29 +91,9 @@ fn zero_statement(text: &[u8]) -> Option<Statement>
 }
 
 /// `.align N`
-fn align_statement(text: &[u8]) -> Option<Statement>
+pub(crate) fn align_statement(text: &[u8]) -> Option<Statement>
     ensures { result ≡ (one_number ⇒ λ n. the.Align n) text.now }
 {
     let number = one_number(text)?;
     Some(Statement::Align(number))
-}
-
-/// A statement whose form no other has.
-pub(crate) fn single_statement(name: &[u8], text: &[u8]) -> Option<Statement>
-    ensures { result ≡ made_by singles name.now text.now }
-{
-    if name == b".align".as_slice() {
-        return align_statement(text);
-    }
-    match name {
-        b"addiw" => addiw_statement(text),
-        b"jalr" => jalr_statement(text),
-        b"lui" => lui_statement(text),
-        b"auipc" => auipc_statement(text),
-        b"li" => li_statement(text),
-        b"mv" => mv_statement(text),
-        b"jr" => jr_statement(text),
-        b".zero" => zero_statement(text),
-        _ => None,
-    }
 }

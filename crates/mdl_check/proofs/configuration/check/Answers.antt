@@ -1,24 +1,35 @@
-use Rattle.std.proofs.Common.{◌≡◌, List, length, ap, ap₂, subst, ◌∙◌, arith}
+use Rattle.std.proofs.Common.{List, length, ap, ap₂, subst, arith}
 use Rattle.mdl_check.specs.Placed.{PlacedItem, Entry, placed_items}
 use Rattle.mdl_check.specs.Checking.{AreEntries}
 use Rattle.mdl_check.specs.Judged.{IsJudged}
 use Rattle.mdl_check.proofs.Entries.{entries_length}
-use Rattle.mdl_check.proofs.Judged.{metrics_few, judged_sound}
+use Rattle.mdl_check.proofs.Judged.{answered, metrics_few, judged_sound}
 use Rattle.mdl_check.proofs.configuration.check.Goals as goal
+
+pub judged-requires : goal.judged-requires
+judged-requires c =
+    let places = ap₂ placed_items c.as_slice.ensures c.as_slice-2.ensures in
+    omega (arith, ap length c.deref.ensures.value, ap length places, entries_length _ _ c.in_ok-all.all.items c.in_ok-all.ensures, c.requires)
+
+pub returns-clause-answer : goal.returns-clause-answer
+returns-clause-answer c =
+    let t = c.args.tree.now in
+    let all = c.in_ok-all.all.items in
+    let places = ap₂ placed_items c.as_slice.ensures c.as_slice-2.ensures in
+    answered t c.args.shipped.now.items c.args.conf.now.items all c.judged.result (subst (λ (s : List PlacedItem). AreEntries t s all) places c.in_ok-all.ensures)
+    (subst (λ (es : List Entry). IsJudged es c.judged.result) c.deref.ensures.value c.judged.ensures)
 
 pub returns-clause-few : goal.returns-clause-few
 returns-clause-few c =
     let all = c.in_ok-all.all.items in
-    let places : c.deref.result.now ≡ placed_items c.args.shipped.now.items c.args.conf.now.items =
-    c.deref.ensures.value ∙ c.in_ok-places.ensures ∙ ap₂ placed_items c.as_slice.ensures c.as_slice-2.ensures in
+    let places = ap₂ placed_items c.as_slice.ensures c.as_slice-2.ensures in
     metrics_few all c.judged.result (omega (arith, ap length places, entries_length _ _ all c.in_ok-all.ensures, c.requires))
-    (subst (λ (es : List Entry). IsJudged es c.judged.result) c.deref-2.ensures.value c.judged.ensures)
+    (subst (λ (es : List Entry). IsJudged es c.judged.result) c.deref.ensures.value c.judged.ensures)
 
 pub returns-clause-sound : goal.returns-clause-sound
 returns-clause-sound c =
+    let t = c.args.tree.now in
     let all = c.in_ok-all.all.items in
-    let shipped = c.args.shipped.now.items in
-    let items = c.args.conf.now.items in
-    let places : c.deref.result.now ≡ placed_items shipped items = c.deref.ensures.value ∙ c.in_ok-places.ensures ∙ ap₂ placed_items c.as_slice.ensures c.as_slice-2.ensures in
-    judged_sound c.args.tree.now shipped items all c.judged.result (subst (λ (s : List PlacedItem). AreEntries c.args.tree.now s all) places c.in_ok-all.ensures)
-    (subst (λ (es : List Entry). IsJudged es c.judged.result) c.deref-2.ensures.value c.judged.ensures)
+    let places = ap₂ placed_items c.as_slice.ensures c.as_slice-2.ensures in
+    judged_sound t c.args.shipped.now.items c.args.conf.now.items all c.judged.result (subst (λ (s : List PlacedItem). AreEntries t s all) places c.in_ok-all.ensures)
+    (subst (λ (es : List Entry). IsJudged es c.judged.result) c.deref.ensures.value c.judged.ensures)

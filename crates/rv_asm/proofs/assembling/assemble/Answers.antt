@@ -10,16 +10,16 @@ returns-clause-meaning c = search rules
 
 pub returns-clause-image : goal.returns-clause-image
 returns-clause-image c =
-    MatchResult-weaker c.sized.result (returns-clause-meaning c) (λ image meant. (assembled_is c.args.text.now image meant).sound c.requires) (λ fault _. tt)
+    MatchResult-weaker c.completed.result (returns-clause-meaning c) (λ image meant. (assembled_is c.args.text.now image meant).sound c.requires) (λ fault _. tt)
 
 pub returns-clause-unscratched : goal.returns-clause-unscratched
 returns-clause-unscratched c =
-    MatchResult-weaker c.sized.result (returns-clause-meaning c) (λ image meant. (assembled_is c.args.text.now image meant).unscratched) (λ fault _. tt)
+    MatchResult-weaker c.completed.result (returns-clause-meaning c) (λ image meant. (assembled_is c.args.text.now image meant).unscratched) (λ fault _. tt)
 
 pub returns-clause-named : goal.returns-clause-named
 returns-clause-named c =
-    MatchResult-weaker c.sized.result (returns-clause-meaning c) (λ image meant. (assembled_is c.args.text.now image meant).names) (λ fault _. tt)
+    MatchResult-weaker c.completed.result (returns-clause-meaning c) (λ image meant. (assembled_is c.args.text.now image meant).names) (λ fault _. tt)
 
 pub returns-clause-modules : goal.returns-clause-modules
 returns-clause-modules c =
-    MatchResult-weaker c.sized.result (returns-clause-meaning c) (λ image meant. (assembled_is c.args.text.now image meant).modules) (λ fault _. tt)
+    MatchResult-weaker c.completed.result (returns-clause-meaning c) (λ image meant. (assembled_is c.args.text.now image meant).modules) (λ fault _. tt)

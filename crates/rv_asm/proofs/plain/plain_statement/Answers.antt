@@ -1,28 +1,34 @@
-use Rattle.std.proofs.Common.{◌∙◌}
-use Rattle.rv_asm.specs.Statements.{plain_forms}
-use Rattle.rv_asm.proofs.Forms.{each_is, or_plain, plain_made}
+use Rattle.std.proofs.Common.{◌≡◌, ◌∙◌, ℕ, List, map, refl, sym, ap}
+use Rattle.std.specs.Option.{option_and_then}
+use Rattle.rv_asm.specs.FormsSeen.{plain_form}
+use Rattle.rv_asm.specs.Statements.{each, joined, made_by, plain_forms}
+use Rattle.rv_asm.specs.declared.plain_forms.PlainForm.{PlainForm}
+use Rattle.rv_asm.specs.declared.plain_forms.TheConstants.{PLAIN_FORMS}
+use Rattle.rv_asm.proofs.Forms.{each_is}
 use Rattle.rv_asm.proofs.plain.plain_statement.Goals as goal
 
+rows : List (List ℕ × PlainForm)
+rows = map (λ row. (row.0.now, row.1)) PLAIN_FORMS
+
+-- the code's table is that of the forms
+same : each rows plain_form ≡ joined plain_forms
+unfolding each plain_forms rows
+same = refl
+
 pub returns : goal.returns
-unfolding plain_forms
+unfolding rows
 returns c =
-    or_plain _ _ _ _ _ c.or-10.ensures
-    (or_plain _ _ _ _ _ c.or-9.ensures
-    (or_plain _ _ _ _ _ c.or-8.ensures
-    (or_plain _ _ _ _ _ c.or-7.ensures
-    (or_plain _ _ _ _ _ c.or-6.ensures
-    (or_plain _ _ _ _ _ c.or-5.ensures
-    (or_plain _ _ _ _ _ c.or-4.ensures
-    (or_plain _ _ _ _ _ c.or-3.ensures
-    (or_plain _ _ _ _ _ c.or-2.ensures
-    (or_plain _ _ _ _ _ c.or.ensures (each_is _ _ _ _ _ c.fixed_statement.ensures) (each_is _ _ _ _ _ c.base_statement.ensures))
-    (each_is _ _ _ _ _ c.half_statement.ensures))
-    (each_is _ _ _ _ _ c.immediate_statement.ensures))
-    (each_is _ _ _ _ _ c.shift_statement.ensures))
-    (each_is _ _ _ _ _ c.half_shift_statement.ensures))
-    (each_is _ _ _ _ _ c.load_statement.ensures))
-    (each_is _ _ _ _ _ c.store_statement.ensures))
-    c.atomic_statement.ensures)
-    c.single_statement.ensures)
-    (each_is _ _ _ _ _ c.value_statement.ensures)
-    ∙ plain_made c.args.name.now c.args.text.now
+    let name = c.args.name.now in
+    let text = c.args.text.now in
+    each_is rows plain_form name text c.of_form.result
+    (c.of_form.ensures ∙ ap (option_and_then (λ (form : PlainForm). plain_form form text)) (sym c.in_ok-form.was ∙ c.named_row.ensures))
+    ∙ ap (λ forms. made_by forms name text) same
+
+pub returns-in_err-form : goal.returns-in_err-form
+unfolding rows
+returns-in_err-form c =
+    let name = c.args.name.now in
+    let text = c.args.text.now in
+    each_is rows plain_form name text c.from_residual.result
+    (c.from_residual.ensures ∙ ap (option_and_then (λ (form : PlainForm). plain_form form text)) (sym c.in_err-form.was ∙ c.named_row.ensures))
+    ∙ ap (λ forms. made_by forms name text) same

@@ -7,9 +7,8 @@ use Rattle.mdl_parse.proofs.words.Words.all_blocks.Given as goal
 
 abbrev pub invariant-each : goal.invariant-each
 invariant-each l = record {
-  read : many_at (is_keyword (codes "foreach")) (block_at l.most) l.fn.self.words_ahead ≡ with_front l.blocks.items (many_at (is_keyword (codes "foreach")) (block_at l.most) l.self.words_ahead);
-  ending : l.self.ending ≡ l.fn.self.ending;
+  read : many_at (is_keyword (codes "foreach")) (block_at l.most) l.fn.self ≡ with_front l.blocks.items (many_at (is_keyword (codes "foreach")) (block_at l.most) l.self);
 }
 
 abbrev pub decreases-each : goal.decreases-each
-decreases-each l = length l.self.words_ahead
+decreases-each l = length l.self

@@ -5,9 +5,8 @@ use Rattle.mdl_parse.proofs.words.Words.conditions.Given as goal
 
 abbrev pub invariant-conditions : goal.invariant-conditions
 invariant-conditions l = record {
-  read : conditions_at l.most l.fn.self.words_ahead ≡ with_front l.conds.items (conditions_at (l.most - length l.conds.items) l.self.words_ahead);
+  read : conditions_at l.most l.fn.self ≡ with_front l.conds.items (conditions_at (l.most - length l.conds.items) l.self);
   few : length l.conds.items ≤ l.most;
-  ending : l.self.ending ≡ l.fn.self.ending;
 }
 
 abbrev pub decreases-conditions : goal.decreases-conditions

@@ -7,9 +7,8 @@ use Rattle.mdl_parse.proofs.words.Words.insertions.Given as goal
 
 abbrev pub invariant-insertions : goal.invariant-insertions
 invariant-insertions l = record {
-  read : many_at is_insertion (insertion_at l.most) l.fn.self.words_ahead ≡ with_front l.insertions.items (many_at is_insertion (insertion_at l.most) l.self.words_ahead);
-  ending : l.self.ending ≡ l.fn.self.ending;
+  read : many_at is_insertion (insertion_at l.most) l.fn.self ≡ with_front l.insertions.items (many_at is_insertion (insertion_at l.most) l.self);
 }
 
 abbrev pub decreases-insertions : goal.decreases-insertions
-decreases-insertions l = length l.self.words_ahead
+decreases-insertions l = length l.self

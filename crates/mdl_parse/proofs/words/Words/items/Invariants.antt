@@ -7,9 +7,8 @@ use Rattle.mdl_parse.proofs.words.Words.items.Given as goal
 
 abbrev pub invariant-items : goal.invariant-items
 invariant-items l = record {
-  read : many_at is_any (item_at l.most) l.fn.self.words_ahead ≡ with_front l.items.items (many_at is_any (item_at l.most) l.self.words_ahead);
-  ending : l.self.ending ≡ l.fn.self.ending;
+  read : many_at is_any (item_at l.most) l.fn.self ≡ with_front l.items.items (many_at is_any (item_at l.most) l.self);
 }
 
 abbrev pub decreases-items : goal.decreases-items
-decreases-items l = length l.self.words_ahead
+decreases-items l = length l.self

@@ -8,9 +8,8 @@ use Rattle.mdl_parse.proofs.words.Words.names.Given as goal
 
 abbrev pub invariant-names : goal.invariant-names
 invariant-names l = record {
-  read : names_at l.fn.self.words_ahead ≡ with_front l.names.items (many_at (is_sign Comma) another_at l.self.words_ahead);
-  ending : l.self.ending ≡ l.fn.self.ending;
+  read : names_at l.fn.self ≡ with_front l.names.items (many_at (is_sign Comma) another_at l.self);
 }
 
 abbrev pub decreases-names : goal.decreases-names
-decreases-names l = length l.self.words_ahead
+decreases-names l = length l.self

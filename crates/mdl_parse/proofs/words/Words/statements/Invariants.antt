@@ -7,9 +7,8 @@ use Rattle.mdl_parse.proofs.words.Words.statements.Given as goal
 
 abbrev pub invariant-statements : goal.invariant-statements
 invariant-statements l = record {
-  read : many_at is_var (statement_at l.most) l.fn.self.words_ahead ≡ with_front l.statements.items (many_at is_var (statement_at l.most) l.self.words_ahead);
-  ending : l.self.ending ≡ l.fn.self.ending;
+  read : many_at is_var (statement_at l.most) l.fn.self ≡ with_front l.statements.items (many_at is_var (statement_at l.most) l.self);
 }
 
 abbrev pub decreases-statements : goal.decreases-statements
-decreases-statements l = length l.self.words_ahead
+decreases-statements l = length l.self

@@ -1,7 +1,7 @@
 use Rattle.std.proofs.Common.{◌≡◌, [], take, drop}
 use Rattle.mdl_check.specs.Checking.{fault_from}
 use Rattle.mdl_check.specs.Indexes.{AreNoted}
-use Rattle.mdl_check.proofs.judge.first_fault_by.Given as goal
+use Rattle.mdl_check.proofs.judge.find_fault_by.Given as goal
 
 abbrev pub invariant-loop-place : goal.invariant-loop-place
 invariant-loop-place l = record {
