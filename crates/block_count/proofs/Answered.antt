@@ -14,7 +14,7 @@ use Rattle.block_count.specs.declared.counts.Counts.{Counts}
 use Rattle.block_count.specs.Counted.{IsCounted, passes_of}
 use Rattle.block_count.specs.Course.{Pace, beginning, block_events, sampling, turns_of}
 use Rattle.block_count.specs.Readings.{counts_read, stops_seen, ticks_seen}
-use Rattle.block_count.specs.Spots.{counters_of, spots_of}
+use Rattle.block_count.specs.CountedBlocks.{counters_of, counted_blocks_of}
 use Rattle.block_count.proofs.Courses.{events_legal, samples_stay}
 use Rattle.block_count.proofs.Ended.{same_ends, same_ticks}
 
@@ -38,10 +38,10 @@ run_of image procs budget p = owns (block_events image procs budget p) (start_co
 
 -- what the counters read
 abbrev pub CountsAre : Image → List Proc → ℕ → Pace → Type 0
-CountsAre image procs budget p = counts_read (settled image procs budget p) (spots_of image procs) ≡ map (passes_of (trace image p.harts (run_of image procs budget p))) (spots_of image procs)
+CountsAre image procs budget p = counts_read (settled image procs budget p) (counted_blocks_of image procs) ≡ map (passes_of (trace image p.harts (run_of image procs budget p))) (counted_blocks_of image procs)
 
 pub answered : (image : Image) (procs : List Proc) (budget : ℕ) (p : Pace) (r : Counts) → IsProgram image → length (counters_of image procs) ≤ 4094 → CountsAre image procs budget p
-    → r.ticks ≡ ticks_seen (settled image procs budget p) → r.stops ≡ stops_seen budget (settled image procs budget p) → r.counts ≡ counts_read (settled image procs budget p) (spots_of image procs)
+    → r.ticks ≡ ticks_seen (settled image procs budget p) → r.stops ≡ stops_seen budget (settled image procs budget p) → r.counts ≡ counts_read (settled image procs budget p) (counted_blocks_of image procs)
     → IsCounted image procs budget p r
 answered image procs budget p r program few are ticks stops counts =
     let es = block_events image procs budget p in

@@ -3,7 +3,7 @@ use Rattle.std.proofs.Common.{◌≡◌, ℕ, zero, suc, ◌+◌, ◌<◌, ◌�
 use Rattle.std.specs.Prelude.{false, slice_get, ◌⊎◌}
 use Rattle.tramp_spec.specs.Banks.{bank_len, first_slot}
 use Rattle.tramp_spec.specs.Bodies.{Harmless}
-use Rattle.tramp_spec.specs.Slots.{Place, width, ArePlaces, places_of}
+use Rattle.tramp_spec.specs.Slots.{VariableSlot, width, ArePlaces, places_of}
 use Rattle.tramp_spec.specs.Statements.{body_of}
 use Rattle.prim_code.specs.Fitting.{AreStmtsOf}
 use Rattle.prim_code.proofs.Whole.{statements_work}
@@ -24,13 +24,13 @@ fitting = (record { short = omega arith; conds = tt; act = refl }, tt)
 pub places : (k : Counter) → first_slot ≤ k.slot → k.slot < bank_len → ArePlaces (places_of (placed_of k))
 places k least most = record { within = within; apart = apart }
   where
-    within : (n : ℕ) (p : Place) → slice_get (places_of (placed_of k)) n ≡ Some p → (first_slot ≤ p.slot) × (p.slot + width p ≤ bank_len)
+    within : (n : ℕ) (p : VariableSlot) → slice_get (places_of (placed_of k)) n ≡ Some p → (first_slot ≤ p.slot) × (p.slot + width p ≤ bank_len)
     within zero p e =
         let s : record { slot = k.slot; timer = false } ≡ p = cc in
-        subst (λ (q : Place). (first_slot ≤ q.slot) × (q.slot + width q ≤ bank_len)) s (least, omega arith)
+        subst (λ (q : VariableSlot). (first_slot ≤ q.slot) × (q.slot + width q ≤ bank_len)) s (least, omega arith)
     within (suc n) p e = absurd cc
 
-    apart : (n m : ℕ) (p q : Place) → slice_get (places_of (placed_of k)) n ≡ Some p → slice_get (places_of (placed_of k)) m ≡ Some q → (n ≡ m → ⊥) → (p.slot + width p ≤ q.slot) ⊎ (q.slot + width q ≤ p.slot)
+    apart : (n m : ℕ) (p q : VariableSlot) → slice_get (places_of (placed_of k)) n ≡ Some p → slice_get (places_of (placed_of k)) m ≡ Some q → (n ≡ m → ⊥) → (p.slot + width p ≤ q.slot) ⊎ (q.slot + width q ≤ p.slot)
     apart zero zero p q en em ne = absurd (ne refl)
     apart zero (suc m) p q en em ne = absurd cc
     apart (suc n) m p q en em ne = absurd cc

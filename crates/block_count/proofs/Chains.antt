@@ -17,7 +17,7 @@ use Rattle.tramp_spec.specs.declared.mark.MarkedWord.{MarkedWord}
 use Rattle.block_count.specs.declared.block_head.BlockHead.{BlockHead}
 use Rattle.block_count.specs.Counters.{Counter, counter_at, end_of}
 use Rattle.block_count.specs.Heads.{begins, heads_in, heads_of, is_instr, words_behind}
-use Rattle.block_count.specs.Spots.{counter_for, counters_in, spots_from}
+use Rattle.block_count.specs.CountedBlocks.{counter_for, counters_in, counted_from}
 use Rattle.block_count.proofs.Going.{Chain}
 
 -- ---- no word becomes more than four
@@ -114,19 +114,19 @@ module _ (t : Words) where
     pub slots : slot + many ≤ bank_len
     pub words : at + 48 * many ≤ tool_at t + 393216
 
-  pub chain : (heads : List BlockHead) (p slot at : ℕ) → Ascend p heads → Room slot at (length (counters_in (spots_from t slot at heads))) → Chain p at t (counters_in (spots_from t slot at heads))
+  pub chain : (heads : List BlockHead) (p slot at : ℕ) → Ascend p heads → Room slot at (length (counters_in (counted_from t slot at heads))) → Chain p at t (counters_in (counted_from t slot at heads))
   chain [] p slot at a r = tt
   chain (h ∷ heads) p slot at a r = by (λ p s b. chain heads p s b) (counter_for t slot at h.at) refl r
     where
-      by : ((p slot at : ℕ) → Ascend p heads → Room slot at (length (counters_in (spots_from t slot at heads))) → Chain p at t (counters_in (spots_from t slot at heads)))
+      by : ((p slot at : ℕ) → Ascend p heads → Room slot at (length (counters_in (counted_from t slot at heads))) → Chain p at t (counters_in (counted_from t slot at heads)))
           → (o : Option Counter) → counter_for t slot at h.at ≡ o → Room slot at (length (counters_in (elim o [
-            | None ↦ record { head = h; counter = None } ∷ spots_from t slot at heads
-            | Some c ↦ record { head = h; counter = Some c } ∷ spots_from t (slot + 1) (end_of c) heads
+            | None ↦ record { head = h; counter = None } ∷ counted_from t slot at heads
+            | Some c ↦ record { head = h; counter = Some c } ∷ counted_from t (slot + 1) (end_of c) heads
           ]))) → Chain p at t (counters_in (elim o [
-            | None ↦ record { head = h; counter = None } ∷ spots_from t slot at heads
-            | Some c ↦ record { head = h; counter = Some c } ∷ spots_from t (slot + 1) (end_of c) heads
+            | None ↦ record { head = h; counter = None } ∷ counted_from t slot at heads
+            | Some c ↦ record { head = h; counter = Some c } ∷ counted_from t (slot + 1) (end_of c) heads
           ]))
-      by goes None e q = let l = a.0 in chain_from (h.at + 1) p at t (counters_in (spots_from t slot at heads)) (omega arith) (goes (h.at + 1) slot at a.1 q)
+      by goes None e q = let l = a.0 in chain_from (h.at + 1) p at t (counters_in (counted_from t slot at heads)) (omega arith) (goes (h.at + 1) slot at a.1 q)
       by goes (Some k) e q =
           let m = is_for t slot at h.at k e in
           let point = ap (λ (c : Counter). c.point) m.is in
@@ -139,7 +139,7 @@ module _ (t : Words) where
           let least = q.least in
           let slots = q.slots in
           let words = q.words in
-          let rest : Room (slot + 1) (end_of k) (length (counters_in (spots_from t (slot + 1) (end_of k) heads))) = record { aligned = omega arith; low = omega arith; least = omega arith; slots = omega arith; words = omega arith } in (
+          let rest : Room (slot + 1) (end_of k) (length (counters_in (counted_from t (slot + 1) (end_of k) heads))) = record { aligned = omega arith; low = omega arith; least = omega arith; slots = omega arith; words = omega arith } in (
             record {
               here = omega arith;
               there = there;
@@ -152,7 +152,7 @@ module _ (t : Words) where
               least = omega arith;
               most = omega arith;
             },
-            subst (λ n. Chain (n + 1) (end_of k) t (counters_in (spots_from t (slot + 1) (end_of k) heads))) (sym point) (goes (h.at + 1) (slot + 1) (end_of k) a.1 rest),
+            subst (λ n. Chain (n + 1) (end_of k) t (counters_in (counted_from t (slot + 1) (end_of k) heads))) (sym point) (goes (h.at + 1) (slot + 1) (end_of k) a.1 rest),
           )
 
 pub heads_in_order : (image : Image) (procs : List Proc) → Ascend image.text_at (heads_of image procs)

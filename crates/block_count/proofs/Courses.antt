@@ -35,7 +35,7 @@ use Rattle.machine.proofs.Settled.{reaches_all, settled_quiet, settles_from}
 use Rattle.machine.proofs.Texts.{in_text}
 use Rattle.block_count.specs.Counters.{Counter, mini_at, placed_of}
 use Rattle.block_count.specs.Course.{Pace, all_quanta, and_then, arming, beginning, block_events, course_of, placing, quanta_from, sampling, turns_of}
-use Rattle.block_count.specs.Spots.{counters_of}
+use Rattle.block_count.specs.CountedBlocks.{counters_of}
 use Rattle.block_count.specs.Heads.{heads_of}
 use Rattle.block_count.proofs.Chains.{Room, ascend_from, chain, heads_in_order}
 use Rattle.block_count.proofs.Going.{Has, Stood, Ends, all_placed}

@@ -29,13 +29,13 @@ use Rattle.machine.proofs.Erasing.{erasure}
 use Rattle.machine.proofs.Readings.{readings_measure}
 use Rattle.machine.proofs.Replaying.{owns-append, replay-append}
 use Rattle.block_count.specs.declared.block_head.BlockHead.{BlockHead}
-use Rattle.block_count.specs.declared.spot.Spot.{Spot}
+use Rattle.block_count.specs.declared.counted_block.CountedBlock.{CountedBlock}
 use Rattle.block_count.specs.Counted.{passes_of, positions_at}
 use Rattle.block_count.specs.Counters.{Counter, end_of, placed_of, plan_at}
 use Rattle.block_count.specs.Course.{Pace, arming, block_events, placing, sampling, turns_of}
 use Rattle.block_count.specs.Heads.{heads_of}
 use Rattle.block_count.specs.Readings.{counter_read}
-use Rattle.block_count.specs.Spots.{counter_for, counters_in, counters_of, spots_from, spots_of}
+use Rattle.block_count.specs.CountedBlocks.{counter_for, counters_in, counters_of, counted_from, counted_blocks_of}
 use Rattle.block_count.proofs.Answered.{CountsAre, begun, course_is, run_of, settled}
 use Rattle.block_count.proofs.Chains.{is_for}
 use Rattle.block_count.proofs.Courses.{Arms, all_armed, armed_quiet, events_legal, first_quiet, placed_all, rests, slots_are}
@@ -187,37 +187,37 @@ module _ (image : Image) (procs : List Proc) (budget : ℕ) (p : Pace) (program 
 -- ---- all blocks
 
 -- a block's counter is one of the program's, and counts at its head
-counted_there : (spots : List Spot) (s : Spot) (k : Counter) → In s spots → s.counter ≡ Some k → In k (counters_in spots)
+counted_there : (blocks : List CountedBlock) (s : CountedBlock) (k : Counter) → In s blocks → s.counter ≡ Some k → In k (counters_in blocks)
 counted_there [] s k h e = absurd h
-counted_there (x ∷ spots) s k (inl i) e = by x.counter (ap (λ (y : Spot). y.counter) (sym i) ∙ e)
+counted_there (x ∷ blocks) s k (inl i) e = by x.counter (ap (λ (y : CountedBlock). y.counter) (sym i) ∙ e)
   where
-    by : (o : Option Counter) → o ≡ Some k → In k (elim o [ None ↦ counters_in spots | Some c ↦ c ∷ counters_in spots ])
+    by : (o : Option Counter) → o ≡ Some k → In k (elim o [ None ↦ counters_in blocks | Some c ↦ c ∷ counters_in blocks ])
     by None q = absurd cc
     by (Some c) q = let z : c ≡ k = cc in inl (sym z)
-counted_there (x ∷ spots) s k (inr h) e = by x.counter (counted_there spots s k h e)
+counted_there (x ∷ blocks) s k (inr h) e = by x.counter (counted_there blocks s k h e)
   where
-    by : (o : Option Counter) → In k (counters_in spots) → In k (elim o [ None ↦ counters_in spots | Some c ↦ c ∷ counters_in spots ])
+    by : (o : Option Counter) → In k (counters_in blocks) → In k (elim o [ None ↦ counters_in blocks | Some c ↦ c ∷ counters_in blocks ])
     by None rest = rest
     by (Some c) rest = inr rest
 
 -- where a block has a counter, its point is the block's head
-abbrev CountsHead : Spot → Type 0
+abbrev CountsHead : CountedBlock → Type 0
 CountsHead s = (k : Counter) → s.counter ≡ Some k → k.point ≡ s.head.at
 
-count_heads : (t : Words) (heads : List BlockHead) (slot at : ℕ) (s : Spot) → In s (spots_from t slot at heads) → CountsHead s
+count_heads : (t : Words) (heads : List BlockHead) (slot at : ℕ) (s : CountedBlock) → In s (counted_from t slot at heads) → CountsHead s
 count_heads t [] slot at s h = absurd h
 count_heads t (x ∷ heads) slot at s h = by (λ n a i. count_heads t heads n a s i) (counter_for t slot at x.at) refl h
   where
-    by : ((n a : ℕ) → In s (spots_from t n a heads) → CountsHead s) → (o : Option Counter) → counter_for t slot at x.at ≡ o → In s (elim o [
-      | None ↦ record { head = x; counter = None } ∷ spots_from t slot at heads
-      | Some c ↦ record { head = x; counter = Some c } ∷ spots_from t (slot + 1) (end_of c) heads
+    by : ((n a : ℕ) → In s (counted_from t n a heads) → CountsHead s) → (o : Option Counter) → counter_for t slot at x.at ≡ o → In s (elim o [
+      | None ↦ record { head = x; counter = None } ∷ counted_from t slot at heads
+      | Some c ↦ record { head = x; counter = Some c } ∷ counted_from t (slot + 1) (end_of c) heads
     ]) → CountsHead s
-    by rest None e (inl i) k q = let z : None ≡ Some k = sym (ap (λ (y : Spot). y.counter) i) ∙ q in absurd cc
+    by rest None e (inl i) k q = let z : None ≡ Some k = sym (ap (λ (y : CountedBlock). y.counter) i) ∙ q in absurd cc
     by rest None e (inr i) k q = rest slot at i k q
     by rest (Some c) e (inl i) k q =
-        let z : Some c ≡ Some k = sym (ap (λ (y : Spot). y.counter) i) ∙ q in
+        let z : Some c ≡ Some k = sym (ap (λ (y : CountedBlock). y.counter) i) ∙ q in
         let same : c ≡ k = cc in
-        ap (λ (y : Counter). y.point) (sym same) ∙ ap (λ (y : Counter). y.point) (is_for t slot at x.at c e).is ∙ ap (λ (y : Spot). y.head.at) (sym i)
+        ap (λ (y : Counter). y.point) (sym same) ∙ ap (λ (y : Counter). y.point) (is_for t slot at x.at c e).is ∙ ap (λ (y : CountedBlock). y.head.at) (sym i)
     by rest (Some c) e (inr i) k q = rest (slot + 1) (end_of c) i k q
 
 map_same : {A B : Type 0} (f g : A → B) (xs : List A) → ((x : A) → In x xs → f x ≡ g x) → map f xs ≡ map g xs
@@ -226,13 +226,13 @@ map_same f g (x ∷ xs) same = ap (λ y. y ∷ map f xs) (same x (inl refl)) ∙
 
 pub counts_are : (image : Image) (procs : List Proc) (budget : ℕ) (p : Pace) → IsProgram image → length (counters_of image procs) ≤ 4094 → budget ≤ MAX_BUDGET → CountsAre image procs budget p
 counts_are image procs budget p program few low =
-    map_same (λ s. option_map (counter_read (settled image procs budget p)) s.counter) (passes_of (trace image p.harts (run_of image procs budget p))) (spots_of image procs) (λ s h. by s h s.counter refl)
+    map_same (λ s. option_map (counter_read (settled image procs budget p)) s.counter) (passes_of (trace image p.harts (run_of image procs budget p))) (counted_blocks_of image procs) (λ s h. by s h s.counter refl)
   where
-    by : (s : Spot) → In s (spots_of image procs) → (o : Option Counter) → s.counter ≡ o → option_map (counter_read (settled image procs budget p)) s.counter ≡ passes_of (trace image p.harts (run_of image procs budget p)) s
+    by : (s : CountedBlock) → In s (counted_blocks_of image procs) → (o : Option Counter) → s.counter ≡ o → option_map (counter_read (settled image procs budget p)) s.counter ≡ passes_of (trace image p.harts (run_of image procs budget p)) s
     by s h None e = ap (option_map (counter_read (settled image procs budget p))) e ∙ sym (ap (option_map (λ (k : Counter). positions_at s.head.at (trace image p.harts (run_of image procs budget p)) % 2 ^ 64)) e)
     by s h (Some k) e =
         let point = count_heads (program_of image) (heads_of image procs) first_slot (tool_at (program_of image)) s h k e in
-        let reads = reads_positions image procs budget p program few low k (counted_there (spots_of image procs) s k h e) in
+        let reads = reads_positions image procs budget p program few low k (counted_there (counted_blocks_of image procs) s k h e) in
         ap (option_map (counter_read (settled image procs budget p))) e
         ∙ ap Some (reads ∙ ap (λ a. positions_at a (trace image p.harts (run_of image procs budget p)) % 2 ^ 64) point)
         ∙ sym (ap (option_map (λ (j : Counter). positions_at s.head.at (trace image p.harts (run_of image procs budget p)) % 2 ^ 64)) e)

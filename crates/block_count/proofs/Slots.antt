@@ -3,14 +3,14 @@ use Rattle.std.proofs.Common.{◌≡◌, ℕ, zero, suc, ◌+◌, ◌<◌, ◌�
 use Rattle.std.specs.Prelude.{false, slice_get, ◌⊎◌}
 use Rattle.rv_word.specs.Plain.{Words}
 use Rattle.tramp_spec.specs.Banks.{bank_len, first_slot}
-use Rattle.tramp_spec.specs.Slots.{IsSlotOf, Place, ShareNone, places_of, width}
+use Rattle.tramp_spec.specs.Slots.{IsSlotOf, VariableSlot, ShareNone, places_of, width}
 use Rattle.tramp_spec.specs.Statements.{body_of}
 use Rattle.prim_code.proofs.Whole.{statements_work}
 use Rattle.machine.specs.Cores.{In}
 use Rattle.machine.specs.Instruments.{Spares}
 use Rattle.block_count.specs.declared.block_head.BlockHead.{BlockHead}
 use Rattle.block_count.specs.Counters.{Counter, end_of, one_more, passes, placed_of}
-use Rattle.block_count.specs.Spots.{counter_for, counters_in, spots_from}
+use Rattle.block_count.specs.CountedBlocks.{counter_for, counters_in, counted_from}
 use Rattle.block_count.proofs.Bodies.{fitting, places}
 use Rattle.block_count.proofs.Chains.{is_for}
 
@@ -19,13 +19,13 @@ abbrev pub Slots : ℕ → List Counter → Type 0
 Slots s [] = Unit {0}
 Slots s (k ∷ ks) = (k.slot ≡ s) × Slots (s + 1) ks
 
-pub slots_follow : (t : Words) (heads : List BlockHead) (slot at : ℕ) → Slots slot (counters_in (spots_from t slot at heads))
+pub slots_follow : (t : Words) (heads : List BlockHead) (slot at : ℕ) → Slots slot (counters_in (counted_from t slot at heads))
 slots_follow t [] slot at = tt
 slots_follow t (h ∷ heads) slot at = by (λ s a. slots_follow t heads s a) (counter_for t slot at h.at) refl
   where
-    by : ((s a : ℕ) → Slots s (counters_in (spots_from t s a heads))) → (o : Option Counter) → counter_for t slot at h.at ≡ o → Slots slot (counters_in (elim o [
-      | None ↦ record { head = h; counter = None } ∷ spots_from t slot at heads
-      | Some c ↦ record { head = h; counter = Some c } ∷ spots_from t (slot + 1) (end_of c) heads
+    by : ((s a : ℕ) → Slots s (counters_in (counted_from t s a heads))) → (o : Option Counter) → counter_for t slot at h.at ≡ o → Slots slot (counters_in (elim o [
+      | None ↦ record { head = h; counter = None } ∷ counted_from t slot at heads
+      | Some c ↦ record { head = h; counter = Some c } ∷ counted_from t (slot + 1) (end_of c) heads
     ]))
     by rest None e = rest slot at
     by rest (Some k) e = (ap (λ (c : Counter). c.slot) (is_for t slot at h.at k e).is, rest (slot + 1) (end_of k))
@@ -62,10 +62,10 @@ parted s (x ∷ ks) k f (inr h) = let p = parted (s + 1) ks k f.1 h in record { 
 pub slot_is : (k : Counter) (q : ℕ) → IsSlotOf (places_of (placed_of k)) q → q ≡ k.slot
 slot_is k q h = by h.0 h.1 h.2 h.3 h.4
   where
-    by : (n : ℕ) (p : Place) → slice_get (places_of (placed_of k)) n ≡ Some p → p.slot ≤ q → q < p.slot + width p → q ≡ k.slot
+    by : (n : ℕ) (p : VariableSlot) → slice_get (places_of (placed_of k)) n ≡ Some p → p.slot ≤ q → q < p.slot + width p → q ≡ k.slot
     by zero p e l m =
         let s : record { slot = k.slot; timer = false } ≡ p = cc in
-        subst (λ (x : Place). x.slot ≤ q → q < x.slot + width x → q ≡ k.slot) s (λ a b. omega arith) l m
+        subst (λ (x : VariableSlot). x.slot ≤ q → q < x.slot + width x → q ≡ k.slot) s (λ a b. omega arith) l m
     by (suc n) p e l m = absurd cc
 
 pub share_none : (k j : Counter) → (j.slot ≡ k.slot → ⊥) → ShareNone (places_of (placed_of k)) (places_of (placed_of j))

@@ -13,13 +13,13 @@ use Rattle.rv_exec.specs.Run.{Position, run, trace, IsLegal}
 use Rattle.machine.specs.Cores.{start_core}
 use Rattle.machine.specs.Replays.{Legal, owns, replay}
 use Rattle.machine.specs.Same.{SameProgram}
-use Rattle.block_count.specs.Spots.{spots_of, counters_of}
+use Rattle.block_count.specs.CountedBlocks.{counted_blocks_of, counters_of}
 use Rattle.block_count.specs.Course.{Pace, block_events}
 use Rattle.block_count.specs.declared.counts.Counts.{Counts}
 use Rattle.block_count.specs.declared.counts.CountFault.{CountFault}
 use Rattle.block_count.specs.declared.counts.CountFault.TheVariants as fault
 use Rattle.block_count.specs.declared.counts.HartStop.{HartStop}
-use Rattle.block_count.specs.declared.spot.Spot.{Spot}
+use Rattle.block_count.specs.declared.counted_block.CountedBlock.{CountedBlock}
 
 -- ---- harts
 
@@ -45,7 +45,7 @@ abbrev pub positions_at : ℕ → List Position → ℕ
 positions_at a trace = count_by (λ q. q.pc == a) trace
 
 -- that of a block that has a counter
-abbrev pub passes_of : List Position → Spot → Option ℕ
+abbrev pub passes_of : List Position → CountedBlock → Option ℕ
 passes_of trace s = option_map (λ _. positions_at s.head.at trace % 2 ^ 64) s.counter
 
 -- ---- the answer
@@ -62,7 +62,7 @@ pub record IsCounted (image : Image) (procs : List Proc) (budget : ℕ) (p : Pac
   pub same : SameProgram (replay (block_events image procs budget p) (start_core image p.harts budget)) (run image p.harts turns)
   pub ticks : r.ticks ≡ map (λ x. x.ticks) (run image p.harts turns).harts
   pub stops : r.stops ≡ map (stop_of budget) (run image p.harts turns).harts
-  pub counts : r.counts ≡ map (passes_of (trace image p.harts turns)) (spots_of image procs)
+  pub counts : r.counts ≡ map (passes_of (trace image p.harts turns)) (counted_blocks_of image procs)
 
 -- More blocks have counters than there are slots: there are so many.
 abbrev pub IsFault : Image → List Proc → CountFault → Type 0

@@ -12,7 +12,7 @@ use Rattle.machine.specs.Replays.{replay}
 use Rattle.machine.specs.States.{quantum_turns, settling}
 use Rattle.machine.specs.Turns.{is_runnable}
 use Rattle.block_count.specs.Counters.{Counter, base_of, mini_at, mini_of, placed_of}
-use Rattle.block_count.specs.Spots.{counters_of}
+use Rattle.block_count.specs.CountedBlocks.{counters_of}
 
 -- these events, and then those of the state behind them
 abbrev pub and_then : List Event → (Core → List Event) → Core → List Event

@@ -1,6 +1,6 @@
 pub mod Heads
 pub mod Counters
-pub mod Spots
+pub mod CountedBlocks
 pub mod Course
 pub mod Counted
 pub mod Marked

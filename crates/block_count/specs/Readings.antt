@@ -8,7 +8,7 @@ use Rattle.machine.specs.Instruments.{reading}
 use Rattle.block_count.specs.Counted.{ended_by}
 use Rattle.block_count.specs.Counters.{Counter, placed_of}
 use Rattle.block_count.specs.declared.counts.HartStop.{HartStop}
-use Rattle.block_count.specs.declared.spot.Spot.{Spot}
+use Rattle.block_count.specs.declared.counted_block.CountedBlock.{CountedBlock}
 
 -- how a hart ended
 abbrev pub stop_seen : ℕ → Core → Hart → HartStop
@@ -24,5 +24,5 @@ ticks_seen c = map (λ x. x.ticks) c.harts
 abbrev pub counter_read : Core → Counter → ℕ
 counter_read c k = sum (map (reading (placed_of k)) c.harts) % 2 ^ 64
 
-abbrev pub counts_read : Core → List Spot → List (Option ℕ)
-counts_read c spots = map (λ s. option_map (counter_read c) s.counter) spots
+abbrev pub counts_read : Core → List CountedBlock → List (Option ℕ)
+counts_read c blocks = map (λ s. option_map (counter_read c) s.counter) blocks

@@ -10,11 +10,11 @@ ghost use Rattle.block_count.specs.Counted.{IsCounted, IsFault};
 ghost use Rattle.block_count.specs.Course.{beginning, turns_of};
 ghost use Rattle.block_count.specs.Readings.{counts_read, stops_seen, ticks_seen};
 
+use crate::counted_block::{CountedBlock, counted_blocks, counters};
 use crate::counter::Counter;
 use crate::counts::{CountFault, Counts};
 use crate::placing::{arm_all, place_all};
 use crate::reading::{counts, stops, ticks};
-use crate::spot::{Spot, counters, spots};
 use crate::turns::take_turns;
 use machine::Machine;
 use pn_types::{Image, MAX_BUDGET, MAX_HARTS, NoMemory, Proc, Seq};
@@ -49,7 +49,7 @@ fn begun(
 fn read(
     alloc: Global,
     machine: &Machine,
-    spots: &[Spot],
+    blocks: &[CountedBlock],
     harts: u32,
     budget: u64,
 ) -> Result<Counts, NoMemory>
@@ -58,12 +58,12 @@ fn read(
     requires few { harts ≤ MAX_HARTS }
     ensures ticks { IfOk result (λ r. r.ticks ≡ ticks_seen machine.now.core) }
     ensures stops { IfOk result (λ r. r.stops ≡ stops_seen budget machine.now.core) }
-    ensures counts { IfOk result (λ r. r.counts ≡ counts_read machine.now.core spots.now) }
+    ensures counts { IfOk result (λ r. r.counts ≡ counts_read machine.now.core blocks.now) }
 {
     Ok(Counts {
         ticks: Seq::from_vec(ticks(alloc, machine, harts)?),
         stops: Seq::from_vec(stops(alloc, machine, harts, budget)?),
-        counts: Seq::from_vec(counts(alloc, machine, harts, spots)?),
+        counts: Seq::from_vec(counts(alloc, machine, harts, blocks)?),
     })
 }
 
@@ -92,12 +92,12 @@ pub fn count(
     ensures counted { IfOk result (IsCounted image.now procs.now budget (record { harts = harts; turns = quantum; seed = seed })) }
     ensures refused { IfErr result (IsFault image.now procs.now) }
 {
-    let spots = spots(alloc, image, procs)?;
-    let counters = counters(alloc, &spots)?;
+    let blocks = counted_blocks(alloc, image, procs)?;
+    let counters = counters(alloc, &blocks)?;
     if counters.len() > MAX_COUNTERS {
         return Err(CountFault::TooManyBlocks(counters.len() as u32));
     }
     let mut machine = begun(alloc, image, &counters, harts, budget)?;
     take_turns(alloc, &mut machine, harts, seed, quantum)?;
-    Ok(read(alloc, &machine, &spots, harts, budget)?)
+    Ok(read(alloc, &machine, &blocks, harts, budget)?)
 }

@@ -2,6 +2,7 @@
 #![tactic(auto)]
 
 mod block_head;
+mod counted_block;
 mod counter;
 mod counting;
 mod counts;
@@ -9,7 +10,6 @@ mod finding;
 mod marking;
 mod placing;
 mod reading;
-mod spot;
 mod text;
 mod turns;
 

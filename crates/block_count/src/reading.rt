@@ -5,9 +5,9 @@ ghost use Rattle.machine.specs.Events.{IsQuiet};
 ghost use Rattle.block_count.specs.Counted.{ended_by};
 ghost use Rattle.block_count.specs.Readings.{counter_read, counts_read, stop_seen, stops_seen, ticks_seen};
 
+use crate::counted_block::CountedBlock;
 use crate::counter::Counter;
 use crate::counts::HartStop;
-use crate::spot::Spot;
 use machine::{Machine, Sample};
 use pn_types::{HartNo, MAX_HARTS, NoMemory, Seq, StopText};
 use rv_word::Cause;
@@ -106,18 +106,18 @@ pub fn counts(
     alloc: Global,
     machine: &Machine,
     harts: u32,
-    spots: &[Spot],
+    blocks: &[CountedBlock],
 ) -> Result<Vec<Option<u64>>, NoMemory>
     requires quiet { IsQuiet machine.now.core }
     requires harts { harts ≡ length machine.now.core.harts }
-    ensures { IfOk result (λ counts. counts.items ≡ counts_read machine.now.core spots.now) }
+    ensures { IfOk result (λ counts. counts.items ≡ counts_read machine.now.core blocks.now) }
 {
     let mut sample = Sample {
         readings: Seq::from_vec(vec![in alloc; 0; harts as usize]?),
     };
     let mut counts = Vec::new(alloc);
-    for spot in spots {
-        let count = match &spot.counter {
+    for block in blocks {
+        let count = match &block.counter {
             Some(counter) => Some(read(alloc, machine, counter, &mut sample)?),
             None => None,
         };

@@ -11,7 +11,7 @@ use Rattle.pn_types.specs.declared.plan.Var.{Var}
 use Rattle.prim_code.specs.Counts.{word_count, site_words, predicted}
 use Rattle.tool_space.specs.Rooms.{Rooms, is_within, IsRoom, IsLowestRoom, IsTaken, after_take, after_give}
 use Rattle.tramp_spec.specs.Banks.{bank_len, first_slot}
-use Rattle.tramp_spec.specs.Slots.{Place, places_of}
+use Rattle.tramp_spec.specs.Slots.{VariableSlot, places_of}
 use Rattle.machine.specs.Cores.{In}
 use Rattle.instrument.specs.Admission.{slots_of_var, slot_count, slots_from}
 use Rattle.instrument.specs.Fits.{slots_for}
@@ -127,7 +127,7 @@ pub row_from : (first : ℕ) (vars : List Var) → slots_from first vars ≡ slo
 row_from first [] = refl
 row_from first (v ∷ vars) = refl
 
-pub first_from : (held : List Place) (first : ℕ) (vars : List Var) → slots_for held (slot_count vars) ≡ Some first → slots_for held (slot_count vars) ≡ Some (first_or first_slot (slots_from first vars))
+pub first_from : (held : List VariableSlot) (first : ℕ) (vars : List Var) → slots_for held (slot_count vars) ≡ Some first → slots_for held (slot_count vars) ≡ Some (first_or first_slot (slots_from first vars))
 first_from held first [] e = slots_for_none held
 first_from held first (v ∷ vars) e = e
 

@@ -14,7 +14,7 @@ use Rattle.rv_word.specs.Plain.{Words}
 use Rattle.tool_space.specs.Rooms.{Rooms, is_within, IsRoom, IsLowestRoom}
 use Rattle.tramp_spec.specs.Banks.{bank_len, first_slot}
 use Rattle.tramp_spec.specs.Codes.{tool_at}
-use Rattle.tramp_spec.specs.Slots.{Place, places, places_of}
+use Rattle.tramp_spec.specs.Slots.{VariableSlot, places, places_of}
 use Rattle.machine.specs.Cores.{In}
 use Rattle.instrument.specs.Admission.{slots_of_var, slot_count, slots_from}
 use Rattle.instrument.specs.Fits.{are_free, lowest, is_word_free, room_for, is_slot_of, is_slot_free, slots_for}
@@ -146,6 +146,6 @@ pub no_slots : (space : Rooms) (instruments : List Instrument) → AreSlotsOf sp
 no_slots space instruments k len r = lowest_same _ _ first_slot (slots_free space instruments k) bank_len len ∙ no_lowest space (is_left slots_of first_slot (bank_len - first_slot) instruments) k.taken.tied first_slot bank_len len r
 
 -- no slots are asked for
-pub slots_for_none : (taken : List Place) → slots_for taken 0 ≡ Some first_slot
+pub slots_for_none : (taken : List VariableSlot) → slots_for taken 0 ≡ Some first_slot
 unfolding bank_len lowest
 slots_for_none taken = refl

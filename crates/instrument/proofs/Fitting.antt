@@ -9,7 +9,7 @@ use Rattle.rv_word.specs.Memory.{in_range}
 use Rattle.rv_word.specs.Plain.{Words}
 use Rattle.tramp_spec.specs.Banks.{bank_len, first_slot}
 use Rattle.tramp_spec.specs.Codes.{tool_at}
-use Rattle.tramp_spec.specs.Slots.{Place, width}
+use Rattle.tramp_spec.specs.Slots.{VariableSlot, width}
 use Rattle.machine.specs.Cores.{In}
 use Rattle.machine.specs.Events.{Apart}
 use Rattle.machine.proofs.Lists.{find_gives}
@@ -97,12 +97,12 @@ free_room t rooms len at some neat e = by (lowest (is_word_free t rooms) (tool_a
 
 -- ---- slots
 
-pub record FreeSlots (taken : List Place) (slot len : ℕ) : Type 0 where
+pub record FreeSlots (taken : List VariableSlot) (slot len : ℕ) : Type 0 where
   pub low : first_slot ≤ slot
   pub high : (n : ℕ) → slot ≤ n → n < slot + len → n < bank_len
-  pub free : (n : ℕ) → slot ≤ n → n < slot + len → (p : Place) → In p taken → p.slot ≤ n → n < p.slot + width p → ⊥
+  pub free : (n : ℕ) → slot ≤ n → n < slot + len → (p : VariableSlot) → In p taken → p.slot ≤ n → n < p.slot + width p → ⊥
 
-pub free_slots : (taken : List Place) (len slot : ℕ) → slots_for taken len ≡ Some slot → FreeSlots taken slot len
+pub free_slots : (taken : List VariableSlot) (len slot : ℕ) → slots_for taken len ≡ Some slot → FreeSlots taken slot len
 free_slots taken len slot e =
     let g = lowest_gives (is_slot_free taken) first_slot bank_len len slot e in
     let at : (n : ℕ) → slot ≤ n → n < slot + len → (nat_lt n bank_len ≡ true) × (not (list_any (λ p. is_slot_of p n) taken) ≡ true) =
@@ -110,5 +110,5 @@ free_slots taken len slot e =
     record {
       low = g.0;
       high = λ n lo hi. ltb-true n bank_len (at n lo hi).0;
-      free = λ n lo hi p h a b. none_in (λ (q : Place). is_slot_of q n) taken p (at n lo hi).1 h (and_from _ _ (le-leb _ _ a) (lt-ltb _ _ b));
+      free = λ n lo hi p h a b. none_in (λ (q : VariableSlot). is_slot_of q n) taken p (at n lo hi).1 h (and_from _ _ (le-leb _ _ a) (lt-ltb _ _ b));
     }

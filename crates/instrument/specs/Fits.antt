@@ -7,7 +7,7 @@ use Rattle.rv_word.specs.Memory.{in_range}
 use Rattle.rv_word.specs.Plain.{Words}
 use Rattle.tramp_spec.specs.Banks.{bank_len, first_slot}
 use Rattle.tramp_spec.specs.Codes.{tool_at}
-use Rattle.tramp_spec.specs.Slots.{Place, width}
+use Rattle.tramp_spec.specs.Slots.{VariableSlot, width}
 use Rattle.instrument.specs.declared.room.Room.{Room}
 
 -- ---- units
@@ -32,12 +32,12 @@ room_for program rooms len = option_map (λ unit. 4 * unit) (lowest (is_word_fre
 
 -- ---- slots: a slot is the unit of its number
 
-abbrev pub is_slot_of : Place → ℕ → Bool
+abbrev pub is_slot_of : VariableSlot → ℕ → Bool
 is_slot_of p slot = nat_le p.slot slot && nat_lt slot (p.slot + width p)
 
-abbrev pub is_slot_free : List Place → ℕ → Bool
+abbrev pub is_slot_free : List VariableSlot → ℕ → Bool
 is_slot_free taken slot = nat_lt slot bank_len && not (list_any (λ p. is_slot_of p slot) taken)
 
 -- the first of the lowest so many consecutive slots
-abbrev pub slots_for : List Place → ℕ → Option ℕ
+abbrev pub slots_for : List VariableSlot → ℕ → Option ℕ
 slots_for taken len = lowest (is_slot_free taken) first_slot bank_len len

@@ -6,7 +6,7 @@ use Rattle.pn_types.specs.declared.placed.PlacedSite.{PlacedSite}
 use Rattle.pn_types.specs.declared.plan.Plan.{Plan}
 use Rattle.rv_mem.specs.Start.{program_of}
 use Rattle.rv_word.specs.Plain.{Words}
-use Rattle.tramp_spec.specs.Slots.{Place, places_of}
+use Rattle.tramp_spec.specs.Slots.{VariableSlot, places_of}
 use Rattle.instrument.specs.Admission.{slot_count, slots_from, with_sites}
 use Rattle.prim_code.specs.Counts.{predicted}
 use Rattle.instrument.specs.Books.{Book, is_held, without_site, rooms_behind, stays, FoundFree, first_free}
@@ -74,7 +74,7 @@ is_here rooms i = not (is_leaving i.state) || list_any (is_mini_room_of i.no) ro
 
 -- ---- admission
 
-abbrev pub slots_taken : Placements → List Place
+abbrev pub slots_taken : Placements → List VariableSlot
 slots_taken p = flat_map (λ i. places_of i.placed) p.instruments
 
 abbrev pub is_over : Option ℕ → ℕ → Bool

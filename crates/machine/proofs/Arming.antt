@@ -7,7 +7,7 @@ use Rattle.pn_types.specs.declared.placed.Placed.{Placed}
 use Rattle.rv_word.specs.Plain.{Words, PlainHart, Plain}
 use Rattle.tramp_spec.specs.Banks.{bank_len}
 use Rattle.tramp_spec.specs.Harts.{Hart}
-use Rattle.tramp_spec.specs.Slots.{Place, set_place, set_places, places_of}
+use Rattle.tramp_spec.specs.Slots.{VariableSlot, set_place, set_places, places_of}
 use Rattle.frame_walk.specs.Openings.{opening}
 use Rattle.frame_walk.specs.Walks.{walk_now}
 use Rattle.machine.specs.Cores.{Core}
@@ -20,7 +20,7 @@ pub length_place : (timer : Bool) (s v ticks : ℕ) (bank : List ℕ) → length
 length_place false s v ticks bank = length_slice_set bank s v
 length_place true s v ticks bank = length_slice_set (slice_set bank (s + 1) v) s (if v == 0 then 0 else (2 ^ 64 - ticks) % 2 ^ 64) ∙ length_slice_set bank (s + 1) v
 
-pub length_places : (ps : List Place) (values : List ℕ) (ticks : ℕ) (bank : List ℕ) → length (set_places ps values ticks bank) ≡ length bank
+pub length_places : (ps : List VariableSlot) (values : List ℕ) (ticks : ℕ) (bank : List ℕ) → length (set_places ps values ticks bank) ≡ length bank
 length_places [] values ticks bank = refl
 length_places (p ∷ ps) [] ticks bank = refl
 length_places (p ∷ ps) (v ∷ values) ticks bank = length_places ps values ticks (set_place p.timer p.slot v ticks bank) ∙ length_place p.timer p.slot v ticks bank

@@ -12,7 +12,7 @@ use Rattle.rv_exec.specs.Run.{run_from}
 use Rattle.rv_exec.proofs.Runs.{run_from-append}
 use Rattle.tramp_spec.specs.Harts.{Hart, Solo, is_tick}
 use Rattle.tramp_spec.specs.Marks.{tool}
-use Rattle.tramp_spec.specs.Slots.{Place, places_of, IsSlotOf, set_place, set_places}
+use Rattle.tramp_spec.specs.Slots.{VariableSlot, places_of, IsSlotOf, set_place, set_places}
 use Rattle.tramp_spec.specs.declared.block.Block.{Block}
 use Rattle.tramp_spec.specs.declared.mark.MarkedWord.{MarkedWord}
 use Rattle.frame_walk.specs.Openings.{opening}
@@ -59,7 +59,7 @@ set_other true s v ticks q bank n =
     get_or-set_other (slice_set bank (s + 1) v) s q (if v == 0 then 0 else (2 ^ 64 - ticks) % 2 ^ 64) 0 (λ e. n (omega arith) (omega arith))
     ∙ get_or-set_other bank (s + 1) q v 0 (λ e. n (omega arith) (omega arith))
 
-pub set_leaves : (ps : List Place) (values : List ℕ) (ticks q : ℕ) (bank : List ℕ) → (IsSlotOf ps q → ⊥) → slice_index (set_places ps values ticks bank) q ≡ slice_index bank q
+pub set_leaves : (ps : List VariableSlot) (values : List ℕ) (ticks q : ℕ) (bank : List ℕ) → (IsSlotOf ps q → ⊥) → slice_index (set_places ps values ticks bank) q ≡ slice_index bank q
 set_leaves [] values ticks q bank n = refl
 set_leaves (p ∷ ps) [] ticks q bank n = refl
 set_leaves (p ∷ ps) (v ∷ values) ticks q bank n =

@@ -8,7 +8,7 @@ use Rattle.tramp_spec.specs.Banks.{bank_len, first_slot}
 use Rattle.tramp_spec.specs.Codes.{Code}
 use Rattle.tramp_spec.specs.Marks.{own, enter, tool}
 use Rattle.tramp_spec.specs.MovedWords.{moved_of}
-use Rattle.tramp_spec.specs.Slots.{Place, width, ArePlaces, places_of}
+use Rattle.tramp_spec.specs.Slots.{VariableSlot, width, ArePlaces, places_of}
 use Rattle.tramp_spec.specs.Statements.{body_of}
 use Rattle.prim_code.proofs.Whole.{statements_work}
 use Rattle.machine.specs.Cores.{Core, Row, Written, Live}
@@ -58,14 +58,14 @@ bank_is = (4092, refl)
 pub places : ArePlaces (places_of counter)
 places = record { within = within; apart = apart }
   where
-    within : (n : ℕ) (p : Place) → slice_get (places_of counter) n ≡ Some p → (first_slot ≤ p.slot) × (p.slot + width p ≤ bank_len)
+    within : (n : ℕ) (p : VariableSlot) → slice_get (places_of counter) n ≡ Some p → (first_slot ≤ p.slot) × (p.slot + width p ≤ bank_len)
     within zero p e =
         let s : record { slot = 2; timer = false } ≡ p = cc in
         let room = bank_is.1 in
-        subst (λ (q : Place). (first_slot ≤ q.slot) × (q.slot + width q ≤ bank_len)) s (omega arith, omega arith)
+        subst (λ (q : VariableSlot). (first_slot ≤ q.slot) × (q.slot + width q ≤ bank_len)) s (omega arith, omega arith)
     within (suc n) p e = absurd cc
 
-    apart : (n m : ℕ) (p q : Place) → slice_get (places_of counter) n ≡ Some p → slice_get (places_of counter) m ≡ Some q → (n ≡ m → ⊥) → (p.slot + width p ≤ q.slot) ⊎ (q.slot + width q ≤ p.slot)
+    apart : (n m : ℕ) (p q : VariableSlot) → slice_get (places_of counter) n ≡ Some p → slice_get (places_of counter) m ≡ Some q → (n ≡ m → ⊥) → (p.slot + width p ≤ q.slot) ⊎ (q.slot + width q ≤ p.slot)
     apart zero zero p q en em ne = absurd (ne refl)
     apart zero (suc m) p q en em ne = absurd cc
     apart (suc n) m p q en em ne = absurd cc

@@ -9,7 +9,7 @@ use Rattle.rv_word.specs.declared.outcome.Next.{Next}
 use Rattle.rv_word.specs.declared.outcome.Next.TheVariants.{Go, Stop}
 use Rattle.rv_exec.specs.Run.{run_from, LegalFrom}
 use Rattle.tramp_spec.specs.Banks.{bank_len}
-use Rattle.tramp_spec.specs.Slots.{Place, width, IsSlotOf, ArePlaces, set_place, set_places, running, read_place}
+use Rattle.tramp_spec.specs.Slots.{VariableSlot, width, IsSlotOf, ArePlaces, set_place, set_places, running, read_place}
 use Rattle.prim_code.specs.Standing.{HasValue, StandFor}
 use Rattle.prim_code.proofs.Keeping.{stays, reads}
 use Rattle.machine.specs.Arming.{ArmingSets}
@@ -45,14 +45,14 @@ read_set : (timer : Bool) (s v ticks : ℕ) (bank : List ℕ) → timer ≡ true
 read_set false s v ticks bank e l t = absurd cc
 read_set true s v ticks bank e l t = set_reads s v ticks bank l t
 
-rest_places : (p : Place) (ps : List Place) → ArePlaces (p ∷ ps) → ArePlaces ps
+rest_places : (p : VariableSlot) (ps : List VariableSlot) → ArePlaces (p ∷ ps) → ArePlaces ps
 rest_places p ps a = record {
   within = λ n q e. a.within (suc n) q e;
   apart = λ n m q r en em ne. a.apart (suc n) (suc m) q r en em (λ e. ne (omega arith));
 }
 
 -- the slots of the first place are none of the others'
-apart_first : (p : Place) (ps : List Place) → ArePlaces (p ∷ ps) → (q : ℕ) → p.slot ≤ q → q < p.slot + width p → IsSlotOf ps q → ⊥
+apart_first : (p : VariableSlot) (ps : List VariableSlot) → ArePlaces (p ∷ ps) → (q : ℕ) → p.slot ≤ q → q < p.slot + width p → IsSlotOf ps q → ⊥
 apart_first p ps a q lo up s =
     let l = s.3 in
     let u = s.4 in
@@ -76,13 +76,13 @@ arming_sets (p ∷ ps) (v ∷ values) bank spare ticks a same size l low =
       size = length_places (p ∷ ps) (v ∷ values) ticks bank;
     }
   where
-    first_or : (p : Place) (ps : List Place) (v : ℕ) (values : List ℕ) (spare : ℕ) (next : List ℕ) → HasValue p.timer p.slot spare v next → StandFor ps spare values next → StandFor (p ∷ ps) spare (v ∷ values) next
-    first_or p ps v values spare next h t zero q e = let s : p ≡ q = cc in subst (λ (z : Place). HasValue z.timer z.slot spare v next) s h
+    first_or : (p : VariableSlot) (ps : List VariableSlot) (v : ℕ) (values : List ℕ) (spare : ℕ) (next : List ℕ) → HasValue p.timer p.slot spare v next → StandFor ps spare values next → StandFor (p ∷ ps) spare (v ∷ values) next
+    first_or p ps v values spare next h t zero q e = let s : p ≡ q = cc in subst (λ (z : VariableSlot). HasValue z.timer z.slot spare v next) s h
     first_or p ps v values spare next h t (suc n) q e = t n q e
 
-    timer_or : (p : Place) (ps : List Place) (ticks : ℕ) (next : List ℕ) → (p.timer ≡ true → read_place true p.slot ticks next ≡ 0) → ((n : ℕ) (q : Place) → slice_get ps n ≡ Some q → q.timer ≡ true → read_place true q.slot ticks next ≡ 0)
-        → (n : ℕ) (q : Place) → slice_get (p ∷ ps) n ≡ Some q → q.timer ≡ true → read_place true q.slot ticks next ≡ 0
-    timer_or p ps ticks next h t zero q e z = let s : p ≡ q = cc in ap (λ (u : Place). read_place true u.slot ticks next) (sym s) ∙ h (ap (λ (u : Place). u.timer) s ∙ z)
+    timer_or : (p : VariableSlot) (ps : List VariableSlot) (ticks : ℕ) (next : List ℕ) → (p.timer ≡ true → read_place true p.slot ticks next ≡ 0) → ((n : ℕ) (q : VariableSlot) → slice_get ps n ≡ Some q → q.timer ≡ true → read_place true q.slot ticks next ≡ 0)
+        → (n : ℕ) (q : VariableSlot) → slice_get (p ∷ ps) n ≡ Some q → q.timer ≡ true → read_place true q.slot ticks next ≡ 0
+    timer_or p ps ticks next h t zero q e z = let s : p ≡ q = cc in ap (λ (u : VariableSlot). read_place true u.slot ticks next) (sym s) ∙ h (ap (λ (u : VariableSlot). u.timer) s ∙ z)
     timer_or p ps ticks next h t (suc n) q e z = t n q e z
 
 -- ---- ticks

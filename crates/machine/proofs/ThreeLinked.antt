@@ -10,7 +10,7 @@ use Rattle.tramp_spec.specs.Banks.{bank_len, first_slot}
 use Rattle.tramp_spec.specs.Bodies.{Harmless}
 use Rattle.tramp_spec.specs.Codes.{Code, put_words}
 use Rattle.tramp_spec.specs.Harts.{Hart}
-use Rattle.tramp_spec.specs.Slots.{Place, width, ArePlaces, places_of}
+use Rattle.tramp_spec.specs.Slots.{VariableSlot, width, ArePlaces, places_of}
 use Rattle.tramp_spec.specs.Jumps.{reaches}
 use Rattle.tramp_spec.specs.Marks.{own, enter, tool}
 use Rattle.tramp_spec.specs.Statements.{body_of}
@@ -130,14 +130,14 @@ bank_five = (4091, refl)
 places : (slot mini : ℕ) → 2 ≤ slot → slot < 5 → ArePlaces (places_of (counter_on slot mini))
 places slot mini low high = record { within = within; apart = apart }
   where
-    within : (n : ℕ) (p : Place) → slice_get (places_of (counter_on slot mini)) n ≡ Some p → (first_slot ≤ p.slot) × (p.slot + width p ≤ bank_len)
+    within : (n : ℕ) (p : VariableSlot) → slice_get (places_of (counter_on slot mini)) n ≡ Some p → (first_slot ≤ p.slot) × (p.slot + width p ≤ bank_len)
     within zero p e =
         let s : record { slot = slot; timer = false } ≡ p = cc in
         let room = bank_five.1 in
-        subst (λ (q : Place). (first_slot ≤ q.slot) × (q.slot + width q ≤ bank_len)) s (low, omega arith)
+        subst (λ (q : VariableSlot). (first_slot ≤ q.slot) × (q.slot + width q ≤ bank_len)) s (low, omega arith)
     within (suc n) p e = absurd cc
 
-    apart : (n m : ℕ) (p q : Place) → slice_get (places_of (counter_on slot mini)) n ≡ Some p → slice_get (places_of (counter_on slot mini)) m ≡ Some q → (n ≡ m → ⊥) → (p.slot + width p ≤ q.slot) ⊎ (q.slot + width q ≤ p.slot)
+    apart : (n m : ℕ) (p q : VariableSlot) → slice_get (places_of (counter_on slot mini)) n ≡ Some p → slice_get (places_of (counter_on slot mini)) m ≡ Some q → (n ≡ m → ⊥) → (p.slot + width p ≤ q.slot) ⊎ (q.slot + width q ≤ p.slot)
     apart zero zero p q en em ne = absurd (ne refl)
     apart zero (suc m) p q en em ne = absurd cc
     apart (suc n) m p q en em ne = absurd cc

@@ -8,7 +8,7 @@ use Rattle.pn_types.specs.declared.plan.Act.TheVariants.{Up, Down, Put, Start, S
 use Rattle.pn_types.specs.declared.plan.Stmt.{Stmt}
 use Rattle.rv_word.specs.Registers.{arguments_of}
 use Rattle.tramp_spec.specs.Bodies.{Stands, finished}
-use Rattle.tramp_spec.specs.Slots.{Place, places_of, ArePlaces, read_place}
+use Rattle.tramp_spec.specs.Slots.{VariableSlot, places_of, ArePlaces, read_place}
 use Rattle.tramp_spec.specs.Statements.{body_of}
 use Rattle.tramp_spec.specs.Steps.{Bench}
 use Rattle.tramp_spec.specs.Values.{acted, values_behind, values_after, all_hold}
@@ -19,10 +19,10 @@ use Rattle.prim_code.proofs.Whole.{statements_work}
 use Rattle.machine.specs.Measures.{Level, counted}
 
 -- the slots stand for the values, with so many starts to spare, and where the first variable is a timer it reads its runs
-pub record Tells (ps : List Place) (many spare : ℕ) (v : Level) (bank : List ℕ) (ticks : ℕ) : Type 0 where
+pub record Tells (ps : List VariableSlot) (many spare : ℕ) (v : Level) (bank : List ℕ) (ticks : ℕ) : Type 0 where
   pub size : length v.values ≡ many
   pub slots : StandFor ps spare v.values bank
-  pub runs : (p : Place) → slice_get ps 0 ≡ Some p → p.timer ≡ true → read_place true p.slot ticks bank ≡ v.runs % 2 ^ 64
+  pub runs : (p : VariableSlot) → slice_get ps 0 ≡ Some p → p.timer ≡ true → read_place true p.slot ticks bank ≡ v.runs % 2 ^ 64
 
 -- the starts that the statements of so many ticks can make
 abbrev pub starts : ℕ → ℕ
@@ -58,11 +58,11 @@ length_after (s ∷ ss) arguments values =
 
 -- ---- what keeps it
 
-pub fewer : (ps : List Place) (many spare less : ℕ) (v : Level) (bank : List ℕ) (ticks : ℕ) → less ≤ spare → Tells ps many spare v bank ticks → Tells ps many less v bank ticks
+pub fewer : (ps : List VariableSlot) (many spare less : ℕ) (v : Level) (bank : List ℕ) (ticks : ℕ) → less ≤ spare → Tells ps many spare v bank ticks → Tells ps many less v bank ticks
 fewer ps many spare less v bank ticks l k = record { size = k.size; slots = standing_kept.fewer ps spare less v.values bank l k.slots; runs = k.runs }
 
 -- another bank with these slots tells the same
-pub same_told : (ps : List Place) (many spare : ℕ) (v : Level) (bank next : List ℕ) (ticks : ℕ) → SameSlots ps bank next → Tells ps many spare v bank ticks → Tells ps many spare v next ticks
+pub same_told : (ps : List VariableSlot) (many spare : ℕ) (v : Level) (bank next : List ℕ) (ticks : ℕ) → SameSlots ps bank next → Tells ps many spare v bank ticks → Tells ps many spare v next ticks
 same_told ps many spare v bank next ticks s k = record {
   size = k.size;
   slots = standing_kept.values ps spare v.values bank next s k.slots;

@@ -4,7 +4,7 @@ use Rattle.std.proofs.lemmas.List.{length-map}
 use Rattle.block_count.specs.Counted.{IsCounted, stop_of, passes_of}
 use Rattle.block_count.specs.Course.{Pace}
 use Rattle.block_count.specs.Heads.{heads_of}
-use Rattle.block_count.specs.Spots.{spots_of}
+use Rattle.block_count.specs.CountedBlocks.{counted_blocks_of}
 use Rattle.block_count.specs.declared.counts.Counts.{Counts}
 use Rattle.block_count.specs.declared.counts.HartStop.{HartStop}
 use Rattle.block_report.specs.Texts.{blocks_text}
@@ -45,12 +45,12 @@ module _ (image : Image) (procs : List Proc) (budget : ℕ) (p : Pace) where
 
   abbrev counts_along : List ℕ → Counts
   counts_along turns =
-      made (map (λ x. x.ticks) (run image p.harts turns).harts) (map (stop_of budget) (run image p.harts turns).harts) (map (passes_of (trace image p.harts turns)) (spots_of image procs))
+      made (map (λ x. x.ticks) (run image p.harts turns).harts) (map (stop_of budget) (run image p.harts turns).harts) (map (passes_of (trace image p.harts turns)) (counted_blocks_of image procs))
 
   along : (r : Counts) (is : IsCounted image procs budget p r) → r ≡ counts_along is.turns
   along r is =
       let s = run image p.harts is.turns in
-      of_parts (map (λ x. x.ticks) s.harts) (map (stop_of budget) s.harts) (map (passes_of (trace image p.harts is.turns)) (spots_of image procs)) r is.ticks is.stops is.counts
+      of_parts (map (λ x. x.ticks) s.harts) (map (stop_of budget) s.harts) (map (passes_of (trace image p.harts is.turns)) (counted_blocks_of image procs)) r is.ticks is.stops is.counts
 
   counts_once : (r s : Counts) → IsCounted image procs budget p r → IsCounted image procs budget p s → r ≡ s
   counts_once r s is it = along r is ∙ ap counts_along (is.owned ∙ sym it.owned) ∙ sym (along s it)

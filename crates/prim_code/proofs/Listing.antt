@@ -15,7 +15,7 @@ use Rattle.pn_types.specs.declared.plan.Var.{Var}
 use Rattle.rv_word.specs.Values.{wrap}
 use Rattle.tramp_spec.specs.Banks.{bank_len}
 use Rattle.tramp_spec.specs.Routes.{Effect}
-use Rattle.tramp_spec.specs.Slots.{Place, width, places, ArePlaces, running}
+use Rattle.tramp_spec.specs.Slots.{VariableSlot, width, places, ArePlaces, running}
 use Rattle.tramp_spec.specs.Statements.{slot_of}
 use Rattle.tramp_spec.specs.Values.{meets, left_value, all_hold, acted, values_behind, values_after}
 use Rattle.prim_code.specs.Fitting.{Names, IsLeftOf, IsActOf, IsCondOf, IsStmtOf, AreStmtsOf}
@@ -24,11 +24,11 @@ use Rattle.prim_code.proofs.Effects.{bank_on, act_bank, left_in, met, under_bank
 use Rattle.prim_code.proofs.Fits.{FitsPlace, Suits, value_on, if_both, act_leaves, act_length, own}
 
 -- all places stand for their values, and the timers read so much, by their numbers
-abbrev pub Fits : List Place → ℕ → List ℕ → (ℕ → ℕ) → ℕ → List ℕ → Type 0
-Fits ps n values readings ticks k = (i : ℕ) (p : Place) → slice_get ps i ≡ Some p → FitsPlace p.timer p.slot n (slice_index values i) (readings i) ticks k
+abbrev pub Fits : List VariableSlot → ℕ → List ℕ → (ℕ → ℕ) → ℕ → List ℕ → Type 0
+Fits ps n values readings ticks k = (i : ℕ) (p : VariableSlot) → slice_get ps i ≡ Some p → FitsPlace p.timer p.slot n (slice_index values i) (readings i) ticks k
 
 -- the place of a variable
-abbrev pub place : ℕ → Bool → Place
+abbrev pub place : ℕ → Bool → VariableSlot
 place s timer = record { slot = s; timer = timer }
 
 pub place_is : (slots : List ℕ) (vars : List Var) (v : ℕ) (timer : Bool) → length slots ≡ length vars → Names vars timer v → slice_get (places slots vars) v ≡ Some (place (slot_of slots v) timer)
@@ -108,7 +108,7 @@ module _ (slots : List ℕ) (vars : List Var) (same : length slots ≡ length va
       let eq : Some q ≡ Some p = sym g ∙ (ap (slice_get (places slots vars)) z ∙ e) in
       let there : p ≡ q = cc in
       let value : slice_index (slice_set values v new) i ≡ new = ap (slice_index (slice_set values v new)) z ∙ get_or-set_same values v new 0 (omega arith) in
-      subst (λ (o : Place). FitsPlace o.timer o.slot n (slice_index (slice_set values v new) i) (readings i) ticks m) there
+      subst (λ (o : VariableSlot). FitsPlace o.timer o.slot n (slice_index (slice_set values v new) i) (readings i) ticks m) there
       (subst (λ b. FitsPlace timer s n b (readings i) ticks m) (sym value)
       (subst (λ b. FitsPlace timer s n new (readings b) ticks m) (sym z) (own a timer s n (slice_index values v) (readings v) ticks arguments k u lk (pl.within v p e).1 lt (h v p e)))))
       (λ (z : i ≡ v → ⊥).
@@ -155,8 +155,8 @@ fits slots vars (s ∷ ss) values readings n ticks arguments k same pl u lv lk l
     (stmt_fits slots vars same readings ticks arguments s (length ss + n) values k pl u.0 lv lk lt (subst (λ m. Fits (places slots vars) m values readings ticks k) e h))
 
 -- doublewords beside all places
-abbrev pub IsBeside : List Place → ℕ → Type 0
-IsBeside ps q = (i : ℕ) (p : Place) → slice_get ps i ≡ Some p → (q < p.slot) ⊎ (p.slot + width p ≤ q)
+abbrev pub IsBeside : List VariableSlot → ℕ → Type 0
+IsBeside ps q = (i : ℕ) (p : VariableSlot) → slice_get ps i ≡ Some p → (q < p.slot) ⊎ (p.slot + width p ≤ q)
 
 pub leaves_others : (slots : List ℕ) (vars : List Var) (stmts : List Stmt) (ticks q : ℕ) (arguments k : List ℕ)
     → length slots ≡ length vars → AreStmtsOf vars stmts → IsBeside (places slots vars) q → slice_index (stmts_bank slots stmts ticks arguments k) q ≡ slice_index k q

@@ -15,7 +15,7 @@ use Rattle.rv_word.specs.Values.{wrap}
 use Rattle.tramp_spec.specs.Banks.{bank_len}
 use Rattle.tramp_spec.specs.Bodies.{Stands, finished}
 use Rattle.tramp_spec.specs.Routes.{Does}
-use Rattle.tramp_spec.specs.Slots.{Place, width, places, ArePlaces, IsSlotOf, running, read_place}
+use Rattle.tramp_spec.specs.Slots.{VariableSlot, width, places, ArePlaces, IsSlotOf, running, read_place}
 use Rattle.tramp_spec.specs.Statements.{body_of, slot_of}
 use Rattle.tramp_spec.specs.Values.{values_after}
 use Rattle.tramp_spec.proofs.Routes.{keeps, finish_of, harmless, leaves}
@@ -66,11 +66,11 @@ unfolding body_of
 body_does slots stmts h = code_does slots stmts h
 
 -- what a timer's place reads
-reads_at : Option Place → ℕ → List ℕ → ℕ
+reads_at : Option VariableSlot → ℕ → List ℕ → ℕ
 reads_at None ticks bank = 0
 reads_at (Some p) ticks bank = read_place true p.slot ticks bank
 
-reads_some : (o : Option Place) (p : Place) (ticks : ℕ) (bank : List ℕ) → o ≡ Some p → reads_at o ticks bank ≡ read_place true p.slot ticks bank
+reads_some : (o : Option VariableSlot) (p : VariableSlot) (ticks : ℕ) (bank : List ℕ) → o ≡ Some p → reads_at o ticks bank ≡ read_place true p.slot ticks bank
 unfolding reads_at
 reads_some o p ticks bank e = ap (λ q. reads_at q ticks bank) e
 
@@ -101,7 +101,7 @@ stand_on slots vars stmts same pl u ticks spare arguments values bank lk lt lv h
       λ i p e t. same_reading p.timer p.slot spare (slice_index new i) (readings i) ticks next t (behind i p e) ∙ reads_some (slice_get ps i) p ticks bank e,
     )
 
-beside : (ps : List Place) (q : ℕ) → (IsSlotOf ps q → ⊥) → IsBeside ps q
+beside : (ps : List VariableSlot) (q : ℕ) → (IsSlotOf ps q → ⊥) → IsBeside ps q
 beside ps q n i p e =
     ⊎_elim (λ (l : q < p.slot). inl l)
     (λ (l : p.slot ≤ q). ⊎_elim (λ (m : q < p.slot + width p). absurd (n (i, p, e, l, m))) (λ (m : p.slot + width p ≤ q). inr m) (cases_lt q (p.slot + width p)))

@@ -10,7 +10,7 @@ use Rattle.resource_tree.specs.Foci as foci
 use Rattle.resource_tree.specs.Foci.{IsBelow, code_children, flat_children, harts_of, with_code, with_hart, with_object}
 use Rattle.resource_tree.specs.Resources.{Resources}
 use Rattle.w3_axes.specs.Refining.{axes_named, children, children_of, finer, finer_on, refinements}
-use Rattle.w3_search.specs.History.{In, IsChild, IsHistory, IsRoot, spot_of}
+use Rattle.w3_search.specs.History.{In, IsChild, IsHistory, IsRoot, lineage_of}
 use Rattle.w3_search.specs.Steps.{SearchData}
 use Rattle.w3_search.specs.declared.node.Node.{Node}
 use Rattle.session_spec.proofs.Lists.{all_append, all_map, map_all}
@@ -70,7 +70,7 @@ module _ (v : SearchData) (k : IsHistory v) where
   LowNode n = IsBelow v.rules.tree.harts n.focus.hart
 
   from_origin : (n : ℕ) (node : Node) → ((m : ℕ) (parent : Node) → m < n → slice_get v.nodes m ≡ Some parent → LowNode parent)
-      → IsRoot v.rules (spot_of node) ⊎ IsChild v.rules v.nodes n (spot_of node) → LowNode node
+      → IsRoot v.rules (lineage_of node) ⊎ IsChild v.rules v.nodes n (lineage_of node) → LowNode node
   from_origin n node low (inl root) = subst (Low v.rules.tree) (sym root.2) tt
   from_origin n node low (inr child) =
       let parent = child.parent in

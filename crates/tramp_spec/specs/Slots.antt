@@ -5,33 +5,33 @@ use Rattle.pn_types.specs.declared.placed.Placed.{Placed}
 use Rattle.tramp_spec.specs.Banks.{bank_len, first_slot}
 
 -- where a variable stands
-pub record Place : Type 0 where
+pub record VariableSlot : Type 0 where
   pub slot : ℕ
   pub timer : Bool
 
 -- a counter has one slot; a timer two, its sum and then its number of starts
-abbrev pub width : Place → ℕ
+abbrev pub width : VariableSlot → ℕ
 width p = if p.timer then 2 else 1
 
-abbrev pub places : List ℕ → List Var → List Place
+abbrev pub places : List ℕ → List Var → List VariableSlot
 places [] vars = []
 places (s ∷ slots) [] = []
 places (s ∷ slots) (v ∷ vars) = record { slot = s; timer = v.timer } ∷ places slots vars
 
-abbrev pub places_of : Placed → List Place
+abbrev pub places_of : Placed → List VariableSlot
 places_of i = places i.slots i.vars
 
 -- a slot is one of these places'
-abbrev pub IsSlotOf : List Place → ℕ → Type 0
-IsSlotOf ps q = (n : ℕ) × (p : Place) × (slice_get ps n ≡ Some p) × (p.slot ≤ q) × (q < p.slot + width p)
+abbrev pub IsSlotOf : List VariableSlot → ℕ → Type 0
+IsSlotOf ps q = (n : ℕ) × (p : VariableSlot) × (slice_get ps n ≡ Some p) × (p.slot ≤ q) × (q < p.slot + width p)
 
 -- the places are slots, and no two share one
-pub record ArePlaces (ps : List Place) : Type 0 where
-  pub within : (n : ℕ) (p : Place) → slice_get ps n ≡ Some p → (first_slot ≤ p.slot) × (p.slot + width p ≤ bank_len)
-  pub apart : (n m : ℕ) (p q : Place) → slice_get ps n ≡ Some p → slice_get ps m ≡ Some q → (n ≡ m → ⊥) → (p.slot + width p ≤ q.slot) ⊎ (q.slot + width q ≤ p.slot)
+pub record ArePlaces (ps : List VariableSlot) : Type 0 where
+  pub within : (n : ℕ) (p : VariableSlot) → slice_get ps n ≡ Some p → (first_slot ≤ p.slot) × (p.slot + width p ≤ bank_len)
+  pub apart : (n m : ℕ) (p q : VariableSlot) → slice_get ps n ≡ Some p → slice_get ps m ≡ Some q → (n ≡ m → ⊥) → (p.slot + width p ≤ q.slot) ⊎ (q.slot + width q ≤ p.slot)
 
 -- no slot is of both
-abbrev pub ShareNone : List Place → List Place → Type 0
+abbrev pub ShareNone : List VariableSlot → List VariableSlot → Type 0
 ShareNone ps others = (q : ℕ) → IsSlotOf ps q → IsSlotOf others q → ⊥
 
 -- ---- arming
@@ -41,7 +41,7 @@ abbrev pub set_place : Bool → ℕ → ℕ → ℕ → List ℕ → List ℕ
 set_place false s v ticks bank = slice_set bank s v
 set_place true s v ticks bank = slice_set (slice_set bank (s + 1) v) s (if v == 0 then 0 else (2 ^ 64 - ticks) % 2 ^ 64)
 
-abbrev pub set_places : List Place → List ℕ → ℕ → List ℕ → List ℕ
+abbrev pub set_places : List VariableSlot → List ℕ → ℕ → List ℕ → List ℕ
 set_places [] values ticks bank = bank
 set_places (p ∷ ps) [] ticks bank = bank
 set_places (p ∷ ps) (v ∷ values) ticks bank = set_places ps values ticks (set_place p.timer p.slot v ticks bank)
@@ -59,7 +59,7 @@ abbrev pub read_place : Bool → ℕ → ℕ → List ℕ → ℕ
 read_place false s ticks bank = slice_index bank s
 read_place true s ticks bank = (slice_index bank s + running (slice_index bank (s + 1)) ticks) % 2 ^ 64
 
-abbrev pub read_first : List Place → ℕ → List ℕ → ℕ
+abbrev pub read_first : List VariableSlot → ℕ → List ℕ → ℕ
 read_first [] ticks bank = 0
 read_first (p ∷ ps) ticks bank = read_place p.timer p.slot ticks bank
 

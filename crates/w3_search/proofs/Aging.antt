@@ -7,20 +7,20 @@ use Rattle.w3_axes.specs.Refining.{children, roots}
 use Rattle.w3_search.specs.declared.limits.TheConstants.{MAX_NODES}
 use Rattle.w3_search.specs.declared.node.Node.{Node}
 use Rattle.w3_search.specs.declared.node.NodeState.TheVariants.{Confirmed}
-use Rattle.w3_search.specs.declared.place.Place.{Place}
+use Rattle.w3_search.specs.declared.place.NodePlace.{NodePlace}
 use Rattle.w3_search.specs.Nodes.{is_same_place, place, place_of, stands}
 use Rattle.w3_search.specs.Steps.{Rules, SearchData}
-use Rattle.w3_search.specs.History.{In, Spot, spot_of, IsRoot, IsChild, IsHistory}
+use Rattle.w3_search.specs.History.{In, Lineage, lineage_of, IsRoot, IsChild, IsHistory}
 use Rattle.w3_search.proofs.Pairs.{OneAged, Pairs, pairs_back, pairs_forth, pairs_length}
 
--- the place of a spot
-abbrev pub place_at : Spot → Place
+-- the place of a node of this lineage
+abbrev pub place_at : Lineage → NodePlace
 place_at s = place s.phase s.hypothesis s.focus
 
 -- A history in which the children of some nodes, and some roots of the present phase, are still to be made.
 pub record Going (r : Rules) (present : ℕ) (ns : List Node) (owed left : List ℕ) : Type 0 where
   pub begun : (i : ℕ) (n : Node) → slice_get ns i ≡ Some n → n.phase ≤ present
-  pub origin : (i : ℕ) (n : Node) → slice_get ns i ≡ Some n → IsRoot r (spot_of n) ⊎ IsChild r ns i (spot_of n)
+  pub origin : (i : ℕ) (n : Node) → slice_get ns i ≡ Some n → IsRoot r (lineage_of n) ⊎ IsChild r ns i (lineage_of n)
   pub apart : (i j : ℕ) (m n : Node) → slice_get ns i ≡ Some m → slice_get ns j ≡ Some n → place_of m ≡ place_of n → i ≡ j
   pub roots : length ns < MAX_NODES → (q h : ℕ) → q ≤ present → In h (roots r.hypotheses) → ((q ≡ present) × In h left) ⊎ (stands (place q h foci.root) ns ≡ true)
   pub families : length ns < MAX_NODES → (i : ℕ) (n : Node) → slice_get ns i ≡ Some n → n.state ≡ Confirmed
@@ -46,17 +46,17 @@ going v g = record {
 
 -- ---- nodes in other states
 
-places_same : (C : Node → Type 0) (ns ms : List Node) → Pairs (OneAged C) ns ms → (p : Place) → stands p ms ≡ stands p ns
+places_same : (C : Node → Type 0) (ns ms : List Node) → Pairs (OneAged C) ns ms → (p : NodePlace) → stands p ms ≡ stands p ns
 places_same C [] [] a p = refl
 places_same C [] (m ∷ ms) a p = absurd a
 places_same C (n ∷ ns) [] a p = absurd a
 places_same C (n ∷ ns) (m ∷ ms) a p =
-    ap (λ (s : Spot). is_same_place p (place_at s) || stands p ms) a.0.same ∙ ap (λ (b : Bool). is_same_place p (place_of n) || b) (places_same C ns ms a.1 p)
+    ap (λ (s : Lineage). is_same_place p (place_at s) || stands p ms) a.0.same ∙ ap (λ (b : Bool). is_same_place p (place_of n) || b) (places_same C ns ms a.1 p)
 
 pub aged : (C : Node → Type 0) (r : Rules) (present : ℕ) (ns ms : List Node) (owed more left : List ℕ) → Going r present ns owed left → Pairs (OneAged C) ns ms
     → ((i : ℕ) (n m : Node) → slice_get ns i ≡ Some n → slice_get ms i ≡ Some m → C n → m.state ≡ Confirmed → In i more) → ((i : ℕ) → In i owed → In i more) → Going r present ms more left
 aged C r present ns ms owed more left g a anew kept = record {
-  begun = λ i m e. let b = pairs_back (OneAged C) ns ms i m a e in subst (λ (s : Spot). s.phase ≤ present) (sym b.2.same) (g.begun i b.0 b.1);
+  begun = λ i m e. let b = pairs_back (OneAged C) ns ms i m a e in subst (λ (s : Lineage). s.phase ≤ present) (sym b.2.same) (g.begun i b.0 b.1);
   origin = λ i m e. let b = pairs_back (OneAged C) ns ms i m a e in
       elim (g.origin i b.0 b.1) [
         | inl root ↦ inl (subst (IsRoot r) (sym b.2.same) root)
@@ -64,13 +64,13 @@ aged C r present ns ms owed more left g a anew kept = record {
             inr (record {
               number = child.number;
               parent = p.0;
-              named = ap (λ (s : Spot). s.parent) b.2.same ∙ child.named;
+              named = ap (λ (s : Lineage). s.parent) b.2.same ∙ child.named;
               lower = child.lower;
               stands = p.1;
               confirmed = p.2.stays child.confirmed;
-              phase = ap (λ (s : Spot). s.phase) b.2.same ∙ child.phase ∙ ap (λ (s : Spot). s.phase) (sym p.2.same);
-              child = subst (λ (s : Spot). In (s.hypothesis, s.focus) (children r.hypotheses r.tree p.0.hypothesis p.0.focus)) (sym b.2.same)
-                  (subst (λ (s : Spot). In (b.0.hypothesis, b.0.focus) (children r.hypotheses r.tree s.hypothesis s.focus)) (sym p.2.same) child.child);
+              phase = ap (λ (s : Lineage). s.phase) b.2.same ∙ child.phase ∙ ap (λ (s : Lineage). s.phase) (sym p.2.same);
+              child = subst (λ (s : Lineage). In (s.hypothesis, s.focus) (children r.hypotheses r.tree p.0.hypothesis p.0.focus)) (sym b.2.same)
+                  (subst (λ (s : Lineage). In (b.0.hypothesis, b.0.focus) (children r.hypotheses r.tree s.hypothesis s.focus)) (sym p.2.same) child.child);
             })
       ];
   apart = λ i j m n e f same.
@@ -85,8 +85,8 @@ aged C r present ns ms owed more left g a anew kept = record {
         | inl old ↦ elim (g.families (omega arith) i b.0 b.1 old) [
           | inl x ↦ inl (kept i x)
           | inr y ↦ inr (λ h f c.
-              subst (λ (s : Spot). stands (place s.phase h f) ms ≡ true) (sym b.2.same)
-              (places_same C ns ms a (place b.0.phase h f) ∙ y h f (subst (λ (s : Spot). In (h, f) (children r.hypotheses r.tree s.hypothesis s.focus)) b.2.same c)))
+              subst (λ (s : Lineage). stands (place s.phase h f) ms ≡ true) (sym b.2.same)
+              (places_same C ns ms a (place b.0.phase h f) ∙ y h f (subst (λ (s : Lineage). In (h, f) (children r.hypotheses r.tree s.hypothesis s.focus)) b.2.same c)))
         ]
         | inr new ↦ inl (anew i b.0 m b.1 e new s)
       ];

@@ -16,7 +16,7 @@ use Rattle.w3_search.specs.declared.node.Node.{Node}
 use Rattle.w3_search.specs.declared.node.NodeSample.{NodeSample}
 use Rattle.w3_search.specs.declared.node.NodeState.{NodeState}
 use Rattle.w3_search.specs.declared.node.NodeState.TheVariants.{Waiting, Active, Confirmed, Rejected, Barred, Unfinished}
-use Rattle.w3_search.specs.declared.place.Place.{Place}
+use Rattle.w3_search.specs.declared.place.NodePlace.{NodePlace}
 use Rattle.w3_search.specs.Nodes.{changed, is_active, is_confirmed, is_free, is_open, is_same_place, is_waiting, new_node, place, place_of, sampled, stands, with_node}
 use Rattle.w3_search.specs.History.{AllOpen, AreFew}
 use Rattle.w3_search.specs.Steps.{SearchData, begun, is_due, judged, may_take, with_children, with_family_of, with_phases, with_roots, with_sample}
@@ -34,12 +34,12 @@ got (x ∷ ns) zero n d e = (cc, omega arith)
 got (x ∷ ns) (suc i) n d e = let r = got ns i n d e in (r.0, omega (arith, r.1))
 
 -- the places of the index are those of the nodes
-pub any_places : (p : Place) (ns : List Node) → list_any (is_same_place p) (map place_of ns) ≡ stands p ns
+pub any_places : (p : NodePlace) (ns : List Node) → list_any (is_same_place p) (map place_of ns) ≡ stands p ns
 any_places p [] = refl
 any_places p (n ∷ ns) = ap (λ (b : Bool). is_same_place p (place_of n) || b) (any_places p ns)
 
 -- a place that is free: there is room, and it isn't taken
-pub free_parts : (p : Place) (ns : List Node) → is_free p ns ≡ true → (length ns < MAX_NODES) × (stands p ns ≡ false)
+pub free_parts : (p : NodePlace) (ns : List Node) → is_free p ns ≡ true → (length ns < MAX_NODES) × (stands p ns ≡ false)
 free_parts p ns e =
     let both = and_parts (nat_lt (length ns) MAX_NODES) (not (stands p ns)) e in
     (ltb-true (length ns) MAX_NODES both.0, not-true (stands p ns) both.1)
@@ -64,13 +64,13 @@ length_changed f (n ∷ ns) (suc i) = ap suc (length_changed f ns i)
 
 pub places_changed : (f : Node → Node) → ((n : Node) → place_of (f n) ≡ place_of n) → (ns : List Node) (i : ℕ) → map place_of (changed f i ns) ≡ map place_of ns
 places_changed f h [] i = refl
-places_changed f h (n ∷ ns) zero = ap (λ (p : Place). p ∷ map place_of ns) (h n)
-places_changed f h (n ∷ ns) (suc i) = ap (λ (ps : List Place). place_of n ∷ ps) (places_changed f h ns i)
+places_changed f h (n ∷ ns) zero = ap (λ (p : NodePlace). p ∷ map place_of ns) (h n)
+places_changed f h (n ∷ ns) (suc i) = ap (λ (ps : List NodePlace). place_of n ∷ ps) (places_changed f h ns i)
 
 pub places_map : (f : Node → Node) → ((n : Node) → place_of (f n) ≡ place_of n) → (ns : List Node) → map place_of (map f ns) ≡ map place_of ns
 places_map f h [] = refl
 places_map f h (n ∷ ns) =
-    ap (λ (p : Place). p ∷ map place_of (map f ns)) (h n) ∙ ap (λ (ps : List Place). place_of n ∷ ps) (places_map f h ns)
+    ap (λ (p : NodePlace). p ∷ map place_of (map f ns)) (h n) ∙ ap (λ (ps : List NodePlace). place_of n ∷ ps) (places_map f h ns)
 
 -- ---- what holds of all open nodes
 

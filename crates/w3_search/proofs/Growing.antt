@@ -13,10 +13,10 @@ use Rattle.w3_search.specs.declared.limits.TheConstants.{MAX_NODES}
 use Rattle.w3_search.specs.declared.node.Node.{Node}
 use Rattle.w3_search.specs.declared.node.NodeState.{NodeState}
 use Rattle.w3_search.specs.declared.node.NodeState.TheVariants.{Confirmed}
-use Rattle.w3_search.specs.declared.place.Place.{Place}
+use Rattle.w3_search.specs.declared.place.NodePlace.{NodePlace}
 use Rattle.w3_search.specs.Nodes.{is_free, is_same_code, is_same_number, is_same_place, is_confirmed, new_node, place, place_of, stands, with_node}
 use Rattle.w3_search.specs.Steps.{Rules, with_children, with_family, with_family_of, with_families, with_roots}
-use Rattle.w3_search.specs.History.{In, Spot, spot_of, IsRoot, IsChild}
+use Rattle.w3_search.specs.History.{In, Lineage, lineage_of, IsRoot, IsChild}
 use Rattle.w3_search.proofs.Changes.{free_parts, got}
 use Rattle.w3_search.proofs.Aging.{Going}
 
@@ -42,27 +42,27 @@ same_number : (a : Option ℕ) → is_same_number a a ≡ true
 same_number None = refl
 same_number (Some n) = eq-eqb n n refl
 
-same_place : (p : Place) → is_same_place p p ≡ true
+same_place : (p : NodePlace) → is_same_place p p ≡ true
 same_place p =
     and_from _ _ (eq-eqb p.phase p.phase refl) (and_from _ _ (eq-eqb p.hypothesis p.hypothesis refl) (and_from _ _ (same_code p.code) (and_from _ _ (same_number p.hart) (same_number p.object))))
 
-stands_push : (p : Place) (ns : List Node) (n : Node) → stands p ns ≡ true → stands p (ns ++ n ∷ []) ≡ true
+stands_push : (p : NodePlace) (ns : List Node) (n : Node) → stands p ns ≡ true → stands p (ns ++ n ∷ []) ≡ true
 stands_push p ns n e = list_any-append (λ (m : Node). is_same_place p (place_of m)) ns (n ∷ []) ∙ or_left _ _ e
 
-stands_new : (p : Place) (ns : List Node) (n : Node) → p ≡ place_of n → stands p (ns ++ n ∷ []) ≡ true
+stands_new : (p : NodePlace) (ns : List Node) (n : Node) → p ≡ place_of n → stands p (ns ++ n ∷ []) ≡ true
 stands_new p ns n e =
     list_any-append (λ (m : Node). is_same_place p (place_of m)) ns (n ∷ [])
     ∙ or_right _ _ (or_left _ _ (ap (is_same_place p) (sym e) ∙ same_place p))
 
 -- who stands at a place is found there
-stands_at : (p : Place) (ns : List Node) (i : ℕ) (m : Node) → slice_get ns i ≡ Some m → place_of m ≡ p → stands p ns ≡ true
+stands_at : (p : NodePlace) (ns : List Node) (i : ℕ) (m : Node) → slice_get ns i ≡ Some m → place_of m ≡ p → stands p ns ≡ true
 stands_at p [] i m e s = cc
 stands_at p (x ∷ ns) zero m e s =
     let y : place_of x ≡ p = ap place_of (let k : x ≡ m = cc in k) ∙ s in
     or_left _ _ (ap (is_same_place p) y ∙ same_place p)
 stands_at p (x ∷ ns) (suc i) m e s = or_right _ _ (stands_at p ns i m e s)
 
-pub with_node_stands : (q : ℕ) (parent : Option ℕ) (h : ℕ) (f : Focus) (p : Place) (ns : List Node) → stands p ns ≡ true → stands p (with_node q parent h f ns) ≡ true
+pub with_node_stands : (q : ℕ) (parent : Option ℕ) (h : ℕ) (f : Focus) (p : NodePlace) (ns : List Node) → stands p ns ≡ true → stands p (with_node q parent h f ns) ≡ true
 with_node_stands q parent h f p ns e =
     cond_both (is_free (place q h f) ns) (ns ++ new_node q parent h f ∷ []) ns (λ (l : List Node). stands p l ≡ true) (λ _. stands_push p ns (new_node q parent h f) e) (λ _. e)
 
@@ -89,10 +89,10 @@ with_node_there q parent h f ns l = by (cases_Bool (is_free (place q h f) ns))
 -- ---- the history
 
 -- a new node comes from somewhere
-abbrev pub Comes : Rules → List Node → Spot → Type 0
+abbrev pub Comes : Rules → List Node → Lineage → Type 0
 Comes r ns s = IsRoot r s ⊎ IsChild r ns (length ns) s
 
-child_kept : (r : Rules) (ns : List Node) (n : Node) (i : ℕ) (s : Spot) → IsChild r ns i s → IsChild r (ns ++ n ∷ []) i s
+child_kept : (r : Rules) (ns : List Node) (n : Node) (i : ℕ) (s : Lineage) → IsChild r ns i s → IsChild r (ns ++ n ∷ []) i s
 child_kept r ns n i s c = record {
   number = c.number;
   parent = c.parent;
@@ -104,15 +104,15 @@ child_kept r ns n i s c = record {
   child = c.child;
 }
 
-pushed : (r : Rules) (present : ℕ) (ns : List Node) (owed left : List ℕ) (n : Node) → Going r present ns owed left → n.phase ≤ present → (n.state ≡ Confirmed → ⊥) → Comes r ns (spot_of n) → stands (place_of n) ns ≡ false → length ns < MAX_NODES
+pushed : (r : Rules) (present : ℕ) (ns : List Node) (owed left : List ℕ) (n : Node) → Going r present ns owed left → n.phase ≤ present → (n.state ≡ Confirmed → ⊥) → Comes r ns (lineage_of n) → stands (place_of n) ns ≡ false → length ns < MAX_NODES
     → Going r present (ns ++ n ∷ []) owed left
 pushed r present ns owed left n g phase waits comes free room = record {
   begun = λ i m e. elim (get_push ns n i m e) [ inl old ↦ g.begun i m old | inr new ↦ subst (λ (k : Node). k.phase ≤ present) (sym new.1) phase ];
   origin = λ i m e. elim (get_push ns n i m e) [
-    | inl old ↦ elim (g.origin i m old) [ inl root ↦ inl root | inr child ↦ inr (child_kept r ns n i (spot_of m) child) ]
+    | inl old ↦ elim (g.origin i m old) [ inl root ↦ inl root | inr child ↦ inr (child_kept r ns n i (lineage_of m) child) ]
     | inr new ↦
-        subst (λ (k : Node). IsRoot r (spot_of k) ⊎ IsChild r (ns ++ n ∷ []) i (spot_of k)) (sym new.1)
-        (elim comes [ inl root ↦ inl root | inr child ↦ inr (child_kept r ns n i (spot_of n) (subst (λ (k : ℕ). IsChild r ns k (spot_of n)) (sym new.0) child)) ])
+        subst (λ (k : Node). IsRoot r (lineage_of k) ⊎ IsChild r (ns ++ n ∷ []) i (lineage_of k)) (sym new.1)
+        (elim comes [ inl root ↦ inl root | inr child ↦ inr (child_kept r ns n i (lineage_of n) (subst (λ (k : ℕ). IsChild r ns k (lineage_of n)) (sym new.0) child)) ])
   ];
   apart = λ i j a b e f same. elim (get_push ns n i a e) [
     | inl old ↦ elim (get_push ns n j b f) [
@@ -150,7 +150,7 @@ parent_kept q parent h f ns i n p =
     cond_both (is_free (place q h f) ns) (ns ++ new_node q parent h f ∷ []) ns (λ (l : List Node). Parent l i n)
     (λ _. record { there = get_kept ns (new_node q parent h f) i n p.there; confirmed = p.confirmed }) (λ _. p)
 
-children_stand : (q i : ℕ) (ks : List (ℕ × Focus)) (p : Place) (ns : List Node) → stands p ns ≡ true → stands p (with_children q i ks ns) ≡ true
+children_stand : (q i : ℕ) (ks : List (ℕ × Focus)) (p : NodePlace) (ns : List Node) → stands p ns ≡ true → stands p (with_children q i ks ns) ≡ true
 children_stand q i [] p ns e = e
 children_stand q i (k ∷ ks) p ns e = children_stand q i ks p (with_node q (Some i) k.0 k.1 ns) (with_node_stands q (Some i) k.0 k.1 p ns e)
 
@@ -165,7 +165,7 @@ children_there q i (k ∷ ks) ns l h f (inl e) =
     let m = with_node q (Some i) k.0 k.1 ns in
     let room : length m < MAX_NODES = omega (arith, children_length q i ks m) in
     let same : place q h f ≡ place q k.0 k.1 = ap (λ (x : ℕ × Focus). place q x.0 x.1) e in
-    children_stand q i ks (place q h f) m (subst (λ (p : Place). stands p m ≡ true) (sym same) (with_node_there q (Some i) k.0 k.1 ns room))
+    children_stand q i ks (place q h f) m (subst (λ (p : NodePlace). stands p m ≡ true) (sym same) (with_node_there q (Some i) k.0 k.1 ns room))
 children_there q i (k ∷ ks) ns l h f (inr c) = children_there q i ks (with_node q (Some i) k.0 k.1 ns) l h f c
 
 children_going : (r : Rules) (present : ℕ) (ks : List (ℕ × Focus)) (ns : List Node) (owed left : List ℕ) (i : ℕ) (n : Node) → Going r present ns owed left → Parent ns i n

@@ -6,7 +6,7 @@ use Rattle.std.specs.declared.alloc.Global.{Global}
 use Rattle.std.proofs.lemmas.List.{with_items_is}
 use Rattle.indexmap.specs.IndexSet.{IndexSet}
 use Rattle.w3_search.specs.declared.node.Node.{Node}
-use Rattle.w3_search.specs.declared.place.Place.{Place}
+use Rattle.w3_search.specs.declared.place.NodePlace.{NodePlace}
 use Rattle.w3_search.specs.Nodes.{active_of, place_of, waiting_of}
 use Rattle.w3_search.specs.Index.{IsIndexed}
 
@@ -14,7 +14,7 @@ pub items_are : (list : Vec Node Global) (ws : List Node) → length ws ≡ leng
 items_are list ws len = with_items_is list ws (omega arith)
 
 -- the index serves the changed list too
-pub indexed : {S : Type 0} (ns ms : List Node) (index : IndexSet Place S) (waiting active waiting' active' : List ℕ)
+pub indexed : {S : Type 0} (ns ms : List Node) (index : IndexSet NodePlace S) (waiting active waiting' active' : List ℕ)
     → IsIndexed ns index waiting active → length ms ≡ length ns → map place_of ms ≡ map place_of ns → waiting' ≡ waiting_of ms → active' ≡ active_of ms → IsIndexed ms index waiting' active'
 indexed ns ms index waiting active waiting' active' is len places waits tests = record {
   few = omega (arith, is.few);

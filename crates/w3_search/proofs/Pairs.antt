@@ -10,8 +10,8 @@ use Rattle.w3_search.specs.declared.node.Node.{Node}
 use Rattle.w3_search.specs.declared.node.NodeSample.{NodeSample}
 use Rattle.w3_search.specs.declared.node.NodeState.{NodeState}
 use Rattle.w3_search.specs.declared.node.NodeState.TheVariants.{Waiting, Active, Confirmed, Rejected, Barred, Unfinished}
-use Rattle.w3_search.specs.declared.place.Place.{Place}
-use Rattle.w3_search.specs.History.{AreHere, In, Spot, spot_of}
+use Rattle.w3_search.specs.declared.place.NodePlace.{NodePlace}
+use Rattle.w3_search.specs.History.{AreHere, In, Lineage, lineage_of}
 use Rattle.w3_search.specs.Nodes.{active_of, changed, is_active, is_active_at, is_open, is_waiting, numbers_from, place, place_of, sampled, waiting_of}
 use Rattle.w3_search.specs.Steps.{ended, judged, may_take, with_sample, with_samples}
 use Rattle.w3_search.proofs.Changes.{ruled_waiting}
@@ -72,7 +72,7 @@ is_now _ e = cc
 
 -- a node stands where it stood, stays confirmed, and is confirmed anew only where C
 pub record OneAged (C : Node → Type 0) (n m : Node) : Type 0 where
-  pub same : spot_of m ≡ spot_of n
+  pub same : lineage_of m ≡ lineage_of n
   pub stays : n.state ≡ Confirmed → m.state ≡ Confirmed
   pub fresh : m.state ≡ Confirmed → (n.state ≡ Confirmed) ⊎ C n
 
@@ -126,7 +126,7 @@ all_sampled hs window t (s ∷ ss) ns =
     pairs_through OneSampled sampled_through ns one (with_samples hs window t ss one) (one_sample hs window t s ns) (all_sampled hs window t ss one)
 
 -- samples leave places, and those that wait
-pub place_at : Spot → Place
+pub place_at : Lineage → NodePlace
 place_at s = place s.phase s.hypothesis s.focus
 
 pub sampled_places : (ns ms : List Node) → Pairs OneSampled ns ms → map place_of ms ≡ map place_of ns
@@ -135,7 +135,7 @@ sampled_places [] [] p = refl
 sampled_places [] (m ∷ ms) p = absurd p
 sampled_places (n ∷ ns) [] p = absurd p
 sampled_places (n ∷ ns) (m ∷ ms) p =
-    ap (λ (s : Spot). place_at s ∷ map place_of ms) p.0.aged.same ∙ ap (λ (ps : List Place). place_of n ∷ ps) (sampled_places ns ms p.1)
+    ap (λ (s : Lineage). place_at s ∷ map place_of ms) p.0.aged.same ∙ ap (λ (ps : List NodePlace). place_of n ∷ ps) (sampled_places ns ms p.1)
 
 waits_from : (k : ℕ) (ns ms : List Node) → Pairs OneSampled ns ms → numbers_from (λ n. is_waiting n.state) k ms ≡ numbers_from (λ n. is_waiting n.state) k ns
 waits_from k [] [] p = refl
@@ -167,7 +167,7 @@ sampled_here q [] [] p here = tt
 sampled_here q [] (m ∷ ms) p here = absurd p
 sampled_here q (n ∷ ns) [] p here = absurd p
 sampled_here q (n ∷ ns) (m ∷ ms) p here = (
-  (λ o. ap (λ (s : Spot). s.phase) p.0.aged.same ∙ here.0 (open_was n.state m.state p.0.lives p.0.waits o)),
+  (λ o. ap (λ (s : Lineage). s.phase) p.0.aged.same ∙ here.0 (open_was n.state m.state p.0.lives p.0.waits o)),
   sampled_here q ns ms p.1 here.1,
 )
 

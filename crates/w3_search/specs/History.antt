@@ -14,22 +14,22 @@ abbrev pub In : {X : Type 0} → X → List X → Type 0
 In x [] = ⊥
 In x (y ∷ ys) = (x ≡ y) ⊎ In x ys
 
--- what stays of a node
-pub record Spot : Type 0 where
+-- where a node comes from, which stays as it is
+pub record Lineage : Type 0 where
   pub phase : ℕ
   pub parent : Option ℕ
   pub hypothesis : ℕ
   pub focus : Focus
 
-abbrev pub spot_of : Node → Spot
-spot_of n = record { phase = n.phase; parent = n.parent; hypothesis = n.hypothesis; focus = n.focus }
+abbrev pub lineage_of : Node → Lineage
+lineage_of n = record { phase = n.phase; parent = n.parent; hypothesis = n.hypothesis; focus = n.focus }
 
 -- a root of its phase
-abbrev pub IsRoot : Rules → Spot → Type 0
+abbrev pub IsRoot : Rules → Lineage → Type 0
 IsRoot r s = (s.parent ≡ None) × In s.hypothesis (roots r.hypotheses) × (s.focus ≡ foci.root)
 
 -- node i is a child of a confirmed node of a lower number in its phase, which is its parent
-pub record IsChild (r : Rules) (ns : List Node) (i : ℕ) (s : Spot) : Type 0 where
+pub record IsChild (r : Rules) (ns : List Node) (i : ℕ) (s : Lineage) : Type 0 where
   pub number : ℕ
   pub parent : Node
   pub named : s.parent ≡ Some number
@@ -44,7 +44,7 @@ pub record IsChild (r : Rules) (ns : List Node) (i : ℕ) (s : Spot) : Type 0 wh
 -- stands.
 pub record IsHistory (v : SearchData) : Type 0 where
   pub begun : (i : ℕ) (n : Node) → slice_get v.nodes i ≡ Some n → n.phase ≤ v.present
-  pub origin : (i : ℕ) (n : Node) → slice_get v.nodes i ≡ Some n → IsRoot v.rules (spot_of n) ⊎ IsChild v.rules v.nodes i (spot_of n)
+  pub origin : (i : ℕ) (n : Node) → slice_get v.nodes i ≡ Some n → IsRoot v.rules (lineage_of n) ⊎ IsChild v.rules v.nodes i (lineage_of n)
   pub apart : (i j : ℕ) (m n : Node) → slice_get v.nodes i ≡ Some m → slice_get v.nodes j ≡ Some n → place_of m ≡ place_of n → i ≡ j
   pub roots : length v.nodes < MAX_NODES → (q h : ℕ) → q ≤ v.present → In h (roots v.rules.hypotheses) → stands (place q h foci.root) v.nodes ≡ true
   pub families : length v.nodes < MAX_NODES → (i : ℕ) (n : Node) → slice_get v.nodes i ≡ Some n → n.state ≡ Confirmed

@@ -5,12 +5,12 @@ use Rattle.std.specs.declared.alloc.Global.{Global}
 use Rattle.indexmap.specs.IndexSet.{IndexSet, spare}
 use Rattle.w3_search.specs.declared.limits.TheConstants.{MAX_NODES}
 use Rattle.w3_search.specs.declared.node.Node.{Node}
-use Rattle.w3_search.specs.declared.place.Place.{Place}
+use Rattle.w3_search.specs.declared.place.NodePlace.{NodePlace}
 use Rattle.w3_search.specs.Nodes.{active_of, changed, place_of, waiting_of}
 
 -- the set has the nodes' places in their order, the nodes that wait and those under test are listed, and there is room for
 -- the most nodes
-pub record IsIndexed {S : Type 0} (list : List Node) (index : IndexSet Place S) (waiting active : List ℕ) : Type 0 where
+pub record IsIndexed {S : Type 0} (list : List Node) (index : IndexSet NodePlace S) (waiting active : List ℕ) : Type 0 where
   pub few : length list ≤ MAX_NODES
   pub places : index.keys ≡ map place_of list
   pub waits : waiting ≡ waiting_of list

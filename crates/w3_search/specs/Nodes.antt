@@ -10,7 +10,7 @@ use Rattle.w3_search.specs.declared.node.Node.{Node}
 use Rattle.w3_search.specs.declared.node.NodeSample.{NodeSample}
 use Rattle.w3_search.specs.declared.node.NodeState.{NodeState}
 use Rattle.w3_search.specs.declared.node.NodeState.TheVariants.{Waiting, Active, Confirmed, Unfinished}
-use Rattle.w3_search.specs.declared.place.Place.{Place}
+use Rattle.w3_search.specs.declared.place.NodePlace.{NodePlace}
 
 -- ---- states
 
@@ -34,10 +34,10 @@ is_open state = false
 
 -- ---- places
 
-abbrev pub place : ℕ → ℕ → Focus → Place
+abbrev pub place : ℕ → ℕ → Focus → NodePlace
 place phase hypothesis focus = record { phase = phase; hypothesis = hypothesis; code = focus.code; hart = focus.hart; object = focus.object }
 
-abbrev pub place_of : Node → Place
+abbrev pub place_of : Node → NodePlace
 place_of n = place n.phase n.hypothesis n.focus
 
 -- two numbers that are one, or none twice
@@ -52,11 +52,11 @@ is_same_code (Module a) (Module b) = a == b
 is_same_code (Procedure a) (Procedure b) = a == b
 is_same_code a b = false
 
-abbrev pub is_same_place : Place → Place → Bool
+abbrev pub is_same_place : NodePlace → NodePlace → Bool
 is_same_place a b = (a.phase == b.phase) && ((a.hypothesis == b.hypothesis) && (is_same_code a.code b.code && (is_same_number a.hart b.hart && is_same_number a.object b.object)))
 
 -- a node stands at this place
-abbrev pub stands : Place → List Node → Bool
+abbrev pub stands : NodePlace → List Node → Bool
 stands p ns = list_any (λ n. is_same_place p (place_of n)) ns
 
 -- ---- new nodes
@@ -66,7 +66,7 @@ abbrev pub new_node : ℕ → Option ℕ → ℕ → Focus → Node
 new_node phase parent hypothesis focus = record { phase = phase; parent = parent; hypothesis = hypothesis; focus = focus; state = Waiting; seen = 0; from = 0; to = 0; value = 0; ticks = 0 }
 
 -- one more node may be made at this place: none stands there, and there are fewer than there may be
-abbrev pub is_free : Place → List Node → Bool
+abbrev pub is_free : NodePlace → List Node → Bool
 is_free p ns = nat_lt (length ns) MAX_NODES && not (stands p ns)
 
 -- the nodes with one more, if it may be made

@@ -11,7 +11,7 @@ ghost use Rattle.w3_search.specs.Nodes.{active_of, changed, finished, in_state, 
 use crate::limits::MAX_NODES;
 use crate::node::{Node, NodeSample, NodeState};
 use crate::numbers::{part_active, push_if, put_in, take_out};
-use crate::place::Place;
+use crate::place::NodePlace;
 use crate::steps::{add_samples, end_open, push_node, set_state};
 use indexmap::IndexSet;
 use pn_types::{BarCause, Focus, NoMemory};
@@ -24,7 +24,7 @@ use w3_axes::Hypotheses;
 pub(crate) struct Nodes {
     list: Vec<Node>,
     /// Where they stand, in their order.
-    index: IndexSet<Place>,
+    index: IndexSet<NodePlace>,
     /// The numbers of those that wait.
     waiting: Vec<u32>,
     /// The numbers of those that are under test.
@@ -46,14 +46,14 @@ impl Model for Nodes {
 }
 
 /// Whether a place is in the index.
-fn is_taken(index: &IndexSet<Place>, place: Place) -> bool
+fn is_taken(index: &IndexSet<NodePlace>, place: NodePlace) -> bool
     ensures { result ≡ list_any (is_same_place place) index.now.keys }
 {
     index.contains(&place)
 }
 
 /// Puts a place into the index, and says whether it wasn't there.
-fn take_place(index: &mut IndexSet<Place>, place: Place) -> bool
+fn take_place(index: &mut IndexSet<NodePlace>, place: NodePlace) -> bool
     requires { 0 < spare index.old }
     ensures new { result ≡ not (list_any (is_same_place place) index.old.keys) }
     ensures keys { index.new.keys ≡ (if result then index.old.keys ++ place ∷ [] else index.old.keys) }
@@ -63,7 +63,7 @@ fn take_place(index: &mut IndexSet<Place>, place: Place) -> bool
 }
 
 /// Whether a node may be made at a place.
-fn is_free(list: &[Node], index: &IndexSet<Place>, place: Place) -> bool
+fn is_free(list: &[Node], index: &IndexSet<NodePlace>, place: NodePlace) -> bool
     requires { index.now.keys ≡ map place_of list.now }
     ensures { result ≡ is_free place list.now }
 {
@@ -111,7 +111,7 @@ impl Nodes {
     pub(crate) fn add(&mut self, phase: u32, parent: Option<u32>, hypothesis: u32, focus: &Focus)
         ensures { self.new ≡ with_node phase parent hypothesis focus.now self.old }
     {
-        let place = Place::new(phase, hypothesis, focus);
+        let place = NodePlace::new(phase, hypothesis, focus);
         if !is_free(&self.list, &self.index, place) {
             return;
         }

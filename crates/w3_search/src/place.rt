@@ -5,7 +5,7 @@ use pn_types::{CodePart, Focus, HartNo};
 
 /// Where a node stands, in plain numbers: its phase, its hypothesis and the parts of its focus.
 #[derive(Clone, Copy, Debug, PartialEq, Eq, Hash, Drop)]
-pub(crate) struct Place {
+pub(crate) struct NodePlace {
     phase: u32,
     hypothesis: u32,
     code: CodePart,
@@ -23,12 +23,12 @@ fn number_of(hart: Option<HartNo>) -> Option<u32>
     }
 }
 
-impl Place {
+impl NodePlace {
     /// The place of a hypothesis at a focus in a phase.
-    pub(crate) fn new(phase: u32, hypothesis: u32, focus: &Focus) -> Place
+    pub(crate) fn new(phase: u32, hypothesis: u32, focus: &Focus) -> NodePlace
         ensures { result ≡ place phase hypothesis focus.now }
     {
-        Place {
+        NodePlace {
             phase,
             hypothesis,
             code: focus.code,

@@ -4,7 +4,7 @@ use Rattle.std.specs.List.{list_any}
 use Rattle.std.proofs.lemmas.List.{append-nil, map-append, length_push}
 use Rattle.w3_search.specs.declared.limits.TheConstants.{MAX_NODES}
 use Rattle.w3_search.specs.declared.node.Node.{Node}
-use Rattle.w3_search.specs.declared.place.Place.{Place}
+use Rattle.w3_search.specs.declared.place.NodePlace.{NodePlace}
 use Rattle.w3_search.specs.Nodes.{active_of, is_active, is_free, is_same_place, is_waiting, place_of, new_node, waiting_of}
 use Rattle.w3_search.proofs.Changes.{any_places, free_parts}
 use Rattle.w3_search.proofs.Numbering.{few_numbers, numbers_push}
@@ -44,8 +44,8 @@ invariant_of-self c =
         few = omega arith;
         places = c.take_place-it_is_new.ensures.keys
             ∙ ap (λ (b : Bool). cond b (s.index.keys ++ p ∷ []) s.index.keys) is_new
-            ∙ ap (λ (ps : List Place). ps ++ p ∷ []) i.0.places
-            ∙ ap (λ (q : Place). map place_of ns ++ q ∷ []) c.new-place.ensures
+            ∙ ap (λ (ps : List NodePlace). ps ++ p ∷ []) i.0.places
+            ∙ ap (λ (q : NodePlace). map place_of ns ++ q ∷ []) c.new-place.ensures
             ∙ sym (map-append place_of ns (n ∷ []))
             ∙ ap (map place_of) (sym new);
         waits = c.push_if.ensures.items

@@ -11,7 +11,7 @@ use Rattle.tramp_spec.specs.Codes.{tool_at}
 use Rattle.tramp_spec.specs.MovedWords.{moved_of}
 use Rattle.tramp_spec.specs.declared.mark.MarkedWord.{MarkedWord}
 use Rattle.block_count.specs.declared.block_head.BlockHead.{BlockHead}
-use Rattle.block_count.specs.declared.spot.Spot.{Spot}
+use Rattle.block_count.specs.declared.counted_block.CountedBlock.{CountedBlock}
 use Rattle.block_count.specs.Counters.{Counter, counter_at, end_of}
 use Rattle.block_count.specs.Heads.{heads_of}
 
@@ -25,24 +25,24 @@ counter_for program slot at point = option_map (counter_at point slot at) (moved
 
 -- Each block's counter in turn, from a slot and an address of the tool text on, which may go past its end. A block whose first word
 -- can't be moved to there has none, and takes no slot and no word.
-abbrev pub spots_from : Words → ℕ → ℕ → List BlockHead → List Spot
-spots_from program slot at [] = []
-spots_from program slot at (h ∷ heads) = elim (counter_for program slot at h.at) [
-  | None ↦ record { head = h; counter = None } ∷ spots_from program slot at heads
-  | Some c ↦ record { head = h; counter = Some c } ∷ spots_from program (slot + 1) (end_of c) heads
+abbrev pub counted_from : Words → ℕ → ℕ → List BlockHead → List CountedBlock
+counted_from program slot at [] = []
+counted_from program slot at (h ∷ heads) = elim (counter_for program slot at h.at) [
+  | None ↦ record { head = h; counter = None } ∷ counted_from program slot at heads
+  | Some c ↦ record { head = h; counter = Some c } ∷ counted_from program (slot + 1) (end_of c) heads
 ]
 
 -- The blocks of a program with their counters.
-abbrev pub spots_of : Image → List Proc → List Spot
-spots_of image procs = spots_from (program_of image) first_slot (tool_at (program_of image)) (heads_of image procs)
+abbrev pub counted_blocks_of : Image → List Proc → List CountedBlock
+counted_blocks_of image procs = counted_from (program_of image) first_slot (tool_at (program_of image)) (heads_of image procs)
 
 -- the counters among them
-abbrev pub counters_in : List Spot → List Counter
+abbrev pub counters_in : List CountedBlock → List Counter
 counters_in [] = []
-counters_in (s ∷ spots) = elim (s.counter) [
-  | None ↦ counters_in spots
-  | Some c ↦ c ∷ counters_in spots
+counters_in (s ∷ blocks) = elim (s.counter) [
+  | None ↦ counters_in blocks
+  | Some c ↦ c ∷ counters_in blocks
 ]
 
 abbrev pub counters_of : Image → List Proc → List Counter
-counters_of image procs = counters_in (spots_of image procs)
+counters_of image procs = counters_in (counted_blocks_of image procs)

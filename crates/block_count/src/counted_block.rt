@@ -10,7 +10,7 @@ ghost use Rattle.tramp_spec.specs.Banks.{first_slot};
 ghost use Rattle.tramp_spec.specs.Codes.{tool_at};
 ghost use Rattle.tramp_spec.specs.MovedWords.{moved_of, words_of};
 ghost use Rattle.block_count.specs.Counters.{end_of};
-ghost use Rattle.block_count.specs.Spots.{counter_for, counters_in, spots_from, spots_of};
+ghost use Rattle.block_count.specs.CountedBlocks.{counter_for, counters_in, counted_from, counted_blocks_of};
 
 use crate::block_head::BlockHead;
 use crate::counter::Counter;
@@ -23,7 +23,7 @@ use tramp_spec::Moved;
 
 /// A block, and its counter if it can be counted.
 #[derive(Drop)]
-pub struct Spot {
+pub struct CountedBlock {
     pub head: BlockHead,
     pub counter: Option<Counter>,
 }
@@ -75,20 +75,20 @@ fn counter(text_at: u64, words: &[u32], point: u64, slot: u32, at: u64) -> Optio
 }
 
 /// The blocks with their counters, from an address of the tool text on.
-fn spots_from(
+fn counted_from(
     alloc: Global,
     text_at: u64,
     words: &[u32],
     heads: &[BlockHead],
     first: u64,
-) -> Result<Vec<Spot>, NoMemory>
+) -> Result<Vec<CountedBlock>, NoMemory>
     requires text { text_at + 4 * length words.now ≤ SEGMENTS_TO }
     requires few { length heads.now < 2 ^ 31 }
     requires first { first < 2 ^ 32 }
-    ensures spots { IfOk result (λ spots. spots.items ≡ spots_from (record { at = text_at; words = words.now }) first_slot first heads.now) }
-    ensures len { IfOk result (λ spots. length spots.items ≡ length heads.now) }
+    ensures blocks { IfOk result (λ blocks. blocks.items ≡ counted_from (record { at = text_at; words = words.now }) first_slot first heads.now) }
+    ensures len { IfOk result (λ blocks. length blocks.items ≡ length heads.now) }
 {
-    let mut spots = Vec::with_capacity(alloc, heads.len())?;
+    let mut blocks = Vec::with_capacity(alloc, heads.len())?;
     let mut slot = FIRST_SLOT;
     let mut at = first;
     for head in heads {
@@ -97,25 +97,29 @@ fn spots_from(
             slot += 1;
             at = counter.end();
         }
-        spots.push(Spot {
+        blocks.push(CountedBlock {
             head: *head,
             counter,
         })?;
     }
-    Ok(spots)
+    Ok(blocks)
 }
 
 /// The blocks of a program with their counters.
-pub fn spots(alloc: Global, image: &Image, procs: &[Proc]) -> Result<Vec<Spot>, NoMemory>
+pub fn counted_blocks(
+    alloc: Global,
+    image: &Image,
+    procs: &[Proc],
+) -> Result<Vec<CountedBlock>, NoMemory>
     requires { IsImage image.now }
-    ensures spots { IfOk result (λ spots. spots.items ≡ spots_of image.now procs.now) }
-    ensures few { IfOk result (λ spots. length spots.items < 2 ^ 31) }
-    ensures narrow { IfOk result (λ spots. AllByRecursion (λ word. word < 2 ^ 32) (program_of image.now).words) }
+    ensures blocks { IfOk result (λ blocks. blocks.items ≡ counted_blocks_of image.now procs.now) }
+    ensures few { IfOk result (λ blocks. length blocks.items < 2 ^ 31) }
+    ensures narrow { IfOk result (λ blocks. AllByRecursion (λ word. word < 2 ^ 32) (program_of image.now).words) }
 {
     let heads = heads(alloc, image, procs)?;
     let words = text_words(alloc, image)?;
     let end = image.text_at + 4 * words.len() as u64;
-    spots_from(
+    counted_from(
         alloc,
         image.text_at,
         &words,
@@ -125,13 +129,13 @@ pub fn spots(alloc: Global, image: &Image, procs: &[Proc]) -> Result<Vec<Spot>, 
 }
 
 /// The counters of blocks.
-pub fn counters(alloc: Global, spots: &[Spot]) -> Result<Vec<&Counter>, NoMemory>
-    ensures counters { IfOk result (λ counters. map (λ c. c.now) counters.items ≡ counters_in spots.now) }
-    ensures few { IfOk result (λ counters. length counters.items ≤ length spots.now) }
+pub fn counters(alloc: Global, blocks: &[CountedBlock]) -> Result<Vec<&Counter>, NoMemory>
+    ensures counters { IfOk result (λ counters. map (λ c. c.now) counters.items ≡ counters_in blocks.now) }
+    ensures few { IfOk result (λ counters. length counters.items ≤ length blocks.now) }
 {
     let mut counters = Vec::new(alloc);
-    for spot in spots {
-        if let Some(counter) = &spot.counter {
+    for block in blocks {
+        if let Some(counter) = &block.counter {
             counters.push(counter)?;
         }
     }
