@@ -1,91 +1,93 @@
 use crate::images::image;
-use pn_types::HartNo;
+use pn_types::{HartNo, NoMemory};
 use rv_exec::{Decoded, Output, Regs, Reservations, exec};
 use rv_mem::Mem;
 use rv_word::{Cause, Next};
+use std::alloc::Global;
 use std::test::Fail;
 
 /// The data of the image.
 const DATA: u64 = 0x1_0010;
 
-#[test]
-fn executes_words_in_turn(rt: HostRuntime) -> Result<(), Fail> {
+/// `lr.w a0, (a1)`, `sc.w a2, a0, (a1)`, `ld a3, 0(a1)` and `jalr a4, 2(x0)`.
+const WORDS: [u32; 4] = [0x1005_a52f, 0x18a5_a62f, 0x0005_b683, 0x0020_0767];
+
+/// What the words lead to, one behind the other; whether the hart has the reservation of the data behind each of the first two; and
+/// the registers that they name first.
+fn execute_words(alloc: Global) -> Result<([Next; 4], [bool; 2], [u64; 4]), NoMemory> {
     let hart = HartNo::first();
+    let mut mem = Mem::new(alloc, &image(alloc)?, 1)?;
+    let mut resv = Reservations::new(alloc, 1)?;
+    let mut out = Output::new(alloc)?;
     let mut regs = Regs::new();
-    let mut mem = Mem::new(rt.alloc(), &image(rt.alloc())?, 1)?;
-    let mut resv = Reservations::new(rt.alloc(), 1)?;
-    let mut out = Output::new(rt.alloc())?;
     regs.set(11, DATA);
-    // `lr.w a0, (a1)`, `sc.w a2, a0, (a1)`, `ld a3, 0(a1)`, `jalr a4, 2(x0)`
+    let [first, second, third, fourth] = WORDS;
     let first = exec(
-        0x1005_a52f,
-        0x1_0000,
-        hart,
-        &mut regs,
-        &mut mem,
-        &mut resv,
-        &mut out,
+        first, 0x1_0000, hart, &mut regs, &mut mem, &mut resv, &mut out,
     );
-    assert_eq!(rt; first, Next::Go(0x1_0004));
-    assert!(rt; resv.has(hart, DATA / 8));
+    let behind_first = resv.has(hart, DATA / 8);
     let second = exec(
-        0x18a5_a62f,
-        0x1_0004,
-        hart,
-        &mut regs,
-        &mut mem,
-        &mut resv,
-        &mut out,
+        second, 0x1_0004, hart, &mut regs, &mut mem, &mut resv, &mut out,
     );
-    assert_eq!(rt; second, Next::Go(0x1_0008));
-    assert!(rt; !resv.has(hart, DATA / 8));
+    let behind_second = resv.has(hart, DATA / 8);
     let third = exec(
-        0x0005_b683,
-        0x1_0008,
-        hart,
-        &mut regs,
-        &mut mem,
-        &mut resv,
-        &mut out,
+        third, 0x1_0008, hart, &mut regs, &mut mem, &mut resv, &mut out,
     );
-    assert_eq!(rt; third, Next::Go(0x1_000c));
     let fourth = exec(
-        0x0020_0767,
-        0x1_000c,
-        hart,
-        &mut regs,
-        &mut mem,
-        &mut resv,
-        &mut out,
+        fourth, 0x1_000c, hart, &mut regs, &mut mem, &mut resv, &mut out,
     );
-    assert_eq!(rt; fourth, Next::Stop(Cause::Misaligned));
-    assert_eq!(rt; regs.get(10), 0x0403_0201);
-    assert_eq!(rt; regs.get(12), 0);
-    assert_eq!(rt; regs.get(13), 0x0807_0605_0403_0201);
-    assert_eq!(rt; regs.get(14), 0);
-    Ok(())
+    Ok((
+        [first, second, third, fourth],
+        [behind_first, behind_second],
+        [regs.get(10), regs.get(12), regs.get(13), regs.get(14)],
+    ))
 }
 
 #[test]
-fn writes_the_output(rt: HostRuntime) -> Result<(), Fail> {
-    let hart = HartNo::first();
+fn executes_words_in_turn(rt: HostRuntime) -> Result<(), Fail> {
+    let next = [
+        Next::Go(0x1_0004),
+        Next::Go(0x1_0008),
+        Next::Go(0x1_000c),
+        Next::Stop(Cause::Misaligned),
+    ];
+    let registers = [0x0403_0201, 0, 0x0807_0605_0403_0201, 0];
+    assert_eq!(rt;
+        execute_words(rt.alloc())?,
+        (next, [true, false], registers)
+    );
+    Ok(())
+}
+
+/// Whether the hart goes on behind an `ecall` that writes three bytes of the data, its pc and its stop, what it answers, and
+/// whether these are the output.
+fn write_three(alloc: Global) -> Result<(bool, u64, Option<Cause>, u64, bool), NoMemory> {
+    let mut mem = Mem::new(alloc, &image(alloc)?, 1)?;
+    let mut resv = Reservations::new(alloc, 1)?;
+    let mut out = Output::new(alloc)?;
     let mut regs = Regs::new();
-    let mut mem = Mem::new(rt.alloc(), &image(rt.alloc())?, 1)?;
-    let mut resv = Reservations::new(rt.alloc(), 1)?;
-    let mut out = Output::new(rt.alloc())?;
-    let ecall = Decoded::new(0x73);
-    assert_eq!(rt; ecall.word(), 0x73);
     regs.set(17, 64);
     regs.set(10, 1);
     regs.set(11, DATA);
     regs.set(12, 3);
     let mut pc = 0x1_0000;
     let mut stop = None;
-    let goes = ecall.run(
-        hart, &mut pc, &mut stop, &mut regs, &mut mem, &mut resv, &mut out,
+    let goes = Decoded::new(0x73).run(
+        HartNo::first(),
+        &mut pc,
+        &mut stop,
+        &mut regs,
+        &mut mem,
+        &mut resv,
+        &mut out,
     );
-    assert_eq!(rt; (goes, pc, stop), (true, 0x1_0004, None));
-    assert_eq!(rt; regs.get(10), 3);
-    assert_eq!(rt; out.bytes(), [1, 2, 3].as_slice());
+    let written = out.bytes() == [1, 2, 3].as_slice();
+    Ok((goes, pc, stop, regs.get(10), written))
+}
+
+#[test]
+fn writes_the_output(rt: HostRuntime) -> Result<(), Fail> {
+    assert_eq!(rt; Decoded::new(0x73).word(), 0x73);
+    assert_eq!(rt; write_three(rt.alloc())?, (true, 0x1_0004, None, 3, true));
     Ok(())
 }

@@ -1,22 +1,30 @@
 use crate::images::image;
 use plain_run::{PlainMachine, run_schedule};
-use pn_types::HartNo;
+use pn_types::{HartNo, NoMemory};
 use rv_word::Cause;
+use std::alloc::Global;
 use std::test::Fail;
 use turn_order::{Order, Ready, generated};
 
+/// Whether the second of two harts may go before a run and behind it; the run's samples; and the hart's ticks, its stop and where it
+/// stands, and the bytes of the output, at the end.
+fn run_two(alloc: Global) -> Result<([bool; 2], u64, u64, Option<Cause>, u64, usize), NoMemory> {
+    let mut machine = PlainMachine::new(alloc, &image(alloc)?, 2, 100)?;
+    let last = HartNo::numbered(1);
+    let before = machine.runnable(last);
+    let samples = run_schedule(&mut machine, 2, 0, 2, 4);
+    let behind = machine.runnable(last);
+    let (ticks, stop, at) = (machine.ticks(last), machine.stop(last), machine.at(last));
+    let len = machine.output().len();
+    Ok(([before, behind], samples, ticks, stop, at, len))
+}
+
 #[test]
 fn runs_to_the_exit(rt: HostRuntime) -> Result<(), Fail> {
-    let mut machine = PlainMachine::new(rt.alloc(), &image(rt.alloc())?, 2, 100)?;
-    let last = HartNo::numbered(1);
-    assert!(rt; machine.runnable(last));
-    let samples = run_schedule(&mut machine, 2, 0, 2, 4);
-    assert_eq!(rt; samples, 2);
-    assert_eq!(rt; machine.ticks(last), 3);
-    assert_eq!(rt; machine.stop(last), Some(Cause::Exit(7)));
-    assert_eq!(rt; machine.at(last), 0x1_0008);
-    assert_eq!(rt; machine.output().len(), 0);
-    assert!(rt; !machine.runnable(last));
+    assert_eq!(rt;
+        run_two(rt.alloc())?,
+        ([true, false], 2, 3, Some(Cause::Exit(7)), 0x1_0008, 0)
+    );
     Ok(())
 }
 
@@ -27,14 +35,17 @@ fn picks_harts_in_turn(rt: HostRuntime) -> Result<(), Fail> {
     ready.push(one)?;
     ready.push(four)?;
     let round = Order::of_seed(0);
-    assert_eq!(rt; round.pick(&ready), Some(one));
-    assert_eq!(rt; round.after(one).pick(&ready), Some(four));
-    assert_eq!(rt; round.after(four).pick(&ready), Some(one));
-    // the generator begins at 1, and its first value, shifted by 33 bits, is even
-    assert_eq!(rt; generated(1), 7_806_831_264_735_756_412);
-    assert_eq!(rt; Order::of_seed(1).pick(&ready), Some(one));
+    let picked = [
+        round.pick(&ready),
+        round.after(one).pick(&ready),
+        round.after(four).pick(&ready),
+        // the generator begins at 1, and its first value, shifted by 33 bits, is even
+        Order::of_seed(1).pick(&ready),
+    ];
     ready.remove(one);
-    assert_eq!(rt; (ready.count(), ready.at(0)), (1, Some(four)));
-    assert_eq!(rt; ready.first_from(5), None);
+    let left = (ready.count(), ready.at(0), ready.first_from(5));
+    assert_eq!(rt; picked, [Some(one), Some(four), Some(one), Some(one)]);
+    assert_eq!(rt; left, (1, Some(four), None));
+    assert_eq!(rt; generated(1), 7_806_831_264_735_756_412);
     Ok(())
 }
