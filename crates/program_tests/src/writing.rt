@@ -42,14 +42,24 @@ fn what_is_written_is_loaded(rt: HostRuntime) -> Result<(), Fail> {
     let file = elf_of_text(rt.alloc(), text).map_err(|_| "a fault")?;
     let image = load(rt.alloc(), &file).map_err(|_| "a fault")?;
     assert_eq!(rt;
-        (image.text_at, image.text_len, image.entry),
-        (0x10000, 4, 0x10000)
+        (
+            image.text_at,
+            image.text_len,
+            image.entry,
+            image.segments.as_slice().len()
+        ),
+        (0x10000, 4, 0x10000, 2)
     );
-    assert_eq!(rt; image.segments.as_slice().len(), 2);
-    let symbols = image.symbols.as_slice();
-    assert_eq!(rt; symbols.len(), 2);
-    assert_eq!(rt; symbols[0].name.bytes(), b"o".as_slice());
-    assert_eq!(rt; symbols[0].module.bytes(), b"m".as_slice());
-    assert_eq!(rt; symbols[1].name.bytes(), b"f".as_slice());
+    let [object, procedure] = image.symbols.as_slice() else {
+        return Err("not two symbols".into());
+    };
+    assert_eq!(rt;
+        (
+            object.name.bytes(),
+            object.module.bytes(),
+            procedure.name.bytes()
+        ),
+        (b"o".as_slice(), b"m".as_slice(), b"f".as_slice())
+    );
     Ok(())
 }
