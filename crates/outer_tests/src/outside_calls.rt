@@ -9,39 +9,57 @@ use std::alloc::Global;
 use std::fs;
 use std::test::Fail;
 
+/// Whether a reading of at most so many bytes gives these.
+fn gives<F: Files>(alloc: Global, files: &mut F, name: &str, most: u64, bytes: &[u8]) -> bool {
+    match read_whole(alloc, files, name, most) {
+        Ok(read) => read.as_slice() == bytes,
+        Err(_) => false,
+    }
+}
+
+/// The fault of a reading of at most so many bytes, if it has one.
+fn fault_of<F: Files>(alloc: Global, files: &mut F, name: &str, most: u64) -> Option<ReadFault> {
+    read_whole(alloc, files, name, most).err()
+}
+
+/// A file that was given twice, and one that is absent.
+fn mem_files(alloc: Global) -> Result<MemFiles, NoMemory> {
+    let first = Vec::from_slice(alloc, b"first")?;
+    let second = Vec::from_slice(alloc, b"second")?;
+    let mut files = MemFiles::new(alloc);
+    files.give(alloc, "a", Some(first), Vec::new(alloc))?;
+    files.give(alloc, "b", None, Vec::new(alloc))?;
+    files.give(alloc, "a", Some(second), Vec::new(alloc))?;
+    Ok(files)
+}
+
 #[test]
 fn files_in_memory_give_what_they_were_given(rt: HostRuntime) -> Result<(), Fail> {
     let alloc = rt.alloc();
-    let mut files = MemFiles::new(alloc);
-    let bytes = Vec::from_slice(alloc, b"first")?;
-    files.give(alloc, "a", Some(bytes), Vec::new(alloc))?;
-    files.give(alloc, "b", None, Vec::new(alloc))?;
-    let again = Vec::from_slice(alloc, b"second")?;
-    files.give(alloc, "a", Some(again), Vec::new(alloc))?;
-    let read = read_whole(alloc, &mut files, "a", 6)?;
-    assert_eq!(rt; read.as_slice(), b"second".as_slice());
-    let unknown = read_whole(alloc, &mut files, "c", 0)?;
-    assert!(rt; unknown.is_empty());
-    let long = read_whole(alloc, &mut files, "a", 5).err();
-    assert_eq!(rt; long, Some(ReadFault::TooLong));
-    assert_eq!(rt; files.faults("a"), 0);
-    let absent = read_whole(alloc, &mut files, "b", 5).err();
-    assert_eq!(rt; absent, Some(ReadFault::Outside));
-    assert_eq!(rt; files.faults("b"), 1);
+    let mut files = mem_files(alloc)?;
+    assert!(rt; gives(alloc, &mut files, "a", 6, b"second"));
+    assert!(rt; gives(alloc, &mut files, "c", 0, b""));
+    let long = fault_of(alloc, &mut files, "a", 5);
+    let absent = fault_of(alloc, &mut files, "b", 5);
+    assert_eq!(rt;
+        [long, absent],
+        [Some(ReadFault::TooLong), Some(ReadFault::Outside)]
+    );
+    assert_eq!(rt; [files.faults("a"), files.faults("b")], [0, 1]);
     Ok(())
 }
 
 #[test]
 fn sure_files_give_what_they_were_given(rt: HostRuntime) -> Result<(), Fail> {
     let alloc = rt.alloc();
+    let bytes = Vec::from_slice(alloc, b"some bytes")?;
     let mut files = SureFiles::new(alloc);
-    files.give(alloc, "a", Vec::from_slice(alloc, b"some bytes")?)?;
-    let read = read_whole(alloc, &mut files, "a", 10)?;
-    assert_eq!(rt; read.as_slice(), b"some bytes".as_slice());
+    files.give(alloc, "a", bytes)?;
+    assert!(rt; gives(alloc, &mut files, "a", 10, b"some bytes"));
     let mut piece = [0; 4];
-    assert_eq!(rt; files.read_at("a", 7, &mut piece), Ok(3));
-    assert_eq!(rt; piece, *b"tes\0");
-    assert_eq!(rt; files.read_at("b", 0, &mut piece), Ok(0));
+    let behind = files.read_at("a", 7, &mut piece);
+    let unknown = files.read_at("b", 0, &mut piece);
+    assert_eq!(rt; (behind, unknown, piece), (Ok(3), Ok(0), *b"tes\0"));
     Ok(())
 }
 
@@ -100,41 +118,57 @@ fn each_failing_writing_leaves_what_came_before(rt: HostRuntime) -> Result<(), F
 }
 
 #[test]
-fn sinks_without_room_or_pieces_fail(rt: HostRuntime) -> Result<(), Fail> {
-    let alloc = rt.alloc();
-    let mut full = SureSink::new(alloc, 3)?;
-    assert_eq!(rt; write_all(&mut full, b"abc"), Ok(()));
-    assert_eq!(rt; full.faults(), 0);
-    assert_eq!(rt; write_all(&mut full, b"d"), Err(Failed));
-    assert_eq!(rt; full.bytes(), b"abc".as_slice());
-    assert_eq!(rt; full.faults(), 1);
-    let mut idle = MemSink::new(alloc, 3, 0, Vec::new(alloc))?;
-    assert_eq!(rt; idle.write(b"abc"), Ok(0));
-    assert_eq!(rt; write_all(&mut idle, b"abc"), Err(Failed));
-    assert_eq!(rt; idle.faults(), 2);
+fn a_sink_without_room_fails(rt: HostRuntime) -> Result<(), Fail> {
+    let mut full = SureSink::new(rt.alloc(), 3)?;
+    let written = [write_all(&mut full, b"abc"), write_all(&mut full, b"d")];
+    assert_eq!(rt; written, [Ok(()), Err(Failed)]);
+    assert_eq!(rt; (full.bytes(), full.faults()), (b"abc".as_slice(), 1));
+    Ok(())
+}
+
+#[test]
+fn a_sink_without_pieces_fails(rt: HostRuntime) -> Result<(), Fail> {
+    let mut idle = MemSink::new(rt.alloc(), 3, 0, Vec::new(rt.alloc()))?;
+    let first = idle.write(b"abc");
+    let second = write_all(&mut idle, b"abc");
+    assert_eq!(rt; (first, second, idle.faults()), (Ok(0), Err(Failed), 2));
+    Ok(())
+}
+
+#[test]
+fn what_is_dropped_is_accepted(rt: HostRuntime) {
     assert_eq!(rt; write_all(&mut DropSink, b"abc"), Ok(()));
     OpenGate.pass(0, 0);
-    Ok(())
+}
+
+#[test]
+fn an_absent_file_fails(rt: HostRuntime) {
+    let mut files = OsFiles::new(rt);
+    let absent = fault_of(rt.alloc(), &mut files, "absent", 100);
+    assert_eq!(rt; absent, Some(ReadFault::Outside));
+    assert_eq!(rt; files.faults("written"), 1, "the one count of all names");
 }
 
 #[test]
 fn a_written_file_is_read_back(rt: HostRuntime) -> Result<(), Fail> {
     let alloc = rt.alloc();
-    let mut files = OsFiles::new(rt);
-    let absent = read_whole(alloc, &mut files, "absent", 100).err();
-    assert_eq!(rt; absent, Some(ReadFault::Outside));
-    assert_eq!(rt; files.faults("written"), 1, "the one count of all names");
     let mut sink = FileSink::new(rt, String::from_str(alloc, "written")?);
-    assert_eq!(rt; write_all(&mut sink, b"some "), Ok(()));
-    assert_eq!(rt; write_all(&mut sink, b"bytes"), Ok(()));
-    let read = read_whole(alloc, &mut files, "written", 100)?;
+    let written = [
+        write_all(&mut sink, b"some "),
+        write_all(&mut sink, b"bytes"),
+    ];
+    let is_read = gives(alloc, &mut OsFiles::new(rt), "written", 100, b"some bytes");
     fs::remove_file(&rt, "written")?;
-    assert_eq!(rt; read.as_slice(), b"some bytes".as_slice());
+    assert_eq!(rt; (written, is_read), ([Ok(()), Ok(())], true));
+    Ok(())
+}
+
+#[test]
+fn standard_output_is_written(rt: HostRuntime) {
     assert_eq!(rt;
         write_all(&mut StdSink::new(rt), b"to standard output\n"),
         Ok(())
     );
-    Ok(())
 }
 
 /// A file of two pieces, under a name with blanks at its ends.
@@ -143,12 +177,14 @@ fn a_long_file_with_an_odd_name_is_read_back(rt: HostRuntime) -> Result<(), Fail
     let alloc = rt.alloc();
     let bytes = counted(alloc, 70_000)?;
     let mut sink = FileSink::new(rt, String::from_str(alloc, " odd name ")?);
-    assert_eq!(rt; write_all(&mut sink, &bytes), Ok(()));
+    let written = write_all(&mut sink, &bytes);
     let mut files = OsFiles::new(rt);
-    let read = read_whole(alloc, &mut files, " odd name ", 70_000)?;
-    let trimmed = read_whole(alloc, &mut files, "odd name", 70_000).err();
+    let is_read = gives(alloc, &mut files, " odd name ", 70_000, &bytes);
+    let trimmed = fault_of(alloc, &mut files, "odd name", 70_000);
     fs::remove_file(&rt, " odd name ")?;
-    assert!(rt; read == bytes);
-    assert_eq!(rt; trimmed, Some(ReadFault::Outside));
+    assert_eq!(rt;
+        (written, is_read, trimmed),
+        (Ok(()), true, Some(ReadFault::Outside))
+    );
     Ok(())
 }
