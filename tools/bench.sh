@@ -7,7 +7,7 @@ set -eu
 tools=$(cd "$(dirname "$0")" && pwd)
 folder=$(mktemp -d)
 trap 'rm -rf "$folder"' EXIT
-"$tools/build_in_clone.sh" "$folder/repository" turns patched_turns logs 2>/dev/null
+"$tools/build_in_clone.sh" "$folder/repository" turns patched_turns logs
 cd "$folder/repository/crates"
 instructions() {
   valgrind --tool=callgrind --callgrind-out-file=/dev/null "$@" 2>&1 | sed -n 's/.*Collected : //p'

@@ -8,7 +8,7 @@ top=$(cd "$(dirname "$0")/.." && pwd)
 paradyn=$top/crates/paradyn/out/paradyn
 folder=$(mktemp -d)
 trap 'rm -rf "$folder"' EXIT
-"$top/tools/build_in_clone.sh" "$folder/repository" turns 2>/dev/null
+"$top/tools/build_in_clone.sh" "$folder/repository" turns
 plain=$folder/repository/crates/turns/out/turns
 cd "$folder"
 

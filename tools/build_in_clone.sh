@@ -22,6 +22,7 @@ for name in turns patched_turns logs; do
   crate=$clone/crates/$name
   mkdir -p "$crate/src"
   cp "$top/tools/$name.rs" "$crate/src/main.rt"
+  file=
   if [ -f "$top/tools/$name.proofs" ]; then
     while IFS= read -r line; do
       case $line in
@@ -30,7 +31,7 @@ for name in turns patched_turns logs; do
           mkdir -p "$(dirname "$file")"
           : >"$file"
           ;;
-        *) if [ -n "${file:-}" ]; then printf '%s\n' "$line" >>"$file"; fi ;;
+        *) if [ -n "$file" ]; then printf '%s\n' "$line" >>"$file"; fi ;;
       esac
     done <"$top/tools/$name.proofs"
   fi

@@ -17,9 +17,7 @@ ghost use Rattle.patched_turns.specs.Linkings.{linking_of};
 ghost use Rattle.pn_types.specs.Images.{IsImage};
 
 use machine::Machine;
-use pn_types::{
-    Act, HartNo, Image, NoMemory, Placed, PlacedSite, Segment, Seq, Stmt, Text, Var,
-};
+use pn_types::{Act, HartNo, Image, NoMemory, Placed, PlacedSite, Segment, Seq, Stmt, Text, Var};
 use prim_code::compile;
 use rv_word::first_scratch;
 use std::alloc::Global;
