@@ -1,5 +1,5 @@
 use Rattle.std.proofs.Common.{◌≡◌, false}
-use Rattle.session_rows.proofs.along.follow.Given as goal
+use Rattle.top_cases.proofs.along.follow.Given as goal
 
 abbrev pub invariant-quanta : goal.invariant-quanta
 invariant-quanta l = record {

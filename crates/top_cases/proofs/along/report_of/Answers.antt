@@ -3,7 +3,7 @@ use Rattle.std.specs.List.{AllByRecursion}
 use Rattle.quanta_log.specs.Spelling.{IsQuantum}
 use Rattle.session.specs.Sessions.{SessionData}
 use Rattle.session_spec.specs.Inputs.{Inputs}
-use Rattle.session_rows.proofs.along.report_of.Goals as goal
+use Rattle.top_cases.proofs.along.report_of.Goals as goal
 
 pub follow-requires-clause-going : goal.follow-requires-clause-going
 follow-requires-clause-going c = ap (λ (s : SessionData). s.closed) c.in-Ok.ensures.begun
