@@ -6,7 +6,7 @@ ghost use Rattle.command_words.specs.Walked.{form_seen};
 use crate::forms::Form;
 
 /// The commands.
-#[derive(Clone, Copy, Debug, PartialEq, Eq, Drop)]
+#[derive(Clone, Copy, PartialEq, Eq, Drop)]
 pub enum CommandName {
     Run,
     Live,

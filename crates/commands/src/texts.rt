@@ -5,7 +5,7 @@ use pn_types::Seq;
 use std::alloc::Global;
 
 /// The bytes that an answer has for the output and for the log.
-#[derive(Drop, Debug)]
+#[derive(Drop)]
 pub struct Texts {
     pub out: Seq<u8>,
     pub log: Seq<u8>,

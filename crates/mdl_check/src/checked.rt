@@ -17,7 +17,6 @@ pub struct CheckedWish {
 }
 
 /// The items of a configuration, those of an include in its place.
-#[derive(Debug)]
 pub struct Checked {
     /// The metrics.
     pub metrics: Seq<Metric>,
