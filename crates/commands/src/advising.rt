@@ -31,11 +31,7 @@ fn advised(alloc: Global, report: &[u8]) -> Result<Texts, Refusal>
 }
 
 /// What is due for `advise`.
-pub fn advise_from<F: Files>(
-    alloc: Global,
-    name: &str,
-    files: &mut F,
-) -> Result<Texts, Refusal>
+pub fn advise_from<F: Files>(alloc: Global, name: &str, files: &mut F) -> Result<Texts, Refusal>
     ensures due { Comes result (IsAdviceDue name.now (seen (F.holds files.old) (F.faults files.old) (F.faults files.new))) }
     ensures looks { Looks F.holds F.faults files.old files.new result }
 {

@@ -31,11 +31,7 @@ fn read_program_file<F: Files>(alloc: Global, files: &mut F, name: &str) -> Resu
 }
 
 /// Reads a program file, and gives its image.
-pub fn read_program<F: Files>(
-    alloc: Global,
-    files: &mut F,
-    name: &str,
-) -> Result<Image, Refusal>
+pub fn read_program<F: Files>(alloc: Global, files: &mut F, name: &str) -> Result<Image, Refusal>
     ensures program { Comes result (IsProgram (seen (F.holds files.old) (F.faults files.old) (F.faults files.new)) name.now) }
     ensures image { IfOk result IsImage }
     ensures modules { IfOk result AreModulesGood }
@@ -47,11 +43,7 @@ pub fn read_program<F: Files>(
 }
 
 /// Reads an assembly text, and gives its ELF file.
-pub fn read_text<F: Files>(
-    alloc: Global,
-    files: &mut F,
-    name: &str,
-) -> Result<Seq<u8>, Refusal>
+pub fn read_text<F: Files>(alloc: Global, files: &mut F, name: &str) -> Result<Seq<u8>, Refusal>
     ensures file { Comes result (IsElfFile (seen (F.holds files.old) (F.faults files.old) (F.faults files.new)) name.now) }
     ensures looks { Looks F.holds F.faults files.old files.new result }
 {

@@ -29,11 +29,7 @@ fn points_of_image(alloc: Global, image: &Image) -> Result<Vec<u8>, NoMemory>
 }
 
 /// What is due for `points`.
-pub fn list_points<F: Files>(
-    alloc: Global,
-    program: &str,
-    files: &mut F,
-) -> Result<Texts, Refusal>
+pub fn list_points<F: Files>(alloc: Global, program: &str, files: &mut F) -> Result<Texts, Refusal>
     ensures due { Comes result (ArePoints program.now (seen (F.holds files.old) (F.faults files.old) (F.faults files.new))) }
     ensures looks { Looks F.holds F.faults files.old files.new result }
 {
@@ -43,11 +39,7 @@ pub fn list_points<F: Files>(
 }
 
 /// What is due for `asm`.
-pub fn write_elf<F: Files>(
-    alloc: Global,
-    text: &str,
-    files: &mut F,
-) -> Result<Texts, Refusal>
+pub fn write_elf<F: Files>(alloc: Global, text: &str, files: &mut F) -> Result<Texts, Refusal>
     ensures due { Comes result (IsAssembled text.now (seen (F.holds files.old) (F.faults files.old) (F.faults files.new))) }
     ensures looks { Looks F.holds F.faults files.old files.new result }
 {

@@ -9,8 +9,8 @@ ghost use Rattle.refusals.specs.Refusals.{Comes};
 
 use command_words::{Request, WordFault, read_request};
 use commands::{
-    Texts, advise_from, blocks, direct, list_points, live, relog, replay, run, show_plan, stress, view,
-    write_elf,
+    Texts, advise_from, blocks, direct, list_points, live, relog, replay, run, show_plan, stress,
+    view, write_elf,
 };
 use outside::{Files, Gate};
 use refusals::{Fault, Refusal};
