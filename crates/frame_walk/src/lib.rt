@@ -7,8 +7,6 @@ mod entering;
 mod frame;
 mod laws;
 mod opening;
-#[cfg(test)]
-mod tests;
 mod walk_start;
 
 pub use frame::Frame;

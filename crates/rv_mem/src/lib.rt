@@ -4,8 +4,6 @@
 mod mem;
 mod region;
 mod start;
-#[cfg(test)]
-mod tests;
 mod window;
 
 pub use mem::Mem;

@@ -7,8 +7,6 @@ mod line;
 mod making;
 mod publisher;
 mod sight;
-#[cfg(test)]
-mod tests;
 
 pub use dial::{Gauge, GaugeReader, GaugeWriter, Reading};
 pub use making::gauge;

@@ -1,0 +1,57 @@
+//! Blocks that are unlinked under a hart.
+
+use crate::blocks::{counter, mini};
+use crate::unlinking::{Renewal, passed_by, renew};
+use machine::Taken;
+use pn_types::NoMemory;
+use std::alloc::Global;
+use std::test::Fail;
+
+/// The turns of the hart that is inside until it is outside: its own word is among them.
+const LEFT: Taken = Taken {
+    turns: 12,
+    ticks: 1,
+};
+
+const NONE: Taken = Taken { turns: 0, ticks: 0 };
+
+/// Whether all harts are outside before a renewal and behind it, what the renewal met, and how long the output is.
+fn renew_once(alloc: Global) -> Result<([bool; 2], Renewal, usize), NoMemory> {
+    let fourth = counter(alloc, 2, 0x11010)?;
+    let block = mini(alloc, 2, 0x11010, 0x11038)?;
+    let mut machine = passed_by(alloc)?;
+    let before = machine.quiet();
+    let renewal = renew(&mut machine, &block, &fourth);
+    Ok(([before, machine.quiet()], renewal, machine.output().len()))
+}
+
+#[test]
+fn unlinked_blocks_are_freed_once_left(rt: HostRuntime) -> Result<(), Fail> {
+    let renewal = Renewal {
+        held: false,
+        settled: LEFT,
+        freed: true,
+    };
+    assert_eq!(rt; renew_once(rt.alloc())?, ([false, true], renewal, 0));
+    Ok(())
+}
+
+/// Whether the third counter is armed under a hart and once all are outside, and the second then; and what settling took, twice.
+fn arm_around(alloc: Global) -> Result<([bool; 3], [Taken; 2]), NoMemory> {
+    let third = counter(alloc, 4, 0x11038)?;
+    let second = counter(alloc, 3, 0x11024)?;
+    let mut machine = passed_by(alloc)?;
+    let under = machine.arm(&third);
+    let settled = [machine.settle(), machine.settle()];
+    let outside = machine.arm(&third);
+    Ok(([under, outside, machine.arm(&second)], settled))
+}
+
+#[test]
+fn nothing_is_armed_under_a_hart(rt: HostRuntime) -> Result<(), Fail> {
+    assert_eq!(rt;
+        arm_around(rt.alloc())?,
+        ([false, true, false], [LEFT, NONE])
+    );
+    Ok(())
+}
