@@ -1,11 +1,14 @@
 #!/usr/bin/env bash
 # Notes how fast the machines are: the host's instructions a turn, which are the same from run to run, and the turns a second, three
 # times, of a counting loop on the unpatched machine and on the patched one with no patch, and of a loop of one word that an
-# instrument counts. Run it at the top of the repository, on a machine with the Rattle kit and valgrind.
+# instrument counts. Then the host's instructions for a quantum of a log that is read and written. Run it on a machine with the Rattle
+# kit and valgrind: the programs are built in a clone of the repository, by build_in_clone.sh.
 set -eu
-cd "$(dirname "$0")/../crates"
-(cd turns && rt run -- 1000) >/dev/null 2>&1
-(cd patched_turns && rt run -- 1000) >/dev/null 2>&1
+tools=$(cd "$(dirname "$0")" && pwd)
+folder=$(mktemp -d)
+trap 'rm -rf "$folder"' EXIT
+"$tools/build_in_clone.sh" "$folder/repository" turns patched_turns logs 2>/dev/null
+cd "$folder/repository/crates"
 instructions() {
   valgrind --tool=callgrind --callgrind-out-file=/dev/null "$@" 2>&1 | sed -n 's/.*Collected : //p'
 }
@@ -27,3 +30,7 @@ echo "cores: $(nproc)"
 note 200000000 turns/out/turns
 note 100000000 patched_turns/out/patched_turns unpatched
 note 100000000 patched_turns/out/patched_turns
+echo logs/out/logs
+once=$(instructions logs/out/logs 1000000 1)
+twice=$(instructions logs/out/logs 1000000 2)
+awk -v once="$once" -v twice="$twice" 'BEGIN { printf "  host instructions a quantum: %.1f\n", (twice - once) / 1000000 }'

@@ -2,13 +2,14 @@
 # Notes what a run costs beside the unpatched machine, in one go: for each case the host's instructions a tick (callgrind's, the
 # same from run to run; what a run of fewer ticks takes is taken off) and the ticks a second, the best of five. Then what a node of
 # the search costs where its nodes double, and where nodes and procedures double. Run it at the top of the repository, on a machine
-# with valgrind, where `rt run` built crates/turns and crates/paradyn.
+# with the Rattle kit and valgrind, where `rt run` built crates/paradyn; tools/turns.rs is built in a clone, by build_in_clone.sh.
 set -eu
 top=$(cd "$(dirname "$0")/.." && pwd)
-plain=$top/crates/turns/out/turns
 paradyn=$top/crates/paradyn/out/paradyn
 folder=$(mktemp -d)
 trap 'rm -rf "$folder"' EXIT
+"$top/tools/build_in_clone.sh" "$folder/repository" turns 2>/dev/null
+plain=$folder/repository/crates/turns/out/turns
 cd "$folder"
 
 cat >loop.s <<'TEXT'

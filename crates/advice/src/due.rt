@@ -13,7 +13,7 @@ use pn_types::{NoMemory, Text};
 use std::alloc::Global;
 
 /// What the next line of a report must be.
-#[derive(Clone, Copy, Debug, Drop)]
+#[derive(Clone, Copy, Drop)]
 pub enum Due {
     /// The format's name.
     Title,

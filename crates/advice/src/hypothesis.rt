@@ -16,7 +16,7 @@ use std::alloc::Global;
 pub const MAX_THRESHOLD: u32 = 2_147_483_647;
 
 /// A hypothesis, and what is advised for it.
-#[derive(Drop, Debug)]
+#[derive(Drop)]
 pub struct Hypothesis {
     /// Its name.
     pub name: Text,

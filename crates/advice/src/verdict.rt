@@ -1,7 +1,7 @@
 use pn_types::Text;
 
 /// What the test of a hypothesis at a focus showed.
-#[derive(Drop, Debug)]
+#[derive(Drop)]
 pub struct Verdict {
     /// The hypothesis's name.
     pub hypothesis: Text,

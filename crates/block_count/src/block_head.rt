@@ -1,5 +1,5 @@
 /// A basic block of a program: words that are executed one after another, from the first on.
-#[derive(Clone, Copy, Debug, PartialEq, Eq, Drop)]
+#[derive(Clone, Copy, PartialEq, Eq, Drop)]
 pub struct BlockHead {
     /// The address of its first word.
     pub at: u64,

@@ -1,7 +1,7 @@
 use pn_types::{NoMemory, Seq, StopText};
 
 /// How a hart ended, and where.
-#[derive(Clone, Copy, Debug, PartialEq, Eq, Drop)]
+#[derive(Clone, Copy, PartialEq, Eq, Drop)]
 pub struct HartStop {
     /// How it ended.
     pub stop: StopText,
@@ -10,7 +10,7 @@ pub struct HartStop {
 }
 
 /// How often the blocks of a program were executed.
-#[derive(Drop, Debug)]
+#[derive(Drop)]
 pub struct Counts {
     /// How many words each hart executed.
     pub ticks: Seq<u64>,

@@ -11,7 +11,6 @@ pub const BUCKETS: u32 = 8_191;
 
 /// A list of entries, each in the bucket of its key, which is the key modulo [`BUCKETS`]. An entry that was taken out keeps its place,
 /// and is in no bucket. Contracts see the bucket of each entry, by place, and for how many more entries there is room.
-#[derive(Drop)]
 pub struct Chains {
     buckets: Vec<Option<u32>>,
     // For each entry the places of the next in its bucket and of the one before it.
@@ -35,6 +34,20 @@ impl Model for Chains {
     ghost invariant = { λ c.
         IsChained c.buckets.items c.next.items c.previous.items c.first.items c.last.items
         × HasRoom (vec_len c.buckets) (vec_capacity c.buckets) (vec_capacity c.next) (vec_capacity c.previous) c.room };
+}
+
+// By a call of its own: what drops it need not prove the drops of all its parts.
+impl Drop for Chains {
+    fn drop(self) {
+        let Chains {
+            buckets: _,
+            next: _,
+            previous: _,
+            first: _,
+            last: _,
+            room: _,
+        } = self;
+    }
 }
 
 /// The number of a key's bucket.

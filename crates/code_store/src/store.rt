@@ -23,7 +23,6 @@ use tramp_spec::{Block, MarkedWord};
 /// The words of a program's text and of the tool text behind it, as harts fetch them, and the points of the blocks in the
 /// tool text. Contracts see the program's words, the map of marked words, and the map of owners. Only [`Store::new`] takes
 /// memory.
-#[derive(Drop)]
 pub struct Store {
     /// The program's words, which stay.
     words: Vec<u32>,
@@ -48,6 +47,19 @@ impl Model for Store {
     ghost view = { λ s. record { program = record { at = s.text.at; words = s.words.items }; code = code_of s.text.at s.text.slots.items s.tool.at s.tool.slots.items s.uses.items; owners = owners_of s.tool.at s.uses.items } };
 
     ghost invariant = { λ s. FitTogether s.words.items s.text.at s.text.slots.items s.flats.items s.tool.at s.tool.slots.items s.uses.items };
+}
+
+// By a call of its own: what drops it need not prove the drops of all its parts.
+impl Drop for Store {
+    fn drop(self) {
+        let Store {
+            words: _,
+            text: _,
+            flats: _,
+            tool: _,
+            uses: _,
+        } = self;
+    }
 }
 
 impl Store {

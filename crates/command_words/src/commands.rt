@@ -6,7 +6,7 @@ ghost use Rattle.command_words.specs.Walked.{form_seen};
 use crate::forms::Form;
 
 /// The commands.
-#[derive(Clone, Copy, Debug, PartialEq, Eq, Drop)]
+#[derive(Clone, Copy, PartialEq, Eq, Drop)]
 pub enum CommandName {
     Run,
     Live,
@@ -87,6 +87,70 @@ const DIRECT_OPTIONS: [&str; 8] = [
     "start",
 ];
 
+/// What each command takes, in the order of the commands.
+const FORMS: [Form; 12] = [
+    Form {
+        word: "run",
+        places: &["program", "conf"],
+        options: &RUN_OPTIONS,
+    },
+    Form {
+        word: "live",
+        places: &["program", "conf"],
+        options: &LIVE_OPTIONS,
+    },
+    Form {
+        word: "replay",
+        places: &["program", "conf", "record"],
+        options: &[],
+    },
+    Form {
+        word: "asm",
+        places: &["text"],
+        options: &[],
+    },
+    Form {
+        word: "points",
+        places: &["program"],
+        options: &[],
+    },
+    Form {
+        word: "plan",
+        places: &["program", "conf", "metric", "focus"],
+        options: &["harts"],
+    },
+    Form {
+        word: "stress",
+        places: &["procs", "seed"],
+        options: &[],
+    },
+    Form {
+        word: "relog",
+        places: &["record"],
+        options: &[],
+    },
+    Form {
+        word: "blocks",
+        places: &["program"],
+        options: &BLOCKS_OPTIONS,
+    },
+    Form {
+        word: "visi",
+        places: &["program", "conf"],
+        options: &VISI_OPTIONS,
+    },
+    Form {
+        word: "advise",
+        places: &["report"],
+        options: &[],
+    },
+    Form {
+        word: "direct",
+        places: &["program", "conf", "directives"],
+        options: &DIRECT_OPTIONS,
+    },
+];
+
 /// The first of some commands whose word this is.
 fn first_named(commands: &[CommandName], word: &str) -> Option<CommandName>
     ensures { result ≡ find (λ name. bytes_eq (form_of name).word word.now) commands.now }
@@ -99,28 +163,7 @@ impl CommandName {
     pub fn form(self) -> Form
         ensures { form_seen result ≡ form_of self }
     {
-        match self {
-            CommandName::Run => Form::new("run", &["program", "conf"], &RUN_OPTIONS),
-            CommandName::Live => Form::new("live", &["program", "conf"], &LIVE_OPTIONS),
-            CommandName::Replay => Form::new("replay", &["program", "conf", "record"], &[]),
-            CommandName::Asm => Form::new("asm", &["text"], &[]),
-            CommandName::Points => Form::new("points", &["program"], &[]),
-            CommandName::Plan => {
-                Form::new("plan", &["program", "conf", "metric", "focus"], &["harts"])
-            }
-            CommandName::Stress => Form::new("stress", &["procs", "seed"], &[]),
-            CommandName::Relog => Form::new("relog", &["record"], &[]),
-            CommandName::Blocks => Form::new("blocks", &["program"], &BLOCKS_OPTIONS),
-            CommandName::Visi => Form::new("visi", &["program", "conf"], &VISI_OPTIONS),
-            CommandName::Advise => Form::new("advise", &["report"], &[]),
-            CommandName::Direct => {
-                Form::new(
-                    "direct",
-                    &["program", "conf", "directives"],
-                    &DIRECT_OPTIONS,
-                )
-            }
-        }
+        FORMS[self as usize]
     }
 
     fn word(self) -> &'static str

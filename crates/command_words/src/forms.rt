@@ -17,22 +17,3 @@ pub struct Form {
     pub options: &'static [&'static str],
     ghost few: { length places.now + length options.now ≤ MAX_NAMES },
 }
-
-impl Form {
-    pub const fn new(
-        word: &'static str,
-        places: &'static [&'static str],
-        options: &'static [&'static str],
-    ) -> Form
-        requires { length places.now + length options.now ≤ MAX_NAMES }
-        ensures word { result.word ≡ word.entry }
-        ensures places { result.places ≡ places.entry }
-        ensures options { result.options ≡ options.entry }
-    {
-        Form {
-            word,
-            places,
-            options,
-        }
-    }
-}

@@ -3,7 +3,7 @@
 use pn_types::Text;
 
 /// What a directive does to the hypotheses of a search.
-#[derive(Drop, Debug)]
+#[derive(Drop)]
 pub enum DirectiveAct {
     /// Takes away the hypothesis of this name, and all that have it as an ancestor: `prune NAME;`.
     Prune(Text),
@@ -16,7 +16,7 @@ pub enum DirectiveAct {
 }
 
 /// A directive.
-#[derive(Drop, Debug)]
+#[derive(Drop)]
 pub struct Directive {
     /// The line of its first word, from 1.
     pub line: u32,

@@ -7,7 +7,7 @@ use pn_text::{LexFault, Place};
 use std::alloc::{AllocError, AllocFailed};
 
 /// What kind of fault it is.
-#[derive(Clone, Copy, Debug, PartialEq, Eq, Drop)]
+#[derive(Clone, Copy, PartialEq, Eq, Drop)]
 pub enum DirectiveKind {
     /// No word begins with the byte, or none that goes on as the bytes behind it do.
     BadByte,
@@ -24,7 +24,7 @@ pub enum DirectiveKind {
 }
 
 /// Why directives can't be used.
-#[derive(Clone, Copy, Debug, PartialEq, Eq, Drop)]
+#[derive(Clone, Copy, PartialEq, Eq, Drop)]
 pub enum DirectiveFault {
     /// Memory is wanting.
     NoMemory,

@@ -5,7 +5,7 @@ ghost use Rattle.elf_form.specs.Headers.{begins_as_elf, is_riscv64, has_bad_flag
 use crate::fields::{byte, doubleword, half, reaches_past, word};
 
 /// The fields of the file header that count.
-#[derive(Clone, Copy, Debug, Drop)]
+#[derive(Clone, Copy, Drop)]
 pub struct Header {
     /// The class of `e_ident`.
     pub class: u8,

@@ -8,7 +8,7 @@ use crate::segment::ProgramHeader;
 use pn_types::{MAX_SEGMENTS, SEGMENTS_FROM, SEGMENTS_TO};
 
 /// A segment to be loaded.
-#[derive(Clone, Copy, Debug, Drop)]
+#[derive(Clone, Copy, Drop)]
 pub struct Load {
     /// The index of its program header in the table.
     pub index: u32,

@@ -6,7 +6,7 @@ ghost use Rattle.elf_form.specs.Texts.{is_text, is_other, intrudes, widened};
 use crate::fields::{doubleword, reaches_past, word};
 
 /// The fields of a section header that count.
-#[derive(Clone, Copy, Debug, Drop)]
+#[derive(Clone, Copy, Drop)]
 pub struct SectionHeader {
     /// `sh_type`.
     pub kind: u32,
@@ -25,7 +25,7 @@ pub struct SectionHeader {
 }
 
 /// The addresses from `at` to before `end`.
-#[derive(Clone, Copy, Debug, Drop)]
+#[derive(Clone, Copy, Drop)]
 pub struct TextRange {
     /// The first address.
     pub at: u64,

@@ -5,7 +5,7 @@ ghost use Rattle.elf_form.specs.Segments.{is_load};
 use crate::fields::{doubleword, word};
 
 /// The fields of a program header that count.
-#[derive(Clone, Copy, Debug, Drop)]
+#[derive(Clone, Copy, Drop)]
 pub struct ProgramHeader {
     /// `p_type`.
     pub kind: u32,

@@ -9,7 +9,7 @@ use pn_types::SymKind;
 pub const MAX_NAMES_LEN: u64 = 67_108_864;
 
 /// The fields of a symbol table's entry that count.
-#[derive(Clone, Copy, Debug, Drop)]
+#[derive(Clone, Copy, Drop)]
 pub struct SymbolEntry {
     /// `st_name`.
     pub name: u32,

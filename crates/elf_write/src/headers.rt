@@ -11,7 +11,7 @@ use pn_types::{NoMemory, Segment};
 const IDENT: [u8; 16] = [0x7f, 0x45, 0x4c, 0x46, 2, 1, 1, 0, 0, 0, 0, 0, 0, 0, 0, 0];
 
 /// The fields of a section header; no section has a name.
-#[derive(Clone, Copy, Debug, Drop)]
+#[derive(Clone, Copy, Drop)]
 pub struct Section {
     /// `sh_type`.
     pub kind: u32,

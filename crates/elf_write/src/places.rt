@@ -8,7 +8,7 @@ use crate::fields::padding;
 use pn_types::Segment;
 
 /// Where the parts of a file stand, in bytes from its beginning.
-#[derive(Clone, Copy, Debug, Drop)]
+#[derive(Clone, Copy, Drop)]
 pub struct Places {
     /// The text.
     pub text: u64,

@@ -28,7 +28,7 @@ const NULL: Entry = Entry {
 };
 
 /// An entry of the symbol table, but for its name.
-#[derive(Clone, Copy, Debug, Drop)]
+#[derive(Clone, Copy, Drop)]
 pub struct Entry {
     /// `st_info`.
     pub info: u8,

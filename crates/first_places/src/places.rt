@@ -13,7 +13,6 @@ use std::alloc::Global;
 use std::marker::Model;
 
 /// A list of names, and where each of them stands first.
-#[derive(Drop)]
 pub struct FirstPlaces {
     names: Vec<Text>,
     places: IndexMap<Vec<u8>, usize>,
@@ -28,6 +27,16 @@ impl Model for FirstPlaces {
     ghost view = { λ f. f.names.items };
 
     ghost invariant = { λ f. AreFirst (λ key. key.items) f.names.items f.places.entries };
+}
+
+// By a call of its own: what drops it need not prove the drops of all its parts.
+impl Drop for FirstPlaces {
+    fn drop(self) {
+        let FirstPlaces {
+            names: _,
+            places: _,
+        } = self;
+    }
 }
 
 /// Notes the place of a name, unless one is noted already, and says whether one was. Where memory is short all stays as it was.

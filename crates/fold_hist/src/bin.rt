@@ -3,7 +3,7 @@ ghost use Rattle.fold_hist.specs.Steps.{joined};
 
 /// The sum of samples that follow each other, from the beginning of the first to the end of the last. A sample is a bin of
 /// one.
-#[derive(Clone, Copy, Debug, PartialEq, Eq, Drop)]
+#[derive(Clone, Copy, PartialEq, Eq, Drop)]
 pub struct Bin {
     /// The tick at which the first sample begins.
     pub from: u64,

@@ -7,7 +7,7 @@ use rv_mem::Mem;
 use rv_word::MemStop;
 
 /// What a procedure keeps in the 16 bytes below its frame pointer.
-#[derive(Clone, Copy, Debug, PartialEq, Eq, Drop)]
+#[derive(Clone, Copy, PartialEq, Eq, Drop)]
 pub struct Frame {
     /// The address to which it returns, from the doubleword 8 below the frame pointer.
     pub return_address: u64,

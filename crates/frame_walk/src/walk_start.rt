@@ -1,5 +1,5 @@
 /// Where the walk of a hart starts that isn't stopped.
-#[derive(Clone, Copy, Debug, PartialEq, Eq, Drop)]
+#[derive(Clone, Copy, PartialEq, Eq, Drop)]
 pub struct WalkStart {
     /// Its pc.
     pub pc: u64,

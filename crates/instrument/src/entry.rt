@@ -4,7 +4,7 @@ ghost use Rattle.instrument.specs.Books as books;
 use tramp_spec::Block;
 
 /// An entry of the agenda.
-#[derive(Drop, Debug)]
+#[derive(Drop)]
 pub enum Entry {
     /// A base block is to be written.
     WriteBase(Block),

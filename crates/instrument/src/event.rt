@@ -5,7 +5,7 @@ use crate::entry::Entry;
 use tramp_spec::Block;
 
 /// What is to be done in the machine next.
-#[derive(Drop, Debug)]
+#[derive(Drop)]
 pub enum Event {
     /// This base block is written.
     WriteBase(Block),

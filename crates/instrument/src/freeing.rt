@@ -10,7 +10,7 @@ use crate::entry::Entry;
 use std::collections::VecDeque;
 
 /// A Free of the agenda.
-#[derive(Clone, Copy, Debug, PartialEq, Eq, Drop)]
+#[derive(Clone, Copy, PartialEq, Eq, Drop)]
 pub struct FreeAt {
     /// Its place in the agenda.
     pub place: usize,

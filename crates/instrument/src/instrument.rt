@@ -2,7 +2,7 @@ use crate::number::State;
 use pn_types::Placed;
 
 /// An instrument that isn't gone.
-#[derive(Drop, Debug)]
+#[derive(Drop)]
 pub struct Instrument {
     /// Its number among all that were admitted, from 0.
     pub no: u64,

@@ -2,14 +2,14 @@ ghost use Rattle.std.specs.Prelude.{◌≡◌};
 ghost use Rattle.instrument.specs.Placements as placements;
 
 /// The number of an instrument, among all that were admitted.
-#[derive(Clone, Copy, Debug, PartialEq, Eq, Drop)]
+#[derive(Clone, Copy, PartialEq, Eq, Drop)]
 pub struct InstrumentNo {
     /// The number, from 0.
     pub n: u64,
 }
 
 /// Where an instrument is on its way.
-#[derive(Clone, Copy, Debug, PartialEq, Eq, Drop)]
+#[derive(Clone, Copy, PartialEq, Eq, Drop)]
 pub enum State {
     /// It was admitted, and not armed yet.
     Placing,

@@ -5,7 +5,7 @@ ghost use Rattle.instrument.specs.Placements as placements;
 use tramp_spec::Block;
 
 /// How a room of the tool text is kept.
-#[derive(Clone, Copy, Debug, PartialEq, Eq, Drop)]
+#[derive(Clone, Copy, PartialEq, Eq, Drop)]
 pub enum Hold {
     /// Its block stands in the program or will: no unlinking was asked for.
     Held,
@@ -16,7 +16,7 @@ pub enum Hold {
 }
 
 /// A room of the tool text that was taken and not given back.
-#[derive(Clone, Copy, Debug, PartialEq, Eq, Drop)]
+#[derive(Clone, Copy, PartialEq, Eq, Drop)]
 pub struct Room {
     /// The address of the program's word for which its block stands.
     pub point: u64,

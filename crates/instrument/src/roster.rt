@@ -23,7 +23,6 @@ use std::marker::Model;
 use tool_space::Space;
 
 /// The instruments that aren't gone, and the slots beside theirs.
-#[derive(Drop)]
 pub struct Roster {
     // In the order of their numbers.
     instruments: Vec<Instrument>,
@@ -44,6 +43,17 @@ impl Model for Roster {
     ghost view = { λ r. record { instruments = r.instruments.items; room = r.room; takes = r.slots.takes } };
 
     ghost invariant = { λ r. IsRoster r.slots r.instruments.items (vec_len r.instruments) (vec_capacity r.instruments) r.room };
+}
+
+// By a call of its own: what drops it need not prove the drops of all its parts.
+impl Drop for Roster {
+    fn drop(self) {
+        let Roster {
+            instruments: _,
+            slots: _,
+            room: _,
+        } = self;
+    }
 }
 
 impl Roster {

@@ -31,7 +31,6 @@ use std::marker::Model;
 use tool_space::Space;
 
 /// The tool text behind a program: the rooms that were taken there, which words are free beside them, and the agenda.
-#[derive(Drop)]
 pub struct ToolText {
     program: Program,
     ledger: Ledger,
@@ -47,6 +46,17 @@ impl Model for ToolText {
     ghost view = { λ t. text_data t.program t.ledger t.words };
 
     ghost invariant = { λ t. IsToolText t.program t.ledger t.words };
+}
+
+// By a call of its own: what drops it need not prove the drops of all its parts.
+impl Drop for ToolText {
+    fn drop(self) {
+        let ToolText {
+            program: _,
+            ledger: _,
+            words: _,
+        } = self;
+    }
 }
 
 impl ToolText {

@@ -17,7 +17,7 @@ use std::thread::Threads;
 use whole_run::{Recorded, record_end};
 
 /// Who runs a program, and what is asked for of the run.
-#[derive(Clone, Copy, Debug, PartialEq, Eq, Drop)]
+#[derive(Clone, Copy, PartialEq, Eq, Drop)]
 pub struct LiveCourse {
     /// The workers.
     pub team: Team,

@@ -1,5 +1,5 @@
 /// Workers, and what they are to do. Worker w has the harts whose numbers modulo the workers are w.
-#[derive(Clone, Copy, Debug, PartialEq, Eq, Drop)]
+#[derive(Clone, Copy, PartialEq, Eq, Drop)]
 pub struct Team {
     /// How many workers, from 1 to [`MAX_WORKERS`](pn_types::MAX_WORKERS).
     pub workers: u32,

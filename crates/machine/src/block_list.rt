@@ -18,7 +18,6 @@ use std::marker::Model;
 
 /// The blocks that aren't freed, in the order in which they were written. Contracts see the definitions' list of them, and for
 /// how many more there is room.
-#[derive(Drop)]
 pub struct Blocks {
     // By place; none where a block was freed.
     rows: Vec<Option<BlockRow>>,
@@ -42,6 +41,18 @@ impl Model for Blocks {
         (b.places.buckets ≡ buckets_of (λ r. r.point) b.rows.items)
         × (b.room ≤ b.places.room)
         × (length b.rows.items + b.room ≤ vec_capacity b.rows) };
+}
+
+// By a call of its own: what drops it need not prove the drops of all its parts.
+impl Drop for Blocks {
+    fn drop(self) {
+        let Blocks {
+            rows: _,
+            places: _,
+            empty: _,
+            room: _,
+        } = self;
+    }
 }
 
 /// How many words the blocks have.

@@ -9,7 +9,7 @@ use code_store::Store;
 use rv_word::jump_target;
 
 /// How far a block is.
-#[derive(Clone, Copy, Debug, PartialEq, Eq, Drop)]
+#[derive(Clone, Copy, PartialEq, Eq, Drop)]
 pub enum BlockStatus {
     /// It can be linked.
     Written,
@@ -20,7 +20,7 @@ pub enum BlockStatus {
 }
 
 /// A block that isn't freed.
-#[derive(Clone, Copy, Debug, PartialEq, Eq, Drop)]
+#[derive(Clone, Copy, PartialEq, Eq, Drop)]
 pub struct BlockRow {
     /// The point for which it stands.
     pub point: u64,

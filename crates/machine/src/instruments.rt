@@ -15,7 +15,7 @@ use rv_mem::Mem;
 use tramp_spec::Mark;
 
 /// The readings of an instrument, one for each hart by number.
-#[derive(Drop, Debug)]
+#[derive(Drop)]
 pub struct Sample {
     pub readings: Seq<u64>,
 }

@@ -22,7 +22,6 @@ use std::marker::Model;
 
 /// The patched machine: a program on its harts, each with a budget of ticks and a bank for the tool, and the blocks in its
 /// tool text. Contracts see the definitions' state, and for how many more blocks there is room.
-#[derive(Drop)]
 pub struct Machine {
     pub(crate) harts: Vec<HartState>,
     pub(crate) mem: Mem,
@@ -46,6 +45,21 @@ impl Model for Machine {
     ghost view = { λ m. record { core = core_of m.harts.items (prog_of m.mem m.resv m.out) m.store m.blocks.rows m.budget; room = m.blocks.room } };
 
     ghost invariant = { λ m. IsSound m.harts.items (prog_of m.mem m.resv m.out) m.store m.blocks.rows m.budget };
+}
+
+// By a call of its own: what drops it need not prove the drops of all its parts.
+impl Drop for Machine {
+    fn drop(self) {
+        let Machine {
+            harts: _,
+            mem: _,
+            resv: _,
+            out: _,
+            store: _,
+            blocks: _,
+            budget: _,
+        } = self;
+    }
 }
 
 /// Whether no hart is inside a trampoline.

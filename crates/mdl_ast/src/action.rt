@@ -3,7 +3,7 @@
 use pn_types::{Cmp, Seq, Text};
 
 /// A variable.
-#[derive(Drop, Debug)]
+#[derive(Drop)]
 pub enum VarName {
     /// One with this name.
     Named(Text),
@@ -12,7 +12,7 @@ pub enum VarName {
 }
 
 /// The left side of a condition.
-#[derive(Drop, Debug)]
+#[derive(Drop)]
 pub enum LeftName {
     /// A variable.
     Variable(VarName),
@@ -21,7 +21,7 @@ pub enum LeftName {
 }
 
 /// The right side of a condition.
-#[derive(Clone, Copy, Debug, Drop)]
+#[derive(Clone, Copy, Drop)]
 pub enum RightSide {
     /// A number.
     Number(u32),
@@ -30,7 +30,7 @@ pub enum RightSide {
 }
 
 /// A condition of a statement: `if (left cmp right)`.
-#[derive(Drop, Debug)]
+#[derive(Drop)]
 pub struct Condition {
     /// What is compared.
     pub left: LeftName,
@@ -41,7 +41,7 @@ pub struct Condition {
 }
 
 /// What a statement does.
-#[derive(Drop, Debug)]
+#[derive(Drop)]
 pub enum Action {
     /// One more: `v++;`
     Up(VarName),
@@ -56,7 +56,7 @@ pub enum Action {
 }
 
 /// A statement.
-#[derive(Drop, Debug)]
+#[derive(Drop)]
 pub struct Statement {
     /// Its line.
     pub line: u32,

@@ -4,7 +4,7 @@ use crate::action::Statement;
 use pn_types::{Seq, Text};
 
 /// The procedures that a block speaks of.
-#[derive(Drop, Debug)]
+#[derive(Drop)]
 pub enum Set {
     /// Those of the focus: `$focus`.
     Focus,
@@ -15,7 +15,7 @@ pub enum Set {
 }
 
 /// The points of a procedure at which something is inserted.
-#[derive(Clone, Copy, Debug, PartialEq, Eq, Drop)]
+#[derive(Clone, Copy, PartialEq, Eq, Drop)]
 pub enum EventKind {
     /// Its entry.
     Entry,
@@ -28,7 +28,7 @@ pub enum EventKind {
 }
 
 /// What is inserted at the points of one kind.
-#[derive(Drop, Debug)]
+#[derive(Drop)]
 pub struct Insertion {
     /// Its line.
     pub line: u32,
@@ -43,7 +43,7 @@ pub struct Insertion {
 }
 
 /// What is inserted in each procedure of a set: `foreach func in set { .. }`.
-#[derive(Drop, Debug)]
+#[derive(Drop)]
 pub struct Block {
     /// Its line.
     pub line: u32,

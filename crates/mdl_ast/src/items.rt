@@ -4,7 +4,7 @@ use crate::metric::{Constraint, Metric};
 use pn_types::{Seq, Text};
 
 /// The shipped items are taken: `include metrics;` or `include hypotheses;`.
-#[derive(Clone, Copy, Debug, Drop)]
+#[derive(Clone, Copy, Drop)]
 pub struct Include {
     /// Its line.
     pub line: u32,
@@ -13,7 +13,7 @@ pub struct Include {
 }
 
 /// Objects whose names begin so are locks and the like: `sync NAME;`.
-#[derive(Drop, Debug)]
+#[derive(Drop)]
 pub struct SyncDecl {
     /// Its line.
     pub line: u32,
@@ -22,7 +22,7 @@ pub struct SyncDecl {
 }
 
 /// A hypothesis of the search: `hypothesis NAME { .. }`.
-#[derive(Drop, Debug)]
+#[derive(Drop)]
 pub struct Hypothesis {
     /// Its line.
     pub line: u32,
@@ -39,7 +39,7 @@ pub struct Hypothesis {
 }
 
 /// How the search goes: `search { .. }`.
-#[derive(Clone, Copy, Debug, Drop)]
+#[derive(Clone, Copy, Drop)]
 pub struct SearchDecl {
     /// Its line.
     pub line: u32,
@@ -52,7 +52,7 @@ pub struct SearchDecl {
 }
 
 /// A phase: `phase NAME at TICK;`.
-#[derive(Drop, Debug)]
+#[derive(Drop)]
 pub struct PhaseDecl {
     /// Its line.
     pub line: u32,
@@ -63,7 +63,7 @@ pub struct PhaseDecl {
 }
 
 /// A metric is to be shown at a focus, or no longer: `at TICK show NAME FOCUS;`.
-#[derive(Drop, Debug)]
+#[derive(Drop)]
 pub struct Wish {
     /// Its line.
     pub line: u32,
@@ -78,7 +78,7 @@ pub struct Wish {
 }
 
 /// An item of a configuration.
-#[derive(Drop, Debug)]
+#[derive(Drop)]
 pub enum Item {
     /// Shipped items.
     Include(Include),
@@ -99,7 +99,7 @@ pub enum Item {
 }
 
 /// A configuration.
-#[derive(Drop, Debug)]
+#[derive(Drop)]
 pub struct Conf {
     /// Its items.
     pub items: Seq<Item>,

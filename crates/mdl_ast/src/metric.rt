@@ -4,7 +4,7 @@ use crate::block::Block;
 use pn_types::{Seq, Text};
 
 /// A metric: `metric NAME { .. }`.
-#[derive(Drop, Debug)]
+#[derive(Drop)]
 pub struct Metric {
     /// Its line.
     pub line: u32,
@@ -23,7 +23,7 @@ pub struct Metric {
 }
 
 /// A constraint: `constraint NAME FOCUS is .. { .. }`.
-#[derive(Drop, Debug)]
+#[derive(Drop)]
 pub struct Constraint {
     /// Its line.
     pub line: u32,

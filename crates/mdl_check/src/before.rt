@@ -86,7 +86,6 @@ impl Asked {
 }
 
 /// What items name, show from the beginning on and ask for.
-#[derive(Drop)]
 pub(crate) struct Noted<'a> {
     variables: FirstPlaces,
     hypotheses: FirstPlaces,
@@ -94,6 +93,19 @@ pub(crate) struct Noted<'a> {
     /// What is to be shown from the beginning on.
     shown: HashSet<Sight<'a>>,
     asked: Asked,
+}
+
+// By a call of its own: what drops it need not prove the drops of all its parts.
+impl Drop for Noted<'_> {
+    fn drop(self) {
+        let Noted {
+            variables: _,
+            hypotheses: _,
+            phases: _,
+            shown: _,
+            asked: _,
+        } = self;
+    }
 }
 
 /// The items before one, and what is noted of them.

@@ -17,7 +17,6 @@ pub struct CheckedWish {
 }
 
 /// The items of a configuration, those of an include in its place.
-#[derive(Drop, Debug)]
 pub struct Checked {
     /// The metrics.
     pub metrics: Seq<Metric>,
@@ -31,4 +30,18 @@ pub struct Checked {
     pub phases: Seq<PhaseDecl>,
     /// The wishes.
     pub wishes: Seq<CheckedWish>,
+}
+
+// By a call of its own: what drops it need not prove the drops of all its parts.
+impl Drop for Checked {
+    fn drop(self) {
+        let Checked {
+            metrics: _,
+            constraints: _,
+            hypotheses: _,
+            search: _,
+            phases: _,
+            wishes: _,
+        } = self;
+    }
 }

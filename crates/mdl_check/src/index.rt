@@ -69,7 +69,6 @@ impl<'a> ConstraintUse<'a> {
 }
 
 /// What is kept of items, so that each name is found at once.
-#[derive(Drop)]
 pub(crate) struct Kept<'a> {
     metrics: FirstPlaces,
     constraints: FirstPlaces,
@@ -78,6 +77,19 @@ pub(crate) struct Kept<'a> {
     hypotheses: FirstPlaces,
     /// The places of the hypotheses among all items.
     places: Vec<usize>,
+}
+
+// By a call of its own: what drops it need not prove the drops of all its parts.
+impl Drop for Kept<'_> {
+    fn drop(self) {
+        let Kept {
+            metrics: _,
+            constraints: _,
+            uses: _,
+            hypotheses: _,
+            places: _,
+        } = self;
+    }
 }
 
 /// All items of a configuration, and what the names in it lead to.

@@ -27,11 +27,21 @@ const MOST_STMTS: usize = 32;
 
 /// What tells the statements of a point: the insertions that have statements, which of them are chosen where, and what
 /// their statements have in common.
-#[derive(Drop)]
 pub(crate) struct Planner<'a> {
     pieces: Vec<Piece<'a>>,
     chosen: ChosenPieces,
     terms: Terms,
+}
+
+// By a call of its own: what drops it need not prove the drops of all its parts.
+impl Drop for Planner<'_> {
+    fn drop(self) {
+        let Planner {
+            pieces: _,
+            chosen: _,
+            terms: _,
+        } = self;
+    }
 }
 
 /// Adds the site with these statements at this address.

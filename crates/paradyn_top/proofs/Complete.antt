@@ -10,7 +10,7 @@ use Rattle.refusals.specs.declared.fault.Fault.TheVariants.{Usage, FileFault, Ba
 use Rattle.paradyn_top.specs.Answers.{status_of, texts_of}
 use Rattle.paradyn_top.specs.Delivery.{IsTorn}
 use Rattle.paradyn_top.specs.Serving.{AreGained, AreOne, AreTold, AreTorn, IsOwed, IsSpared, IsUntold, OneOwed, is_live}
-use Rattle.paradyn_top.specs.declared.texts.Texts.{Texts}
+use Rattle.commands.specs.declared.texts.Texts.{Texts}
 
 -- a sink that was torn isn't spared
 torn_rises : {K : Type 0} (has : K → Option (List ℕ)) (count : K → ℕ) (old new : K) (bytes : List ℕ) → IsTorn has count old new bytes → IsSpared (count old) (count new) → ⊥

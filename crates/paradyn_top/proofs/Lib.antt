@@ -1,13 +1,3 @@
-mod Each
-mod FewItems
-mod Directed
-mod SightSteps
-mod PlanLemmas
-mod Inside
-mod Wished
-mod Numbered
-mod Given
-mod Counted
 mod OneDue
 mod Rising
 mod OneOwed

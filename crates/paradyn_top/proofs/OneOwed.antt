@@ -13,8 +13,8 @@ use Rattle.refusals.specs.declared.fault.Fault.TheVariants.{Usage, FileFault, Ba
 use Rattle.paradyn_top.proofs.OneDue.{Laws, due_once, of_same}
 use Rattle.paradyn_top.proofs.Rising.{NotFile, rises}
 use Rattle.paradyn_top.specs.Serving.{AreOne, AreTold, IsOwed, is_live}
-use Rattle.paradyn_top.specs.Sights.{seen, Counted}
-use Rattle.paradyn_top.specs.declared.texts.Texts.{Texts}
+use Rattle.commands.specs.Sights.{seen, Counted}
+use Rattle.commands.specs.declared.texts.Texts.{Texts}
 
 -- what may be told of a fault
 data Naming : Fault → Type 0 where

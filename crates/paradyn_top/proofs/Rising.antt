@@ -51,28 +51,28 @@ use Rattle.whole_run.specs.Replayed.{misfit_of}
 use Rattle.whole_run.specs.Seeded.{IsSeeded}
 use Rattle.whole_run.specs.declared.misfit.Misfit.{Misfit}
 use Rattle.whole_run.specs.declared.misfit.Misfit.TheVariants as misfit
-use Rattle.paradyn_top.specs.Given.{inputs_with}
-use Rattle.paradyn_top.specs.Advising.{advised, IsAdviceDue, IsReportContent}
-use Rattle.paradyn_top.specs.Answers.{output}
-use Rattle.paradyn_top.specs.Blocks.{AreCounted}
-use Rattle.paradyn_top.specs.Directing.{AreDirectives, IsDirected, IsDirectDue, IsDirection, IsDirectivesContent, IsDirectRun, IsDirectWith, conf_with, directed_texts, or_bad_directives}
+use Rattle.commands.specs.Given.{inputs_with}
+use Rattle.commands.specs.Advising.{advised, IsAdviceDue, IsReportContent}
+use Rattle.commands.specs.Output.{output}
+use Rattle.commands.specs.Blocks.{AreCounted}
+use Rattle.commands.specs.Directing.{AreDirectives, IsDirected, IsDirectDue, IsDirection, IsDirectivesContent, IsDirectRun, IsDirectWith, conf_with, directed_texts, or_bad_directives}
 use Rattle.paradyn_top.specs.Due.{IsDueFor, IsDue}
-use Rattle.paradyn_top.specs.Runs.{texts_of_run, IsPrepared, IsOpened, IsRunWith, IsRunDue, IsLiveWith, IsLiveDue, IsVisiWith, IsVisiDue, views_of, IsStressWith, IsStressDue, stress_settings, stress_sight, summary_of}
-use Rattle.paradyn_top.specs.Found.{resources_of, IsCheck, IsFound}
-use Rattle.paradyn_top.specs.Inputs.{begins_elf, or_bad_elf, or_bad_text, image_of, file_of, MeansConf, IsProgramContent, IsProgram, IsElfFile, IsConfContent, IsConfiguration, AreInputs}
-use Rattle.paradyn_top.specs.Logs.{or_bad_log, IsLog, IsLogContent, MeansLog}
-use Rattle.paradyn_top.specs.Replays.{replayed, IsReplay, IsReplayDue, IsReplayOf, IsReplayWith}
-use Rattle.paradyn_top.specs.Plans.{metric_named, or_unknown, or_bad_focus, IsSelected, IsPlanned, IsPlanAt, IsPlan}
-use Rattle.paradyn_top.specs.Sights.{Sight, seen, limited, IsContent}
-use Rattle.paradyn_top.specs.declared.advising.TheConstants.{REPORT_LIMIT}
-use Rattle.paradyn_top.specs.declared.configuration.TheConstants.{CONFIGURATION_LIMIT}
-use Rattle.paradyn_top.specs.declared.directing.TheConstants.{DIRECTIVES_LIMIT}
-use Rattle.paradyn_top.specs.declared.finding.Found.{Found}
-use Rattle.paradyn_top.specs.declared.inputs.Inputs.{Inputs}
-use Rattle.paradyn_top.specs.declared.logs.Log.{Log}
-use Rattle.paradyn_top.specs.declared.logs.TheConstants.{LOG_LIMIT}
-use Rattle.paradyn_top.specs.declared.texts.Texts.{Texts}
-use Rattle.paradyn_top.proofs.Counted.{counted_spared}
+use Rattle.commands.specs.Runs.{texts_of_run, IsPrepared, IsOpened, IsRunWith, IsRunDue, IsLiveWith, IsLiveDue, IsVisiWith, IsVisiDue, views_of, IsStressWith, IsStressDue, stress_settings, stress_sight, summary_of}
+use Rattle.commands.specs.Found.{resources_of, IsCheck, IsFound}
+use Rattle.commands.specs.Inputs.{begins_elf, or_bad_elf, or_bad_text, image_of, file_of, MeansConf, IsProgramContent, IsProgram, IsElfFile, IsConfContent, IsConfiguration, AreInputs}
+use Rattle.commands.specs.Logs.{or_bad_log, IsLog, IsLogContent, MeansLog}
+use Rattle.commands.specs.Replays.{replayed, IsReplay, IsReplayDue, IsReplayOf, IsReplayWith}
+use Rattle.commands.specs.Plans.{metric_named, or_unknown, or_bad_focus, IsSelected, IsPlanned, IsPlanAt, IsPlan}
+use Rattle.commands.specs.Sights.{Sight, seen, limited, IsContent}
+use Rattle.commands.specs.declared.advising.TheConstants.{REPORT_LIMIT}
+use Rattle.commands.specs.declared.configuration.TheConstants.{CONFIGURATION_LIMIT}
+use Rattle.commands.specs.declared.directing.TheConstants.{DIRECTIVES_LIMIT}
+use Rattle.commands.specs.declared.finding.Found.{Found}
+use Rattle.commands.specs.declared.inputs.Inputs.{Inputs}
+use Rattle.commands.specs.declared.logs.Log.{Log}
+use Rattle.commands.specs.declared.logs.TheConstants.{LOG_LIMIT}
+use Rattle.commands.specs.declared.texts.Texts.{Texts}
+use Rattle.commands.proofs.Counted.{counted_spared}
 
 -- ---- what names no file as unread
 

@@ -1,12 +1,9 @@
 -- What an answer of the top call leaves: the status, and the bytes for the output and for the log.
-use Rattle.std.specs.Prelude.{ℕ, List, [], Result, Ok, Err}
+use Rattle.std.specs.Prelude.{ℕ, Result, Ok, Err}
+use Rattle.commands.specs.Output.{output}
+use Rattle.commands.specs.declared.texts.Texts.{Texts}
 use Rattle.refusals.specs.Faults.{fault_line, fault_status}
 use Rattle.refusals.specs.declared.fault.Fault.{Fault}
-use Rattle.paradyn_top.specs.declared.texts.Texts.{Texts}
-
--- a text for the output, and nothing for the log
-abbrev pub output : List ℕ → Texts
-output text = record { out = text; log = [] }
 
 -- An answer gives texts, or refuses with a fault, whose line is the output.
 abbrev pub status_of : Result Texts Fault → ℕ

@@ -1,38 +1,17 @@
 -- What the top call owes for words and files.
-use Rattle.std.specs.Prelude.{◌≡◌, ℕ, List, Option, None, Some, Ok, Err}
-use Rattle.code_points.specs.Points.{points_of}
-use Rattle.code_points.specs.Procedures.{procedures_of, skipped_of}
-use Rattle.command_words.specs.Requests.{Request, PlanRequest, run, live, replay, make_plan, assemble, list_points, relog, stress, count_blocks, visi, advise, direct, request_of}
-use Rattle.refusals.specs.Refusals.{Step, Then}
+use Rattle.std.specs.Prelude.{◌≡◌, ℕ, List, Option, None, Some, Err}
+use Rattle.command_words.specs.Requests.{Request, run, live, replay, make_plan, assemble, list_points, relog, stress, count_blocks, visi, advise, direct, request_of}
+use Rattle.refusals.specs.Refusals.{Step}
 use Rattle.refusals.specs.declared.fault.Fault.TheVariants.{Usage}
-use Rattle.report.specs.Points.{points_text}
-use Rattle.paradyn_top.specs.Advising.{IsAdviceDue}
-use Rattle.paradyn_top.specs.Answers.{output}
-use Rattle.paradyn_top.specs.Blocks.{AreBlocksDue}
-use Rattle.paradyn_top.specs.Directing.{IsDirectDue}
-use Rattle.paradyn_top.specs.Found.{IsFound}
-use Rattle.paradyn_top.specs.Inputs.{IsProgram, IsElfFile, AreInputs}
-use Rattle.paradyn_top.specs.Plans.{IsPlan}
-use Rattle.paradyn_top.specs.Replays.{IsRelogDue, IsReplayDue}
-use Rattle.paradyn_top.specs.Runs.{IsRunDue, IsLiveDue, IsVisiDue, IsStressDue}
-use Rattle.paradyn_top.specs.Sights.{Sight}
-use Rattle.paradyn_top.specs.declared.texts.Texts.{Texts}
-
--- ---- the other commands
-
-abbrev pub IsPlanDue : PlanRequest → Sight → Step Texts
-IsPlanDue p sees = Then (AreInputs sees p.program p.conf) (λ i. Then (IsFound i.image p.harts i.conf) (IsPlan p))
-
--- the points of the program of a name
-abbrev pub ArePoints : List ℕ → Sight → Step Texts
-ArePoints name sees =
-    Then (IsProgram sees name) (λ image texts. texts ≡ Ok (output (points_text (procedures_of image) (points_of image (procedures_of image)) (skipped_of image))))
-
--- the ELF file of the text of a name
-abbrev pub IsAssembled : List ℕ → Sight → Step Texts
-IsAssembled name sees = Then (IsElfFile sees name) (λ file texts. texts ≡ Ok (output file))
-
--- ---- what is due
+use Rattle.commands.specs.Advising.{IsAdviceDue}
+use Rattle.commands.specs.Blocks.{AreBlocksDue}
+use Rattle.commands.specs.Directing.{IsDirectDue}
+use Rattle.commands.specs.Listing.{ArePoints, IsAssembled}
+use Rattle.commands.specs.Plans.{IsPlanDue}
+use Rattle.commands.specs.Replays.{IsRelogDue, IsReplayDue}
+use Rattle.commands.specs.Runs.{IsRunDue, IsLiveDue, IsVisiDue, IsStressDue}
+use Rattle.commands.specs.Sights.{Sight}
+use Rattle.commands.specs.declared.texts.Texts.{Texts}
 
 abbrev pub IsDueFor : Option Request → Sight → Step Texts
 IsDueFor None sees texts = texts ≡ Err Usage

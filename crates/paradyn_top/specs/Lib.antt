@@ -1,15 +1,4 @@
 pub mod Answers
-pub mod Sights
-pub mod Inputs
-pub mod Found
-pub mod Given
-pub mod Plans
-pub mod Logs
-pub mod Replays
-pub mod Runs
-pub mod Blocks
-pub mod Advising
-pub mod Directing
 pub mod Due
 pub mod Delivery
 pub mod Serving

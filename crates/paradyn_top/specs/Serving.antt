@@ -9,8 +9,8 @@ use Rattle.refusals.specs.declared.refusal.Refusal.TheVariants as refusal
 use Rattle.paradyn_top.specs.Answers.{status_of, texts_of}
 use Rattle.paradyn_top.specs.Delivery.{IsTorn, Gained}
 use Rattle.paradyn_top.specs.Due.{IsDue}
-use Rattle.paradyn_top.specs.Sights.{seen, CountedFor}
-use Rattle.paradyn_top.specs.declared.texts.Texts.{Texts}
+use Rattle.commands.specs.Sights.{seen, CountedFor}
+use Rattle.commands.specs.declared.texts.Texts.{Texts}
 use Rattle.paradyn_top.specs.declared.program.Words.{Words}
 use Rattle.paradyn_top.specs.declared.program.Words.TheVariants.{Read, NotText, NoMemory}
 use Rattle.paradyn_top.specs.declared.top.Reply.{Reply}

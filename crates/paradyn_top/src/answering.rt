@@ -4,21 +4,14 @@ ghost use Rattle.std.specs.Prelude.{◌≡◌, false, Some, map, string_bytes};
 ghost use Rattle.command_words.specs.Asked.{asked};
 ghost use Rattle.command_words.specs.Requests.{begins_threaded, HasRanges, IsUnthreaded};
 ghost use Rattle.paradyn_top.specs.Due.{IsDue, IsDueFor};
-ghost use Rattle.paradyn_top.specs.Sights.{seen, Looks};
+ghost use Rattle.commands.specs.Sights.{seen, Looks};
 ghost use Rattle.refusals.specs.Refusals.{Comes};
 
-use crate::advising::advise_from;
-use crate::blocks::blocks;
-use crate::directing::direct;
-use crate::listing::{list_points, write_elf};
-use crate::live::live;
-use crate::planning::show_plan;
-use crate::replaying::{relog, replay};
-use crate::running::run;
-use crate::stressing::stress;
-use crate::texts::Texts;
-use crate::viewing::view;
 use command_words::{Request, WordFault, read_request};
+use commands::{
+    Texts, advise_from, blocks, direct, list_points, live, relog, replay, run, show_plan, stress,
+    view, write_elf,
+};
 use outside::{Files, Gate};
 use refusals::{Fault, Refusal};
 use std::alloc::Global;

@@ -1,7 +1,7 @@
 ghost use Rattle.std.specs.Prelude.{OnOk, OnErr};
 ghost use Rattle.paradyn_top.specs.Serving.{AreGained, AreTorn};
 
-use crate::texts::Texts;
+use commands::Texts;
 use outside::{Failed, Sink, write_all};
 
 /// Writes texts, first all of the log and then the output.

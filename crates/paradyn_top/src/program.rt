@@ -3,7 +3,7 @@ ghost use Rattle.outside.specs.Outside.{IsCalm};
 ghost use Rattle.std.specs.Process.{exit_status};
 ghost use Rattle.paradyn_top.specs.Answers.{status_of, texts_of};
 ghost use Rattle.paradyn_top.specs.Serving.{IsOwed, IsUntold, AreGained, AreTorn, words_read};
-ghost use Rattle.paradyn_top.specs.declared.texts.Texts.{Texts as texts};
+ghost use Rattle.commands.specs.declared.texts.Texts.{Texts as texts};
 ghost use Rattle.refusals.specs.declared.fault.Fault.{Fault as fault};
 
 use crate::top::paradyn;

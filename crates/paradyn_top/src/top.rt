@@ -2,14 +2,14 @@ ghost use Rattle.std.specs.Prelude.{◌≡◌, ◌≢◌, ◌⊎◌, ℕ, false,
 ghost use Rattle.command_words.specs.Requests.{begins_threaded};
 ghost use Rattle.paradyn_top.specs.Answers.{status_of, texts_of};
 ghost use Rattle.paradyn_top.specs.Serving.{IsOwed, IsSpared, IsUntold, IsReply, AreGained, AreTold, AreTorn, told_of};
-ghost use Rattle.paradyn_top.specs.declared.texts.Texts.{Texts as texts};
+ghost use Rattle.commands.specs.declared.texts.Texts.{Texts as texts};
 ghost use Rattle.refusals.specs.declared.fault.Fault.{Fault as fault};
 
 use crate::answering::{answer, answer_threaded};
 use crate::delivery::deliver;
 use crate::laws::one_owed;
-use crate::texts::Texts;
 use command_words::begin_threaded;
+use commands::Texts;
 use outside::{Files, Gate, Sink};
 use pn_types::NoMemory;
 use refusals::{Fault, Refusal, faults_text};

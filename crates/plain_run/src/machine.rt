@@ -22,7 +22,6 @@ use turn_order::Ready;
 
 /// A program on its harts, each of which has a budget of ticks. Contracts see the program's words, the budget and the
 /// state of the unpatched machine.
-#[derive(Drop)]
 pub struct PlainMachine {
     harts: Vec<HartState>,
     mem: Mem,
@@ -49,6 +48,22 @@ impl Model for PlainMachine {
     ghost view = { λ m. record { program = record { at = m.text_at; words = m.words.items }; budget = m.budget; state = record { harts = harts_of m.harts.items; prog = prog_of m.mem m.resv m.out } } };
 
     ghost invariant = { λ m. (length m.resv ≡ length m.harts.items) × (m.text_at + 4 * length m.words.items < 2 ^ 64) × (m.ready ≡ ready_harts m.budget m.harts.items) };
+}
+
+// By a call of its own: what drops it need not prove the drops of all its parts.
+impl Drop for PlainMachine {
+    fn drop(self) {
+        let PlainMachine {
+            harts: _,
+            mem: _,
+            resv: _,
+            out: _,
+            text_at: _,
+            words: _,
+            budget: _,
+            ready: _,
+        } = self;
+    }
 }
 
 /// The harts as they start.

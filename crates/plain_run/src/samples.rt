@@ -4,7 +4,7 @@ ghost use Rattle.plain_run.specs.Schedules.{sampled, no_samples, closed, IsEarly
 use pn_types::MAX_WIDTH;
 
 /// The samples that are counted while a run goes on.
-#[derive(Clone, Copy, Debug, PartialEq, Eq, Drop)]
+#[derive(Clone, Copy, PartialEq, Eq, Drop)]
 pub struct Samples {
     /// The run's time so far, in ticks.
     pub time: u64,

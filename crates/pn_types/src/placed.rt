@@ -2,7 +2,7 @@ use crate::plan::{Open, Var};
 use crate::seq::Seq;
 
 /// Where an instrument acts.
-#[derive(Clone, Copy, Debug, PartialEq, Eq, Drop)]
+#[derive(Clone, Copy, Drop)]
 pub struct PlacedSite {
     /// The address of the program's word.
     pub at: u64,
@@ -11,7 +11,7 @@ pub struct PlacedSite {
 }
 
 /// An instrument that has its place in the machine.
-#[derive(Drop, Debug)]
+#[derive(Drop)]
 pub struct Placed {
     /// The variables of its plan.
     pub vars: Seq<Var>,

@@ -7,7 +7,7 @@ use crate::limits::{
 };
 
 /// What an instrument knows of the procedures that are open when it is armed.
-#[derive(Clone, Copy, Debug, PartialEq, Eq, Drop)]
+#[derive(Clone, Copy, Drop)]
 pub enum Start {
     /// Nothing: its variables begin as the metric says.
     Cold,
@@ -16,7 +16,7 @@ pub enum Start {
 }
 
 /// The numbers of a run.
-#[derive(Clone, Copy, Debug, PartialEq, Eq, Drop)]
+#[derive(Clone, Copy, Drop)]
 pub struct Settings {
     /// How many harts, from 1 to [`MAX_HARTS`].
     pub harts: u32,

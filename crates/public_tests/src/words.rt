@@ -42,12 +42,27 @@ fn atomic_accesses_are_told_apart(rt: HostRuntime) {
     };
     // the last has a second register
     let decoded = [decode(SC), decode(LR), decode(0x1015_a52f)];
-    let encoded = [encode(&sc), encode(&lr)];
-    compare(
-        &rt,
-        (decoded, encoded),
-        ([Some(sc), Some(lr), None], [SC, LR]),
+    let is_decoded = matches!(
+        decoded,
+        [
+            Some(Instr::Sc {
+                width: AtomicWidth::Doubleword,
+                rd: 1,
+                rs1: 29,
+                rs2: 1,
+                order: 0,
+            }),
+            Some(Instr::Lr {
+                width: AtomicWidth::Word,
+                rd: 10,
+                rs1: 11,
+                order: 0,
+            }),
+            None,
+        ]
     );
+    let encoded = [encode(&sc), encode(&lr)];
+    compare(&rt, (is_decoded, encoded), (true, [SC, LR]));
 }
 
 #[test]

@@ -1,5 +1,5 @@
 /// A quantum: a hart took turns until it had so many, or could take no more.
-#[derive(Clone, Copy, Debug, PartialEq, Eq, Drop)]
+#[derive(Clone, Copy, PartialEq, Eq, Drop)]
 pub struct Quantum {
     /// The worker that gave it, below [`MAX_WORKERS`](pn_types::MAX_WORKERS).
     pub worker: u32,

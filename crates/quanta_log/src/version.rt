@@ -4,7 +4,7 @@ ghost use Rattle.quanta_log.specs.Fields.{magic, head_len, entry_len, log_len, m
 use pn_types::{MAX_HARTS, MAX_QUANTA};
 
 /// A version of the form that logs have.
-#[derive(Clone, Copy, Debug, PartialEq, Eq, Drop)]
+#[derive(Clone, Copy, PartialEq, Eq, Drop)]
 pub enum Version {
     /// Four bytes for each number of a quantum, at most 16 harts, a cold start and 64 instruments.
     One,

@@ -8,7 +8,7 @@ use mdl_check::CheckKind;
 use mdl_parse::SyntaxKind;
 
 /// What is wrong with a configuration or with directives.
-#[derive(Clone, Copy, Debug, PartialEq, Eq, Drop)]
+#[derive(Clone, Copy, PartialEq, Eq, Drop)]
 pub enum ConfKind {
     /// A byte with which no word begins or goes on.
     BadByte,
@@ -56,7 +56,7 @@ impl ConfKind {
 }
 
 /// A fault of a configuration or of directives, and where it stands.
-#[derive(Clone, Copy, Debug, PartialEq, Eq, Drop)]
+#[derive(Clone, Copy, PartialEq, Eq, Drop)]
 pub struct ConfFault {
     /// The line, from 1, or 0 for the whole text.
     pub line: u32,

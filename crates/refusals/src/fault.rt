@@ -7,7 +7,7 @@ use crate::program::ProgramFault;
 use pn_types::{PickCause, Text};
 
 /// Why the top call has no text to give.
-#[derive(Debug, Drop)]
+#[derive(Drop)]
 pub enum Fault {
     /// The words are no command.
     Usage,

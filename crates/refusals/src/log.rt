@@ -7,7 +7,7 @@ use pn_types::NoMemory;
 use std::alloc::Global;
 
 /// What is wrong with a log.
-#[derive(Clone, Copy, Debug, PartialEq, Eq, Drop)]
+#[derive(Clone, Copy, PartialEq, Eq, Drop)]
 pub enum LogCause {
     /// It doesn't begin as a log.
     BadHead,

@@ -9,7 +9,7 @@ use rv_asm::AsmFault;
 use std::alloc::Global;
 
 /// What is wrong with a program.
-#[derive(Clone, Copy, Debug, PartialEq, Eq, Drop)]
+#[derive(Clone, Copy, PartialEq, Eq, Drop)]
 pub enum ProgramFault {
     /// Its ELF file has this first fault.
     Elf(ElfFault),

@@ -7,7 +7,7 @@ use pn_types::NoMemory;
 use quanta_log::LogFault;
 
 /// Why a step was refused.
-#[derive(Debug, Drop)]
+#[derive(Drop)]
 pub enum Refusal {
     /// Memory was wanting.
     NoMemory,

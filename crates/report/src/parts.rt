@@ -3,7 +3,7 @@ use pn_types::{PickCause, Seq, StopText, Text};
 use w3_search::Node;
 
 /// What a report says of a hart.
-#[derive(Clone, Copy, Debug, PartialEq, Eq, Drop)]
+#[derive(Clone, Copy, PartialEq, Eq, Drop)]
 pub struct HartPart {
     /// How many words it executed.
     pub ticks: u64,
@@ -14,7 +14,7 @@ pub struct HartPart {
 }
 
 /// What a report says of a wish that was refused while the program ran.
-#[derive(Drop, Debug)]
+#[derive(Drop)]
 pub struct RefusedPart {
     /// The metric was to be shown, and not dropped.
     pub show: bool,
@@ -29,7 +29,7 @@ pub struct RefusedPart {
 }
 
 /// What a report says of a metric that was shown at a focus.
-#[derive(Drop, Debug)]
+#[derive(Drop)]
 pub struct ShownPart {
     /// The metric's name.
     pub metric: Text,
@@ -46,7 +46,7 @@ pub struct ShownPart {
 }
 
 /// What a report says of a node of the search.
-#[derive(Drop, Debug)]
+#[derive(Drop)]
 pub struct NodePart {
     /// The name of its phase.
     pub phase: Text,
@@ -59,7 +59,7 @@ pub struct NodePart {
 }
 
 /// What a report says of the search.
-#[derive(Drop, Debug)]
+#[derive(Drop)]
 pub struct SearchPart {
     /// There are as many nodes as there may be, so that no more were made.
     pub full: bool,
@@ -70,7 +70,7 @@ pub struct SearchPart {
 }
 
 /// What a report says of a run.
-#[derive(Drop, Debug)]
+#[derive(Drop)]
 pub struct ReportParts {
     /// The harts, by number.
     pub harts: Seq<HartPart>,

@@ -14,7 +14,6 @@ use std::alloc::Global;
 use std::marker::Model;
 
 /// The tree of a program's resources: its modules and procedures, its harts, and its objects.
-#[derive(Drop)]
 pub struct Tree {
     pub(crate) code: CodeTree,
     pub(crate) objects: Objects,
@@ -29,6 +28,17 @@ impl Model for Tree {
     ghost view = { λ t. record { code = t.code; objects = t.objects; harts = t.harts } };
 
     ghost invariant = { λ t. IsBounded (record { code = t.code; objects = t.objects; harts = t.harts }) };
+}
+
+// By a call of its own: what drops it need not prove the drops of all its parts.
+impl Drop for Tree {
+    fn drop(self) {
+        let Tree {
+            code: _,
+            objects: _,
+            harts: _,
+        } = self;
+    }
 }
 
 impl Tree {

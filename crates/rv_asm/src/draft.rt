@@ -45,7 +45,6 @@ pub(crate) struct Placed<'a> {
 }
 
 /// What the lines so far make.
-#[derive(Drop)]
 pub(crate) struct Draft<'a> {
     pub(crate) section: Section,
     /// Where the text ends.
@@ -82,6 +81,24 @@ impl<'a> Model for Draft<'a> {
     } };
 
     ghost invariant = { λ d. AreEnds d.text_end d.data_end (map placed_seen d.text_part.items) (map placed_seen d.data_part.items) };
+}
+
+// By a call of its own: what drops it need not prove the drops of all its parts.
+impl Drop for Draft<'_> {
+    fn drop(self) {
+        let Draft {
+            section: _,
+            text_end: _,
+            data_end: _,
+            opened: _,
+            module: _,
+            labels: _,
+            declarations: _,
+            ends: _,
+            text_part: _,
+            data_part: _,
+        } = self;
+    }
 }
 
 impl<'a> Draft<'a> {

@@ -3,7 +3,7 @@
 use std::alloc::AllocError;
 
 /// Why a text is no program. Lines count from 1.
-#[derive(Clone, Copy, Debug, PartialEq, Eq, Drop)]
+#[derive(Clone, Copy, PartialEq, Eq, Drop)]
 pub enum AsmFault {
     /// The line has no form, it doesn't stand where it is, or the procedure that it begins is open at the end.
     BadLine(u32),

@@ -10,7 +10,7 @@ use std::marker::Model;
 pub const OUTPUT_LIMIT: usize = 1_048_576;
 
 /// What the program wrote, at most 1,048,576 bytes. Contracts see the list of the bytes.
-#[derive(Drop, Debug)]
+#[derive(Drop)]
 pub struct Output {
     bytes: Vec<u8>,
 }

@@ -8,7 +8,7 @@ use rv_mem::{FIRST_STACK_AT, HEAP_AT, HEAP_LEN, STACK_DISTANCE, STACK_LEN};
 use std::marker::Model;
 
 /// The registers x0 to x31 of a hart, of which x0 reads as 0. Contracts see the list of the 32 numbers.
-#[derive(Drop, Debug)]
+#[derive(Drop)]
 pub struct Regs {
     x: [u64; 32],
 }

@@ -7,7 +7,7 @@ use std::alloc::Global;
 use std::marker::Model;
 
 /// Each hart's reserved doubleword, by its number, which is the address divided by 8. Contracts see the list by hart.
-#[derive(Drop, Debug)]
+#[derive(Drop)]
 pub struct Reservations {
     of: Vec<Option<u64>>,
     /// False only where no hart has one, so that a store has nothing to break.

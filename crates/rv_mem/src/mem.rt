@@ -13,7 +13,7 @@ use std::marker::Model;
 
 /// The memory of a program, which contracts see as a map from the mapped addresses to their bytes, with the range of
 /// the text. No access allocates, and a refused one changes nothing.
-#[derive(Drop, Debug)]
+#[derive(Drop)]
 pub struct Mem {
     regions: Vec<Region>,
     text_at: u64,

@@ -4,7 +4,7 @@ ghost use Rattle.rv_mem.specs.Regions.{first_byte, place_of, little_endian, numb
 ghost use Rattle.rv_mem.specs.Windows.{SameShape};
 
 /// A run of mapped bytes.
-#[derive(Drop, Debug)]
+#[derive(Drop)]
 pub struct Region {
     /// The first address.
     pub at: u64,
@@ -13,7 +13,7 @@ pub struct Region {
 }
 
 /// A place in the bytes of one of several regions.
-#[derive(Clone, Copy, Debug, Drop)]
+#[derive(Clone, Copy, Drop)]
 pub struct Spot {
     /// Which region it is.
     pub region: usize,

@@ -9,7 +9,7 @@ use pn_types::NoMemory;
 use std::alloc::Global;
 
 /// Addresses of one region, of which none is in the text and none in a region before it.
-#[derive(Clone, Copy, Debug, Drop)]
+#[derive(Clone, Copy, Drop)]
 pub struct Window {
     /// The first address.
     pub from: u64,

@@ -2,7 +2,7 @@ use crate::instr::{AmoOp, AtomicWidth, LoadOp};
 use crate::outcome::Cause;
 
 /// What an instruction asks of the machine, once its operands' values are known.
-#[derive(Clone, Copy, PartialEq, Eq, Debug, Drop)]
+#[derive(Clone, Copy, Drop)]
 pub enum Action {
     /// Put a value into rd.
     Compute {

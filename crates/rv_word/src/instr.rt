@@ -1,7 +1,7 @@
 //! Instructions.
 
 /// The operation of a branch.
-#[derive(Clone, Copy, PartialEq, Eq, Debug)]
+#[derive(Clone, Copy)]
 pub enum BranchOp {
     Beq,
     Bne,
@@ -12,7 +12,7 @@ pub enum BranchOp {
 }
 
 /// The operation of a load.
-#[derive(Clone, Copy, PartialEq, Eq, Debug)]
+#[derive(Clone, Copy)]
 pub enum LoadOp {
     Lb,
     Lh,
@@ -24,7 +24,7 @@ pub enum LoadOp {
 }
 
 /// The operation of a store.
-#[derive(Clone, Copy, PartialEq, Eq, Debug)]
+#[derive(Clone, Copy)]
 pub enum StoreOp {
     Sb,
     Sh,
@@ -33,7 +33,7 @@ pub enum StoreOp {
 }
 
 /// The operation on a register and an immediate.
-#[derive(Clone, Copy, PartialEq, Eq, Debug)]
+#[derive(Clone, Copy)]
 pub enum ImmOp {
     Addi,
     Slti,
@@ -44,7 +44,7 @@ pub enum ImmOp {
 }
 
 /// A shift by an immediate, of 64 or of 32 bits.
-#[derive(Clone, Copy, PartialEq, Eq, Debug)]
+#[derive(Clone, Copy)]
 pub enum ShiftOp {
     Sll,
     Srl,
@@ -52,7 +52,7 @@ pub enum ShiftOp {
 }
 
 /// The operation on two registers.
-#[derive(Clone, Copy, PartialEq, Eq, Debug)]
+#[derive(Clone, Copy)]
 pub enum RegOp {
     Add,
     Sll,
@@ -75,7 +75,7 @@ pub enum RegOp {
 }
 
 /// The operation on the low halves of two registers.
-#[derive(Clone, Copy, PartialEq, Eq, Debug)]
+#[derive(Clone, Copy)]
 pub enum RegOp32 {
     Addw,
     Sllw,
@@ -90,7 +90,7 @@ pub enum RegOp32 {
 }
 
 /// The operation of an atomic read-modify-write.
-#[derive(Clone, Copy, PartialEq, Eq, Debug)]
+#[derive(Clone, Copy)]
 pub enum AmoOp {
     Swap,
     Add,
@@ -104,7 +104,7 @@ pub enum AmoOp {
 }
 
 /// How many bytes an atomic access has.
-#[derive(Clone, Copy, PartialEq, Eq, Debug)]
+#[derive(Clone, Copy)]
 pub enum AtomicWidth {
     /// Four bytes, `.w`.
     Word,
@@ -114,7 +114,7 @@ pub enum AtomicWidth {
 
 /// An instruction. Registers are numbers below 32. Immediates and offsets stand as the 64-bit
 /// numbers that the machine adds. `order` has the bits aq and rl, which change nothing here.
-#[derive(Clone, Copy, PartialEq, Eq, Debug)]
+#[derive(Clone, Copy)]
 pub enum Instr {
     Lui {
         rd: u32,

@@ -2,7 +2,7 @@ use pn_types::NoMemory;
 use report::RefusedPart;
 
 /// Why a session doesn't begin.
-#[derive(Debug, Drop)]
+#[derive(Drop)]
 pub enum StartFault {
     /// Memory is wanting.
     NoMemory,

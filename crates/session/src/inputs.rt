@@ -22,7 +22,6 @@ const NO_SEARCH: SearchDecl = SearchDecl {
 
 /// What a session is given: a program, what its configuration holds, the program's resources, procedures and points, and the
 /// numbers of the run. Contracts see the definitions' inputs.
-#[derive(Drop)]
 pub struct Inputs {
     /// The program, whose text never names x31.
     pub image: Image,
@@ -49,6 +48,21 @@ impl Model for Inputs {
     ghost view = { λ i. record { image = i.image; checked = i.checked; tree = i.tree; procs = i.procs; points = i.points; settings = i.settings } };
 
     ghost invariant = { λ i. IsIndexOf i.procs i.points i.index };
+}
+
+// By a call of its own: what drops it need not prove the drops of all its parts.
+impl Drop for Inputs {
+    fn drop(self) {
+        let Inputs {
+            image: _,
+            checked: _,
+            tree: _,
+            procs: _,
+            points: _,
+            settings: _,
+            index: _,
+        } = self;
+    }
 }
 
 impl Inputs {

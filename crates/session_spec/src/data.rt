@@ -2,7 +2,7 @@ use instrument::InstrumentNo;
 use pn_types::{Focus, PickCause};
 
 /// An instrument that shows a metric at a focus, or did: to the user, or to the search, which tests a node by it.
-#[derive(Debug, Drop)]
+#[derive(Drop)]
 pub struct Shown {
     /// The instrument.
     pub instrument: InstrumentNo,
@@ -19,7 +19,7 @@ pub struct Shown {
 }
 
 /// A wish that was refused.
-#[derive(Debug, Drop)]
+#[derive(Drop)]
 pub struct RefusedWish {
     /// The metric was to be shown, and not dropped.
     pub show: bool,
@@ -34,7 +34,7 @@ pub struct RefusedWish {
 }
 
 /// A sample of an instrument that was wished.
-#[derive(Clone, Copy, Debug, PartialEq, Eq, Drop)]
+#[derive(Clone, Copy, PartialEq, Eq, Drop)]
 pub struct Latest {
     /// The place of the instrument among all that were wished, from 0.
     pub shown: u32,

@@ -2,7 +2,7 @@ use quanta_log::Quantum;
 use std::collections::LinkedList;
 
 /// A quantum that a worker took: an entry of the session's list, and its number there, from 0.
-#[derive(Clone, Copy, Debug, PartialEq, Eq, Drop)]
+#[derive(Clone, Copy, PartialEq, Eq, Drop)]
 pub struct Receipt {
     /// The place of the entry, below [`MAX_QUANTA`](pn_types::MAX_QUANTA).
     pub number: u64,

@@ -2,7 +2,7 @@ ghost use Rattle.std.specs.Prelude.{◌≡◌, ℕ, ◌+◌, ◌<◌, ◌≤◌,
 ghost use Rattle.tool_space.specs.Holes.{InOrder, cut_at, join_at, no_hole, put_at};
 
 /// A run of free units: the first of them, and how many there are.
-#[derive(Clone, Copy, Debug, PartialEq, Eq, Drop)]
+#[derive(Clone, Copy, PartialEq, Eq, Drop)]
 pub struct Hole {
     pub at: u64,
     pub len: u64,

@@ -1,12 +1,13 @@
+use crate::along::report_along;
 use crate::given::Given;
+use crate::line::Call;
 use crate::meeting::Meeting;
-use hex::encode;
-use outside::{Gate, MemFiles, MemSink, OpenGate, StdSink, write_all};
+use crate::served::{Served, print_report, print_sink};
+use outside::{Gate, MemFiles, MemSink, OpenGate};
 use paradyn_top::{Texts, Words, deliver, run_program};
 use pn_types::{NoMemory, Seq};
 use std::alloc::Global;
 use std::io;
-use std::process::ExitCode;
 use std::sync::Wait;
 use std::thread::Threads;
 
@@ -17,7 +18,6 @@ const ROOM: u64 = 2_000_000;
 const ALL: usize = 2_000_000;
 
 /// Files and sinks in memory.
-#[derive(Drop)]
 pub struct Case {
     files: Vec<Given>,
     piece: u64,
@@ -27,12 +27,17 @@ pub struct Case {
     report: Vec<u8>,
 }
 
-/// How words that were served ended, and what the sinks have.
-#[derive(Drop)]
-struct Served {
-    exit: ExitCode,
-    out: MemSink,
-    log: MemSink,
+// By a call of its own: what drops it need not prove the drops of all its parts.
+impl Drop for Case {
+    fn drop(self) {
+        let Case {
+            files: _,
+            piece: _,
+            out_fails: _,
+            log_fails: _,
+            report: _,
+        } = self;
+    }
 }
 
 /// The words of a line, between single spaces.
@@ -49,17 +54,13 @@ fn words(alloc: Global, line: Option<&str>) -> Result<Words, NoMemory> {
     Ok(Words::Read(words))
 }
 
-/// The bytes of a text.
-fn bytes_of(alloc: Global, text: &str) -> Result<Seq<u8>, NoMemory> {
-    Ok(Seq::from_vec(text.as_bytes().to_vec(alloc)?))
-}
-
-/// Prints what a sink has.
-fn show(rt: HostRuntime, name: &str, sink: &MemSink) -> io::Result<()> {
-    print!(rt; "{name} '")?;
-    let mut printed = StdSink::new(rt);
-    let _ = write_all(&mut printed, sink.bytes());
-    println!(rt; "'")
+/// The texts of the log and the output, between which is a space.
+fn texts(alloc: Global, line: &str) -> Result<Texts, NoMemory> {
+    let (log, out) = line.split_once(' ').unwrap_or((line, ""));
+    Ok(Texts {
+        out: Seq::from_vec(out.as_bytes().to_vec(alloc)?),
+        log: Seq::from_vec(log.as_bytes().to_vec(alloc)?),
+    })
 }
 
 impl Case {
@@ -74,10 +75,10 @@ impl Case {
         }
     }
 
-    /// The case after what a line says.
-    pub fn with(mut self, alloc: Global, word: &str, rest: &str) -> Result<Case, NoMemory> {
+    /// Takes up what a line says.
+    pub fn take(&mut self, alloc: Global, word: &str, rest: &str) -> Result<(), NoMemory> {
         match word {
-            "new" => return Ok(Case::new(alloc)),
+            "new" => *self = Case::new(alloc),
             "file" => self.files.push(Given::new(alloc, rest, true)?)?,
             "absent" => self.files.push(Given::new(alloc, rest, false)?)?,
             "piece" => self.piece = rest.parse().unwrap_or(ROOM),
@@ -89,7 +90,26 @@ impl Case {
                 }
             }
         }
-        Ok(self)
+        Ok(())
+    }
+
+    /// Does what a line says, and prints what comes of it.
+    pub fn answer<R: Threads + Wait + Sync>(
+        &mut self,
+        rt: HostRuntime,
+        threads: &R,
+        alloc: Global,
+        call: Call<'_>,
+    ) -> io::Result<()> {
+        match call {
+            Call::Serve(words) => self.serve(rt, threads, alloc, words),
+            Call::Begin(rest) => self.begin(rt, threads, alloc, rest),
+            Call::Keep(rest) => self.keep(rt, threads, alloc, rest),
+            Call::Meet(rest) => self.meet(rt, threads, alloc, rest),
+            Call::Compare(words) => self.compare(rt, threads, alloc, words),
+            Call::Deliver(texts) => self.deliver(rt, alloc, texts),
+            Call::Row(options) => self.follow(rt, threads, alloc, options),
+        }
     }
 
     /// The files, as none has been read.
@@ -102,17 +122,18 @@ impl Case {
     }
 
     /// A sink of which these writings fail.
-    fn sink(&self, alloc: Global, fails: &Vec<u64>) -> Result<MemSink, NoMemory> {
+    fn sink(&self, alloc: Global, fails: &[u64]) -> Result<MemSink, NoMemory> {
         MemSink::new(alloc, ROOM, self.piece, Vec::from_slice(alloc, fails)?)
     }
 
-    /// Delivers the texts of the log and the output, between which is a space, and prints what each sink gained.
-    pub fn deliver(&self, rt: HostRuntime, alloc: Global, texts: &str) -> io::Result<()> {
-        let (log_text, out_text) = texts.split_once(' ').unwrap_or((texts, ""));
-        let texts = Texts {
-            out: bytes_of(alloc, out_text)?,
-            log: bytes_of(alloc, log_text)?,
-        };
+    /// From now on the file of this name has these bytes.
+    fn keep_file(&mut self, alloc: Global, name: &str, bytes: &[u8]) -> Result<(), NoMemory> {
+        Ok(self.files.push(Given::of(alloc, name, bytes)?)?)
+    }
+
+    /// Delivers the texts of the log and the output, and prints what each sink gained.
+    fn deliver(&self, rt: HostRuntime, alloc: Global, line: &str) -> io::Result<()> {
+        let texts = texts(alloc, line)?;
         let mut out = self.sink(alloc, &self.out_fails)?;
         let mut log = self.sink(alloc, &self.log_fails)?;
         let answer = match deliver(&texts, &mut out, &mut log) {
@@ -120,8 +141,8 @@ impl Case {
             Err(_) => "failed",
         };
         println!(rt; "{answer}")?;
-        show(rt, "log", &log)?;
-        show(rt, "output", &out)
+        print_sink(rt, "log", &log)?;
+        print_sink(rt, "output", &out)
     }
 
     /// Serves words.
@@ -132,50 +153,29 @@ impl Case {
         line: Option<&str>,
         gate: &G,
     ) -> Result<Served, NoMemory> {
-        let words = words(alloc, line)?;
-        let mut files = self.files(alloc)?;
         let mut out = self.sink(alloc, &self.out_fails)?;
         let mut log = self.sink(alloc, &self.log_fails)?;
+        let words = words(alloc, line)?;
+        let mut files = self.files(alloc)?;
         let exit = run_program(threads, alloc, &words, &mut files, &mut out, &mut log, gate);
         Ok(Served { exit, out, log })
     }
 
-    /// Serves words, and prints how the program ends and what the output gained, at most so many bytes. It answers what the log
-    /// gained.
-    fn shown<R: Threads + Wait + Sync>(
-        &self,
-        rt: HostRuntime,
-        threads: &R,
-        alloc: Global,
-        line: Option<&str>,
-        most: usize,
-    ) -> io::Result<Vec<u8>> {
-        let Served { exit, out, log } = self.served(threads, alloc, line, &OpenGate)?;
-        let count = out.bytes().len();
-        let logged = log.bytes().len();
-        println!(rt; "{exit:?} out {count} log {logged}")?;
-        let mut printed = StdSink::new(rt);
-        let _ = write_all(&mut printed, &out.bytes()[..count.min(most)]);
-        Ok(Vec::from_slice(alloc, log.bytes())?)
-    }
-
     /// Serves words, and prints how the program ends and what the sinks gained.
-    pub fn serve<R: Threads + Wait + Sync>(
+    fn serve<R: Threads + Wait + Sync>(
         &self,
         rt: HostRuntime,
         threads: &R,
         alloc: Global,
         line: Option<&str>,
     ) -> io::Result<()> {
-        let log = self.shown(rt, threads, alloc, line, ALL)?;
-        if log.is_empty() {
-            return println!(rt; "");
-        }
-        println!(rt; "log {}\n", encode(alloc, &log)?.as_str())
+        let served = self.served(threads, alloc, line, &OpenGate)?;
+        served.print_output(rt, ALL)?;
+        served.print_log(rt, alloc)
     }
 
     /// Serves the words behind a number, and prints how the program ends and what the output gained, at most so many bytes.
-    pub fn begin<R: Threads + Wait + Sync>(
+    fn begin<R: Threads + Wait + Sync>(
         &self,
         rt: HostRuntime,
         threads: &R,
@@ -183,13 +183,14 @@ impl Case {
         rest: &str,
     ) -> io::Result<()> {
         let (most, line) = rest.split_once(' ').unwrap_or((rest, ""));
-        let _log = self.shown(rt, threads, alloc, Some(line), most.parse().unwrap_or(ALL))?;
+        let served = self.served(threads, alloc, Some(line), &OpenGate)?;
+        served.print_output(rt, most.parse().unwrap_or(ALL))?;
         println!(rt; "\n")
     }
 
     /// Serves the words behind a name, and prints how the program ends and what the output gained. What the log gained is the file of
     /// that name from then on.
-    pub fn keep<R: Threads + Wait + Sync>(
+    fn keep<R: Threads + Wait + Sync>(
         &mut self,
         rt: HostRuntime,
         threads: &R,
@@ -197,14 +198,15 @@ impl Case {
         rest: &str,
     ) -> io::Result<()> {
         let (name, line) = rest.split_once(' ').unwrap_or((rest, ""));
-        let log = self.shown(rt, threads, alloc, Some(line), ALL)?;
-        self.files.push(Given::of(alloc, name, log)?)?;
+        let served = self.served(threads, alloc, Some(line), &OpenGate)?;
+        served.print_output(rt, ALL)?;
+        self.keep_file(alloc, name, served.log.bytes())?;
         println!(rt; "")
     }
 
     /// Serves the words behind a name at a gate where two workers meet, and prints how the program ends, and whether they met. What
     /// the log gained is the file of that name from then on.
-    pub fn meet<R: Threads + Wait + Sync>(
+    fn meet<R: Threads + Wait + Sync>(
         &mut self,
         rt: HostRuntime,
         threads: &R,
@@ -213,28 +215,52 @@ impl Case {
     ) -> io::Result<()> {
         let (name, line) = rest.split_once(' ').unwrap_or((rest, ""));
         let gate = Meeting::new();
-        let Served { exit, out, log } = self.served(threads, alloc, Some(line), &gate)?;
-        let log = Vec::from_slice(alloc, log.bytes())?;
-        self.files.push(Given::of(alloc, name, log)?)?;
-        self.report = Vec::from_slice(alloc, out.bytes())?;
-        let met = if gate.missed() { "missed" } else { "met" };
-        println!(rt; "{exit:?} {met}\n")
+        let served = self.served(threads, alloc, Some(line), &gate)?;
+        self.keep_file(alloc, name, served.log.bytes())?;
+        self.report = Vec::from_slice(alloc, served.out.bytes())?;
+        served.print_meeting(rt, gate.missed())
     }
 
     /// Serves words, and prints how the program ends, and whether the output gained the same as at the last meeting.
-    pub fn compare<R: Threads + Wait + Sync>(
+    fn compare<R: Threads + Wait + Sync>(
         &self,
         rt: HostRuntime,
         threads: &R,
         alloc: Global,
         line: &str,
     ) -> io::Result<()> {
-        let Served { exit, out, log: _ } = self.served(threads, alloc, Some(line), &OpenGate)?;
-        let same = if out.bytes() == self.report.as_slice() {
-            "same"
-        } else {
-            "other"
-        };
-        println!(rt; "{exit:?} {same} report\n")
+        let served = self.served(threads, alloc, Some(line), &OpenGate)?;
+        served.print_compared(rt, &self.report)
+    }
+
+    /// Runs the program `p` under the configuration `c` with these options, replays it, and lets a session take the quanta of the log
+    /// that the run left. It prints the session's report.
+    fn follow<R: Threads + Wait + Sync>(
+        &mut self,
+        rt: HostRuntime,
+        threads: &R,
+        alloc: Global,
+        options: &str,
+    ) -> io::Result<()> {
+        let line = format!(in alloc; "run p c {options} --log l")?;
+        let run = self.served(threads, alloc, Some(line.as_str()), &OpenGate)?;
+        self.keep_file(alloc, "l", run.log.bytes())?;
+        self.print_followed(rt, threads, alloc, &run)
+    }
+
+    /// Replays a run whose log is the file `l`, and lets a session take its quanta. It prints the session's report.
+    fn print_followed<R: Threads + Wait + Sync>(
+        &self,
+        rt: HostRuntime,
+        threads: &R,
+        alloc: Global,
+        run: &Served,
+    ) -> io::Result<()> {
+        let replay = self.served(threads, alloc, Some("replay p c l"), &OpenGate)?;
+        let mut files = self.files(alloc)?;
+        match report_along(alloc, &mut files, run.log.bytes()) {
+            Ok(report) => print_report(rt, &report, run.out.bytes(), replay.out.bytes()),
+            Err(_) => println!(rt; "refused"),
+        }
     }
 }

@@ -42,10 +42,10 @@ impl Given {
     }
 
     /// A file of this name with these bytes.
-    pub fn of(alloc: Global, name: &str, bytes: Vec<u8>) -> Result<Given, NoMemory> {
+    pub fn of(alloc: Global, name: &str, bytes: &[u8]) -> Result<Given, NoMemory> {
         Ok(Given {
             name: String::from_str(alloc, name)?,
-            bytes: Some(bytes),
+            bytes: Some(Vec::from_slice(alloc, bytes)?),
             fails: Vec::new(alloc),
         })
     }

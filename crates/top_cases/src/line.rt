@@ -3,20 +3,29 @@
 pub enum Line<'a> {
     /// What is given: a word and what stands behind it.
     Given(&'a str, &'a str),
-    /// Words that are served, or none where they aren't text.
-    Served(Option<&'a str>),
-    /// A number, and words that are served, of whose output only so many bytes are printed.
-    Begun(&'a str),
-    /// A name, and words that are served, whose log is the file of that name from then on.
-    Kept(&'a str),
-    /// A name, and words that are served where two workers meet, whose log is the file of that name from then on.
-    Met(&'a str),
-    /// Words that are served, whose output is compared.
-    Compared(&'a str),
-    /// Texts that are delivered.
-    Delivered(&'a str),
+    /// What is to be done, with the case as it is.
+    Call(Call<'a>),
     /// Nothing.
     Nothing,
+}
+
+/// What is to be done with a case.
+#[derive(Clone, Copy, Drop)]
+pub enum Call<'a> {
+    /// Words are served, or none where they aren't text.
+    Serve(Option<&'a str>),
+    /// A number, and words that are served, of whose output only so many bytes are printed.
+    Begin(&'a str),
+    /// A name, and words that are served, whose log is the file of that name from then on.
+    Keep(&'a str),
+    /// A name, and words that are served where two workers meet, whose log is the file of that name from then on.
+    Meet(&'a str),
+    /// Words are served, and their output is compared.
+    Compare(&'a str),
+    /// Texts are delivered.
+    Deliver(&'a str),
+    /// A session takes the quanta of a run with these options.
+    Row(&'a str),
 }
 
 impl<'a> Line<'a> {
@@ -30,13 +39,14 @@ impl<'a> Line<'a> {
             None => (text, ""),
         };
         match word {
-            "words" => Line::Served(Some(rest)),
-            "begin" => Line::Begun(rest),
-            "keep" => Line::Kept(rest),
-            "meet" => Line::Met(rest),
-            "compare" => Line::Compared(rest),
-            "not-text" => Line::Served(None),
-            "deliver" => Line::Delivered(rest),
+            "words" => Line::Call(Call::Serve(Some(rest))),
+            "begin" => Line::Call(Call::Begin(rest)),
+            "keep" => Line::Call(Call::Keep(rest)),
+            "meet" => Line::Call(Call::Meet(rest)),
+            "compare" => Line::Call(Call::Compare(rest)),
+            "not-text" => Line::Call(Call::Serve(None)),
+            "deliver" => Line::Call(Call::Deliver(rest)),
+            "row" => Line::Call(Call::Row(rest)),
             "" | "#" => Line::Nothing,
             _ => Line::Given(word, rest),
         }

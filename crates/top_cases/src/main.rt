@@ -13,53 +13,49 @@
 //! - `meet NAME WORDS`: the same, and two workers meet before the second quantum of each; of what is left only the status is printed,
 //!   and whether they met. `compare WORDS`: these words are served, and it is printed whether the output gains the same as then.
 //! - `deliver LOG OUTPUT`: these two texts are delivered, and what the log and the output gained is printed.
+//! - `row OPTIONS`: the program `p` under the configuration `c` is run with these options, and replayed; by the calls of a session alone
+//!   it is run along the log that `run` left. The session's report is printed, and whether the commands' are the same.
 //!
 //! Other lines say nothing.
 #![tactic(auto)]
 
+mod along;
 mod case;
 mod given;
 mod line;
 mod meeting;
+mod served;
 
 use crate::case::Case;
 use crate::line::Line;
+use std::alloc::Global;
 use std::io;
+use std::sync::Wait;
+use std::thread::Threads;
+
+/// Takes up a line, or prints it and what comes of it.
+fn answer<R: Threads + Wait + Sync>(
+    rt: HostRuntime,
+    threads: &R,
+    alloc: Global,
+    case: &mut Case,
+    text: &str,
+) -> io::Result<()> {
+    match Line::of(text) {
+        Line::Given(word, rest) => Ok(case.take(alloc, word, rest)?),
+        Line::Call(call) => {
+            println!(rt; "{text}")?;
+            case.answer(rt, threads, alloc, call)
+        }
+        Line::Nothing => Ok(()),
+    }
+}
 
 fn main(rt: HostRuntime) -> io::Result<()> {
     let alloc = rt.alloc();
     let mut case = Case::new(alloc);
     for line in rt.lines(alloc) {
-        let line = line?;
-        let text = line.as_str();
-        match Line::of(text) {
-            Line::Given(word, rest) => case = case.with(alloc, word, rest)?,
-            Line::Served(words) => {
-                println!(rt; "{text}")?;
-                case.serve(rt, &rt, alloc, words)?;
-            }
-            Line::Begun(rest) => {
-                println!(rt; "{text}")?;
-                case.begin(rt, &rt, alloc, rest)?;
-            }
-            Line::Kept(rest) => {
-                println!(rt; "{text}")?;
-                case.keep(rt, &rt, alloc, rest)?;
-            }
-            Line::Met(rest) => {
-                println!(rt; "{text}")?;
-                case.meet(rt, &rt, alloc, rest)?;
-            }
-            Line::Compared(words) => {
-                println!(rt; "{text}")?;
-                case.compare(rt, &rt, alloc, words)?;
-            }
-            Line::Delivered(texts) => {
-                println!(rt; "{text}")?;
-                case.deliver(rt, alloc, texts)?;
-            }
-            Line::Nothing => {}
-        }
+        answer(rt, &rt, alloc, &mut case, line?.as_str())?;
     }
     Ok(())
 }

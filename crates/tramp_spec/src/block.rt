@@ -2,7 +2,7 @@ use crate::mark::MarkedWord;
 use pn_types::Seq;
 
 /// A base block or mini block, as it is to be written into the tool text.
-#[derive(Drop, Debug)]
+#[derive(Drop)]
 pub struct Block {
     /// The address of the program's word for which it stands.
     pub point: u64,
@@ -15,7 +15,7 @@ pub struct Block {
 }
 
 /// The words that do at another place what a word of the program does at its own.
-#[derive(Clone, Copy, Debug, PartialEq, Eq, Drop)]
+#[derive(Clone, Copy, PartialEq, Eq, Drop)]
 pub struct Moved {
     /// The first `len` of these.
     pub words: [MarkedWord; 4],

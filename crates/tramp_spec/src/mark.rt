@@ -3,7 +3,7 @@ ghost use Rattle.tramp_spec.specs.Marks as marks;
 
 /// What a word is for the hart that executes it: whether it is a tick, what its loads and stores reach, and whether the hart
 /// is inside a trampoline afterwards.
-#[derive(Clone, Copy, Debug, PartialEq, Eq, Drop)]
+#[derive(Clone, Copy, PartialEq, Eq, Drop)]
 pub enum Mark {
     /// A word of the program: a tick, over the program's memory. Inside, a jump of it leaves the trampoline.
     Own,
@@ -16,7 +16,7 @@ pub enum Mark {
 }
 
 /// A word with its mark.
-#[derive(Clone, Copy, Debug, PartialEq, Eq, Drop)]
+#[derive(Clone, Copy, PartialEq, Eq, Drop)]
 pub struct MarkedWord {
     /// The word.
     pub word: u32,

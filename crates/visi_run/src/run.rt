@@ -30,7 +30,7 @@ use whole_run::Rounds;
 const ROOM: u32 = 64;
 
 /// In which order harts take quanta, and how many view the run.
-#[derive(Clone, Copy, Debug, PartialEq, Eq, Drop)]
+#[derive(Clone, Copy, PartialEq, Eq, Drop)]
 pub struct ViewedCourse {
     /// The seed of the order.
     pub seed: u32,

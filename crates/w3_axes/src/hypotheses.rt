@@ -15,7 +15,6 @@ use std::alloc::Global;
 use std::marker::Model;
 
 /// Hypotheses by number, each linked to those whose parent it is. Contracts see the list of them.
-#[derive(Drop)]
 pub struct Hypotheses {
     list: Vec<Hypothesis>,
     /// The numbers of those without a parent.
@@ -36,6 +35,18 @@ impl Model for Hypotheses {
     ghost view = { λ h. h.list.items };
 
     ghost invariant = { λ h. IsLinked (λ key. key.items) (λ own. own.items) h.list.items h.roots.items h.under.entries h.axes.items };
+}
+
+// By a call of its own: what drops it need not prove the drops of all its parts.
+impl Drop for Hypotheses {
+    fn drop(self) {
+        let Hypotheses {
+            list: _,
+            roots: _,
+            under: _,
+            axes: _,
+        } = self;
+    }
 }
 
 /// Copies of hypotheses.

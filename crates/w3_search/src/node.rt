@@ -50,7 +50,7 @@ pub struct Node {
 }
 
 /// A sample of a node.
-#[derive(Clone, Copy, Debug, Drop)]
+#[derive(Clone, Copy, Drop)]
 pub struct NodeSample {
     /// The node's number.
     pub node: u32,

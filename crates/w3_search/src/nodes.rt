@@ -20,7 +20,6 @@ use std::marker::Model;
 use w3_axes::Hypotheses;
 
 /// The nodes in the order in which they were made, with room for all that may be. Contracts see the list of them.
-#[derive(Drop)]
 pub(crate) struct Nodes {
     list: Vec<Node>,
     /// Where they stand, in their order.
@@ -43,6 +42,19 @@ impl Model for Nodes {
     ghost view = { λ n. n.list.items };
 
     ghost invariant = { λ n. IsIndexed n.list.items n.index n.waiting.items n.active.items × HasRoom n.list n.waiting n.active n.next_active };
+}
+
+// By a call of its own: what drops it need not prove the drops of all its parts.
+impl Drop for Nodes {
+    fn drop(self) {
+        let Nodes {
+            list: _,
+            index: _,
+            waiting: _,
+            active: _,
+            next_active: _,
+        } = self;
+    }
 }
 
 /// Whether a place is in the index.

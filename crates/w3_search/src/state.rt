@@ -27,7 +27,6 @@ const ROOT: Focus = Focus {
 };
 
 /// The state of a search, with its room. Contracts see what it goes by, its nodes, its phase and its drops.
-#[derive(Drop)]
 pub(crate) struct State {
     hypotheses: Hypotheses,
     decl: SearchDecl,
@@ -47,6 +46,21 @@ impl Model for State {
     ghost view = { λ s. record { rules = record { hypotheses = s.hypotheses; decl = s.decl; phases = s.phases.items; tree = s.tree }; nodes = s.nodes; present = s.present; drops = s.drops.items } };
 
     ghost invariant = { λ s. IsState s.decl.window s.phases.items s.nodes s.present s.drops };
+}
+
+// By a call of its own: what drops it need not prove the drops of all its parts.
+impl Drop for State {
+    fn drop(self) {
+        let State {
+            hypotheses: _,
+            decl: _,
+            phases: _,
+            tree: _,
+            nodes: _,
+            present: _,
+            drops: _,
+        } = self;
+    }
 }
 
 /// Copies of phases.

@@ -14,7 +14,7 @@ pub enum Misfit {
 }
 
 /// Why a run along quanta that are told has no report.
-#[derive(Debug, Drop)]
+#[derive(Drop)]
 pub enum ReplayFault {
     /// Memory is wanting.
     NoMemory,

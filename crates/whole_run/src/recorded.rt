@@ -23,7 +23,7 @@ pub struct Recorded {
 }
 
 /// In which order harts take quanta, and what is asked for of the run.
-#[derive(Clone, Copy, Debug, PartialEq, Eq, Drop)]
+#[derive(Clone, Copy, PartialEq, Eq, Drop)]
 pub struct Course {
     /// The seed of the order.
     pub seed: u32,

@@ -1,0 +1,11 @@
+mod Behind
+mod Each
+mod FewItems
+mod Directed
+mod SightSteps
+mod PlanLemmas
+mod Inside
+mod Wished
+mod Numbered
+mod Given
+mod Counted

@@ -1,0 +1,28 @@
+-- What is due for `advise`.
+use Rattle.std.specs.Prelude.{◌≡◌, ℕ, List, Result, Ok, Err}
+use Rattle.advice.specs.Directives.{advice}
+use Rattle.advice.specs.Reading.{verdicts_of}
+use Rattle.advice.specs.declared.fault.ReportFault.{ReportFault}
+use Rattle.advice.specs.declared.fault.ReportFault.TheVariants as fault
+use Rattle.advice.specs.declared.verdict.Verdict.{Verdict}
+use Rattle.refusals.specs.Refusals.{Step, Then}
+use Rattle.refusals.specs.declared.fault.Fault.{Fault}
+use Rattle.refusals.specs.declared.fault.Fault.TheVariants.{BadReport}
+use Rattle.commands.specs.Output.{output}
+use Rattle.commands.specs.Sights.{Sight, IsContent}
+use Rattle.commands.specs.declared.advising.TheConstants.{REPORT_LIMIT}
+use Rattle.commands.specs.declared.texts.Texts.{Texts}
+
+-- what the verdicts of a report advise, or its first fault; no bytes mean want of memory
+abbrev pub advised : Result (List Verdict) ReportFault → Result Texts Fault
+advised (Ok verdicts) = Ok (output (advice verdicts))
+advised (Err (fault.BadReport place)) = Err (BadReport place)
+advised (Err fault.NoMemory) = Err (BadReport 0)
+
+-- what a report's file has
+abbrev pub IsReportContent : Sight → List ℕ → Step (List ℕ)
+IsReportContent sees = IsContent sees REPORT_LIMIT (BadReport REPORT_LIMIT)
+
+-- what the report of a name advises
+abbrev pub IsAdviceDue : List ℕ → Sight → Step Texts
+IsAdviceDue name sees = Then (IsReportContent sees name) (λ bytes texts. texts ≡ advised (verdicts_of bytes))

@@ -1,0 +1,83 @@
+-- What is due for `direct`.
+use Rattle.std.specs.Prelude.{◌≡◌, ℕ, List, Result, Ok, Err}
+use Rattle.code_points.specs.Procedures.{skipped_of}
+use Rattle.command_words.specs.Requests.{DirectRequest}
+use Rattle.directives.specs.Acts.{applied}
+use Rattle.directives.specs.Reading.{directives_of}
+use Rattle.directives.specs.declared.directive.Directive.{Directive}
+use Rattle.directives.specs.declared.fault.DirectiveFault.{DirectiveFault}
+use Rattle.directives.specs.declared.fault.DirectiveFault.TheVariants as fault
+use Rattle.mdl_ast.specs.declared.items.Conf.{Conf}
+use Rattle.mdl_ast.specs.declared.items.Item.{Item}
+use Rattle.mdl_shipped.specs.Shipped.{shipped_conf}
+use Rattle.pn_types.specs.declared.image.Image.{Image}
+use Rattle.quanta_log.specs.declared.quantum.Quantum.{Quantum}
+use Rattle.refusals.specs.Kinds.{fault_at, directive_kind}
+use Rattle.refusals.specs.Refusals.{Step, Then}
+use Rattle.refusals.specs.declared.configuration.ConfKind.TheVariants.{TooLong}
+use Rattle.refusals.specs.declared.fault.Fault.{Fault}
+use Rattle.refusals.specs.declared.fault.Fault.TheVariants.{BadDirectives}
+use Rattle.session_spec.specs.Inputs.{Inputs}
+use Rattle.session_spec.specs.Opening.{bad_pick}
+use Rattle.whole_run.specs.Recorded.{report_of}
+use Rattle.whole_run.specs.Seeded.{IsSeeded}
+use Rattle.commands.specs.Output.{output}
+use Rattle.commands.specs.Found.{IsFound}
+use Rattle.commands.specs.Given.{inputs_with}
+use Rattle.commands.specs.Inputs.{AreInputs}
+use Rattle.commands.specs.Runs.{IsOpened}
+use Rattle.commands.specs.Sights.{Sight, IsContent}
+use Rattle.commands.specs.declared.directing.TheConstants.{DIRECTIVES_LIMIT}
+use Rattle.commands.specs.declared.inputs.Inputs.{Inputs as Read}
+use Rattle.commands.specs.declared.texts.Texts.{Texts}
+
+-- ---- directives
+
+-- no line means want of memory
+abbrev pub directive_fault : DirectiveFault → Fault
+directive_fault (fault.At line col kind) = BadDirectives (fault_at line col (directive_kind kind))
+directive_fault fault.NoMemory = BadDirectives (fault_at 0 0 TooLong)
+
+abbrev pub or_bad_directives : {A : Type 0} → Result A DirectiveFault → Result A Fault
+or_bad_directives (Ok a) = Ok a
+or_bad_directives (Err fault) = Err (directive_fault fault)
+
+-- what a file of directives has
+abbrev pub IsDirectivesContent : Sight → List ℕ → Step (List ℕ)
+IsDirectivesContent sees = IsContent sees DIRECTIVES_LIMIT (BadDirectives (fault_at 0 0 TooLong))
+
+-- the directives of a name
+abbrev pub AreDirectives : Sight → List ℕ → Step (List Directive)
+AreDirectives sees name = Then (IsDirectivesContent sees name) (λ bytes directives. directives ≡ or_bad_directives (directives_of bytes))
+
+-- a configuration of these items
+abbrev pub conf_with : Result (List Item) Fault → Result Conf Fault
+conf_with (Ok items) = Ok (record { items = items })
+conf_with (Err fault) = Err fault
+
+-- the configuration after directives
+abbrev pub IsDirected : Conf → List Directive → Step Conf
+IsDirected conf directives directed = directed ≡ conf_with (or_bad_directives (applied shipped_conf.items conf.items directives))
+
+-- ---- direct
+
+-- the report of these quanta
+abbrev pub directed_texts : Inputs → List Quantum → Texts
+directed_texts i quanta = output (report_of i quanta (skipped_of i.image))
+
+-- the whole list of quanta in the order of the seed
+abbrev pub IsDirectWith : DirectRequest → Inputs → Step Texts
+IsDirectWith r i = IsOpened (bad_pick i) i (IsSeeded i r.seed r.quantum) (directed_texts i)
+
+-- the run of an image under a configuration, which is checked again
+abbrev pub IsDirectRun : DirectRequest → Image → Conf → Step Texts
+IsDirectRun r image conf = Then (IsFound image r.settings.harts conf) (λ found. IsDirectWith r (inputs_with image found r.settings))
+
+-- directives, and the run under what they make of the configuration
+abbrev pub IsDirection : DirectRequest → Sight → Read → Step Texts
+IsDirection r sees i = Then (AreDirectives sees r.directives) (λ directives. Then (IsDirected i.conf directives) (IsDirectRun r i.image))
+
+-- The program and the configuration are read and checked, and then the directives.
+abbrev pub IsDirectDue : DirectRequest → Sight → Step Texts
+IsDirectDue r sees =
+    Then (AreInputs sees r.program r.conf) (λ i. Then (IsFound i.image r.settings.harts i.conf) (λ found. IsDirection r sees i))

@@ -1,0 +1,13 @@
+pub mod Output
+pub mod Sights
+pub mod Inputs
+pub mod Found
+pub mod Given
+pub mod Plans
+pub mod Logs
+pub mod Replays
+pub mod Runs
+pub mod Blocks
+pub mod Advising
+pub mod Directing
+pub mod Listing

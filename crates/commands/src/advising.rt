@@ -1,0 +1,41 @@
+//! The command `advise`.
+
+ghost use Rattle.std.specs.Prelude.{◌≡◌};
+ghost use Rattle.advice.specs.Reading.{verdicts_of};
+ghost use Rattle.commands.specs.Advising.{advised, IsAdviceDue};
+ghost use Rattle.commands.specs.Sights.{seen, Looks};
+ghost use Rattle.refusals.specs.Refusals.{Comes};
+
+use crate::files::read_file;
+use crate::texts::Texts;
+use advice::{ReportFault, advise, read_verdicts};
+use outside::Files;
+use refusals::{Fault, Refusal};
+use std::alloc::Global;
+
+/// The greatest length of a report in bytes.
+pub const REPORT_LIMIT: u64 = 33_554_432;
+
+/// What the bytes of a report advise.
+fn advised(alloc: Global, report: &[u8]) -> Result<Texts, Refusal>
+    ensures { Comes result (λ texts. texts ≡ advised (verdicts_of report.now)) }
+{
+    match read_verdicts(alloc, report) {
+        Ok(verdicts) => {
+            let text = advise(alloc, &verdicts)?;
+            Ok(Texts::output(alloc, text))
+        }
+        Err(ReportFault::BadReport(place)) => Err(Refusal::Fault(Fault::BadReport(place))),
+        Err(ReportFault::NoMemory) => Err(Refusal::NoMemory),
+    }
+}
+
+/// What is due for `advise`.
+pub fn advise_from<F: Files>(alloc: Global, name: &str, files: &mut F) -> Result<Texts, Refusal>
+    ensures due { Comes result (IsAdviceDue name.now (seen (F.holds files.old) (F.faults files.old) (F.faults files.new))) }
+    ensures looks { Looks F.holds F.faults files.old files.new result }
+{
+    let too_long = Fault::BadReport(REPORT_LIMIT);
+    let report = read_file(alloc, files, name, REPORT_LIMIT, too_long)?;
+    advised(alloc, report.as_slice())
+}

@@ -1,0 +1,199 @@
+//! The command `direct`.
+
+ghost use Rattle.std.specs.Prelude.{◌≡◌, ◌≤◌, IfOk, length};
+ghost use Rattle.std.specs.List.{AllByRecursion};
+ghost use Rattle.code_points.specs.Procedures.{AreModulesGood};
+ghost use Rattle.command_words.specs.Asked.{asked_direct};
+ghost use Rattle.command_words.specs.Requests.{HasRanges, direct};
+ghost use Rattle.directives.specs.Applying.{IsAccepted};
+ghost use Rattle.directives.specs.Reading.{directives_of};
+ghost use Rattle.mdl_ast.specs.Small.{HasSmall};
+ghost use Rattle.mdl_shipped.specs.Shipped.{shipped_conf};
+ghost use Rattle.commands.specs.Directing.{or_bad_directives, AreDirectives, IsDirectDue, IsDirected, IsDirection, IsDirectRun, IsDirectWith};
+ghost use Rattle.commands.specs.Given.{inputs_with, CanRun, IsUnscratched};
+ghost use Rattle.commands.specs.Sights.{seen, Looks};
+ghost use Rattle.pn_types.specs.Images.{IsImage};
+ghost use Rattle.refusals.specs.Kinds.{fault_at};
+ghost use Rattle.refusals.specs.Refusals.{Comes};
+ghost use Rattle.session.specs.Given.{AreGiven};
+
+use crate::files::read_file;
+use crate::finding::{Found, find};
+use crate::inputs::{Inputs, read_inputs};
+use crate::preparing::session_inputs;
+use crate::running::bad_pick;
+use crate::texts::Texts;
+use code_points::procedures;
+use command_words::DirectRequest;
+use directives::{Directive, DirectiveFault, apply, read_directives};
+use mdl_ast::Conf;
+use mdl_shipped::shipped;
+use outside::Files;
+use pn_types::{Image, MAX_QUANTUM, Seq};
+use refusals::{ConfFault, ConfKind, Fault, Refusal, directive_kind};
+use resource_tree::Tree;
+use session::{Inputs as SessionInputs, StartFault};
+use std::alloc::Global;
+use whole_run::{Course, record_run};
+
+/// The greatest length of directives in bytes.
+pub const DIRECTIVES_LIMIT: u64 = 1_048_576;
+
+/// The refusal of directives at a line and a column.
+fn bad_directives(line: u32, col: u32, kind: ConfKind) -> Refusal
+    ensures { result ≡ Refusal.Fault (Fault.BadDirectives (fault_at line col kind)) }
+{
+    Refusal::Fault(Fault::BadDirectives(ConfFault { line, col, kind }))
+}
+
+/// The directives of a text.
+fn directives_in(alloc: Global, text: &[u8]) -> Result<Seq<Directive>, Refusal>
+    requires { length text.now ≤ DIRECTIVES_LIMIT }
+    ensures { Comes result (λ directives. directives ≡ or_bad_directives (directives_of text.now)) }
+{
+    match read_directives(alloc, text) {
+        Ok(directives) => Ok(Seq::from_vec(directives)),
+        Err(DirectiveFault::NoMemory) => Err(Refusal::NoMemory),
+        Err(DirectiveFault::At { line, col, kind }) => {
+            Err(bad_directives(line, col, directive_kind(kind)))
+        }
+    }
+}
+
+/// Reads directives.
+fn read_directions<F: Files>(
+    alloc: Global,
+    files: &mut F,
+    name: &str,
+) -> Result<Seq<Directive>, Refusal>
+    ensures directives { Comes result (AreDirectives (seen (F.holds files.old) (F.faults files.old) (F.faults files.new)) name.now) }
+    ensures looks { Looks F.holds F.faults files.old files.new result }
+{
+    let too_long = Fault::BadDirectives(ConfFault {
+        line: 0,
+        col: 0,
+        kind: ConfKind::TooLong,
+    });
+    let text = read_file(alloc, files, name, DIRECTIVES_LIMIT, too_long)?;
+    directives_in(alloc, text.as_slice())
+}
+
+/// What directives make of a configuration that was checked over these resources.
+fn directed(
+    alloc: Global,
+    conf: &Conf,
+    tree: &Tree,
+    directives: &[Directive],
+) -> Result<Conf, Refusal>
+    requires accepted { IsAccepted tree.now shipped_conf.items conf.now.items }
+    requires few { length conf.now.items ≤ 1048576 }
+    requires small { AllByRecursion HasSmall conf.now.items }
+    ensures directed { Comes result (IsDirected conf.now directives.now) }
+    ensures few { IfOk result (λ made. length made.items ≤ 4194304) }
+    ensures small { IfOk result (λ made. AllByRecursion HasSmall made.items) }
+{
+    let shipped = shipped(alloc)?;
+    match apply(alloc, conf, &shipped, tree, directives) {
+        Ok(made) => Ok(made),
+        Err(DirectiveFault::NoMemory) => Err(Refusal::NoMemory),
+        Err(DirectiveFault::At { line, col, kind }) => {
+            Err(bad_directives(line, col, directive_kind(kind)))
+        }
+    }
+}
+
+/// What is due of a run with these inputs.
+fn direct_inputs(
+    alloc: Global,
+    request: &DirectRequest<'_>,
+    inputs: SessionInputs,
+) -> Result<Texts, Refusal>
+    requires given { AreGiven inputs }
+    requires quantum { (1 ≤ request.now.quantum) × (request.now.quantum ≤ MAX_QUANTUM) }
+    ensures { Comes result (IsDirectWith (asked_direct request.now) inputs) }
+{
+    let (_, skipped) = procedures(alloc, &inputs.image)?;
+    let course = Course {
+        seed: request.seed,
+        turns: request.quantum,
+        skipped,
+        logged: false,
+    };
+    match record_run(alloc, inputs, &course) {
+        Ok(recorded) => Ok(Texts::output(alloc, recorded.report)),
+        Err(StartFault::NoMemory) => Err(Refusal::NoMemory),
+        Err(StartFault::BadPick(refused)) => Err(bad_pick(refused)),
+    }
+}
+
+/// What is due of a run of the image with what was found of it.
+fn direct_found(
+    alloc: Global,
+    request: &DirectRequest<'_>,
+    image: Image,
+    found: Found,
+) -> Result<Texts, Refusal>
+    requires ranges { HasRanges (direct (asked_direct request.now)) }
+    requires runs { CanRun image request.now.settings.harts found }
+    ensures { Comes result (IsDirectWith (asked_direct request.now) (inputs_with image found request.now.settings)) }
+{
+    let inputs = session_inputs(alloc, image, found, request.settings)?;
+    direct_inputs(alloc, request, inputs)
+}
+
+/// What is due of a run of the image under a configuration.
+fn run_directed(
+    alloc: Global,
+    request: &DirectRequest<'_>,
+    image: Image,
+    conf: &Conf,
+) -> Result<Texts, Refusal>
+    requires ranges { HasRanges (direct (asked_direct request.now)) }
+    requires image { IsImage image }
+    requires unscratched { IsUnscratched image }
+    requires modules { AreModulesGood image }
+    requires few { length conf.now.items ≤ 4194304 }
+    requires small { AllByRecursion HasSmall conf.now.items }
+    ensures { Comes result (IsDirectRun (asked_direct request.now) image conf.now) }
+{
+    let found = find(alloc, &image, request.settings.harts, conf)?;
+    direct_found(alloc, request, image, found)
+}
+
+/// What is due of a program and a configuration that was checked, under directives.
+fn follow_directions<F: Files>(
+    alloc: Global,
+    request: &DirectRequest<'_>,
+    inputs: Inputs,
+    tree: &Tree,
+    files: &mut F,
+) -> Result<Texts, Refusal>
+    requires ranges { HasRanges (direct (asked_direct request.now)) }
+    requires image { IsImage inputs.image }
+    requires unscratched { IsUnscratched inputs.image }
+    requires modules { AreModulesGood inputs.image }
+    requires few { length inputs.conf.items ≤ 1048576 }
+    requires small { AllByRecursion HasSmall inputs.conf.items }
+    requires accepted { IsAccepted tree.now shipped_conf.items inputs.conf.items }
+    ensures due { Comes result (IsDirection (asked_direct request.now) (seen (F.holds files.old) (F.faults files.old) (F.faults files.new)) inputs) }
+    ensures looks { Looks F.holds F.faults files.old files.new result }
+{
+    let directives = read_directions(alloc, files, request.directives)?;
+    let conf = directed(alloc, &inputs.conf, tree, directives.as_slice())?;
+    run_directed(alloc, request, inputs.image, &conf)
+}
+
+/// What is due for `direct`.
+pub fn direct<F: Files>(
+    alloc: Global,
+    request: &DirectRequest<'_>,
+    files: &mut F,
+) -> Result<Texts, Refusal>
+    requires ranges { HasRanges (direct (asked_direct request.now)) }
+    ensures due { Comes result (IsDirectDue (asked_direct request.now) (seen (F.holds files.old) (F.faults files.old) (F.faults files.new))) }
+    ensures looks { Looks F.holds F.faults files.old files.new result }
+{
+    let inputs = read_inputs(alloc, files, request.program, request.conf)?;
+    let found = find(alloc, &inputs.image, request.settings.harts, &inputs.conf)?;
+    follow_directions(alloc, request, inputs, &found.tree, files)
+}

@@ -1,0 +1,39 @@
+//! Files that are read to their ends.
+
+ghost use Rattle.std.specs.Prelude.{◌≡◌, ◌≤◌, IfOk, length};
+ghost use Rattle.commands.specs.Sights.{seen, IsContent, Looks};
+ghost use Rattle.refusals.specs.Refusals.{Comes};
+
+use outside::{Files, ReadFault, read_whole};
+use pn_types::{NoMemory, Seq, Text};
+use refusals::{Fault, Refusal};
+use std::alloc::Global;
+
+/// The bytes of a word as a text.
+pub fn text_of(alloc: Global, word: &str) -> Result<Text, NoMemory>
+    ensures { IfOk result (λ text. text ≡ word.now) }
+{
+    Ok(Text::from_vec(word.as_bytes().to_vec(alloc)?))
+}
+
+/// Reads a file to its end. It is refused with the fault `too_long` where it has more than `most` bytes.
+pub fn read_file<F: Files>(
+    alloc: Global,
+    files: &mut F,
+    name: &str,
+    most: u64,
+    too_long: Fault,
+) -> Result<Seq<u8>, Refusal>
+    ensures content { Comes result (IsContent (seen (F.holds files.old) (F.faults files.old) (F.faults files.new)) most too_long name.now) }
+    ensures short { IfOk result (λ bytes. length bytes ≤ most) }
+    ensures looks { Looks F.holds F.faults files.old files.new result }
+{
+    // Made first, so that a file that was not read is never answered with want of memory.
+    let unread = text_of(alloc, name)?;
+    match read_whole(alloc, files, name, most) {
+        Ok(bytes) => Ok(Seq::from_vec(bytes)),
+        Err(ReadFault::TooLong) => Err(Refusal::Fault(too_long)),
+        Err(ReadFault::NoMemory) => Err(Refusal::NoMemory),
+        Err(ReadFault::Outside) => Err(Refusal::Fault(Fault::FileFault(unread))),
+    }
+}

@@ -1,0 +1,36 @@
+//! What each command gives: the texts that are due for its request and the files that it names, or the first refusal.
+#![tactic(auto)]
+
+mod advising;
+mod blocks;
+mod configuration;
+mod directing;
+mod files;
+mod finding;
+mod inputs;
+mod listing;
+mod live;
+mod loading;
+mod logs;
+mod planning;
+mod preparing;
+mod replaying;
+mod running;
+mod stressing;
+mod texts;
+mod viewing;
+
+pub use advising::advise_from;
+pub use blocks::blocks;
+pub use directing::direct;
+pub use finding::{Found, find};
+pub use inputs::{Inputs, read_inputs};
+pub use listing::{list_points, write_elf};
+pub use live::live;
+pub use planning::show_plan;
+pub use preparing::session_inputs;
+pub use replaying::{relog, replay};
+pub use running::run;
+pub use stressing::stress;
+pub use texts::Texts;
+pub use viewing::view;

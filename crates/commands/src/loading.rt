@@ -1,0 +1,89 @@
+//! Programs from bytes.
+
+ghost use Rattle.std.specs.Prelude.{◌≡◌, ◌≤◌, IfOk, length};
+ghost use Rattle.asm_file.specs.Made.{elf_of};
+ghost use Rattle.code_points.specs.Procedures.{AreModulesGood};
+ghost use Rattle.elf_form.specs.Meaning.{meaning_of};
+ghost use Rattle.commands.specs.Given.{IsUnscratched};
+ghost use Rattle.commands.specs.Inputs.{begins_elf, or_bad_elf, or_bad_text, image_of, file_of};
+ghost use Rattle.pn_types.specs.Images.{IsImage};
+ghost use Rattle.refusals.specs.Refusals.{Comes};
+ghost use Rattle.rv_asm.specs.Assembly.{assembled};
+
+use asm_file::elf_of_text;
+use elf_form::{ElfFault, MAX_PROGRAM_LEN};
+use pn_types::{Image, Seq};
+use refusals::{Fault, ProgramFault, Refusal};
+use rv_asm::{AsmFault, assemble};
+use std::alloc::Global;
+
+/// The refusal of a program.
+pub fn bad_program(fault: ProgramFault) -> Refusal
+    ensures { result ≡ Refusal.Fault (Fault.BadProgram fault) }
+{
+    Refusal::Fault(Fault::BadProgram(fault))
+}
+
+/// Whether the bytes begin as those of an ELF file.
+fn begins_elf(bytes: &[u8]) -> bool
+    ensures { result ≡ begins_elf bytes.now }
+{
+    4 <= bytes.len() && &bytes[..4] == b"\x7fELF".as_slice()
+}
+
+/// The image of an ELF file.
+fn load_elf(alloc: Global, bytes: &[u8]) -> Result<Image, Refusal>
+    requires { length bytes.now ≤ MAX_PROGRAM_LEN }
+    ensures loads { Comes result (λ image. image ≡ or_bad_elf (meaning_of bytes.now)) }
+    ensures image { IfOk result IsImage }
+    ensures modules { IfOk result AreModulesGood }
+    ensures unscratched { IfOk result IsUnscratched }
+{
+    match elf_load::load(alloc, bytes) {
+        Ok(image) => Ok(image),
+        Err(ElfFault::NoMemory) => Err(Refusal::NoMemory),
+        Err(fault) => Err(bad_program(ProgramFault::Elf(fault))),
+    }
+}
+
+/// The image of an assembly text.
+fn load_text(alloc: Global, bytes: &[u8]) -> Result<Image, Refusal>
+    requires { length bytes.now ≤ MAX_PROGRAM_LEN }
+    ensures loads { Comes result (λ image. image ≡ or_bad_text (assembled bytes.now)) }
+    ensures image { IfOk result IsImage }
+    ensures modules { IfOk result AreModulesGood }
+    ensures unscratched { IfOk result IsUnscratched }
+{
+    match assemble(alloc, bytes) {
+        Ok(image) => Ok(image),
+        Err(AsmFault::NoMemory) => Err(Refusal::NoMemory),
+        Err(fault) => Err(bad_program(ProgramFault::Asm(fault))),
+    }
+}
+
+/// The image of a program's bytes.
+pub fn load(alloc: Global, bytes: &[u8]) -> Result<Image, Refusal>
+    requires { length bytes.now ≤ MAX_PROGRAM_LEN }
+    ensures loads { Comes result (λ image. image ≡ image_of bytes.now) }
+    ensures image { IfOk result IsImage }
+    ensures modules { IfOk result AreModulesGood }
+    ensures unscratched { IfOk result IsUnscratched }
+{
+    if begins_elf(bytes) {
+        load_elf(alloc, bytes)
+    } else {
+        load_text(alloc, bytes)
+    }
+}
+
+/// The ELF file of an assembly text.
+pub fn make_file(alloc: Global, text: &[u8]) -> Result<Seq<u8>, Refusal>
+    requires { length text.now ≤ MAX_PROGRAM_LEN }
+    ensures { Comes result (λ file. file ≡ file_of text.now) }
+{
+    match elf_of_text(alloc, text) {
+        Ok(file) => Ok(Seq::from_vec(file)),
+        Err(AsmFault::NoMemory) => Err(Refusal::NoMemory),
+        Err(fault) => Err(bad_program(ProgramFault::Asm(fault))),
+    }
+}

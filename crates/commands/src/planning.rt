@@ -1,0 +1,137 @@
+//! The command `plan`.
+
+ghost use Rattle.std.specs.Prelude.{◌≡◌, ◌<◌, ◌^◌, MatchOption, length, slice_get, Some, None};
+ghost use Rattle.code_points.specs.Procedures.{AreProcsOf};
+ghost use Rattle.command_words.specs.Asked.{asked_plan};
+ghost use Rattle.command_words.specs.Requests.{HasRanges, make_plan};
+ghost use Rattle.mdl_ast.specs.declared.metric.Metric.{Metric};
+ghost use Rattle.mdl_check.specs.Sound.{IsSound};
+ghost use Rattle.commands.specs.Plans.{IsPlanDue};
+ghost use Rattle.commands.specs.Plans.{metric_named, IsSelected, IsPlanAt, IsPlan};
+ghost use Rattle.commands.specs.Sights.{seen, Looks};
+ghost use Rattle.pn_types.specs.Images.{IsImage};
+ghost use Rattle.refusals.specs.Refusals.{Comes};
+
+use crate::configuration::bad_configuration;
+use crate::files::text_of;
+use crate::finding::{Found, find};
+use crate::inputs::read_inputs;
+use crate::texts::Texts;
+use command_words::PlanRequest;
+use mdl_ast::Metric;
+use mdl_plan::{PlanFault, PlanIndex, plan};
+use outside::Files;
+use pn_types::{Focus, Image, PickCause, Text};
+use prim_code::predicted;
+use refusals::{ConfKind, Fault, Refusal};
+use report::plan_text;
+use std::alloc::Global;
+
+/// The number of the first metric of this name.
+fn metric_number(metrics: &[Metric], name: &[u8]) -> Option<u32>
+    requires { length metrics.now < 2 ^ 32 }
+    ensures { MatchOption result (metric_named metrics.now name.now ≡ None)
+        (λ k. (k < length metrics.now) × (slice_get metrics.now k ≡ metric_named metrics.now name.now)) }
+{
+    for (number, metric) in metrics.iter().enumerate() {
+        if name == metric.name.bytes() {
+            return Some(number as u32);
+        }
+    }
+    None
+}
+
+/// What a text selects.
+fn select(found: &Found, text: &str) -> Result<Focus, Refusal>
+    ensures { Comes result (IsSelected found.now.tree text.now) }
+{
+    match found.tree.selected(text.as_bytes()) {
+        Some(focus) => Ok(focus),
+        None => Err(bad_configuration(0, 0, ConfKind::BadFocus)),
+    }
+}
+
+/// The refusal of a metric at a focus.
+fn bad_pick(metric: Text, focus: Text, cause: PickCause) -> Refusal
+    ensures { result ≡ Refusal.Fault (Fault.BadPick metric focus cause) }
+{
+    Refusal::Fault(Fault::BadPick(metric, focus, cause))
+}
+
+/// The plan of a metric, which has this name and number, at a focus.
+fn plan_at(
+    alloc: Global,
+    found: &Found,
+    name: &str,
+    number: u32,
+    focus: &Focus,
+) -> Result<Texts, Refusal>
+    requires procs { length found.now.procs < 2 ^ 32 }
+    requires points { length found.now.points < 2 ^ 32 }
+    requires number { number < length found.now.checked.metrics }
+    requires sound { IsSound found.now.checked }
+    ensures { (m : Metric) → slice_get found.now.checked.metrics number ≡ Some m → Comes result (IsPlanAt name.now found.now m focus.now) }
+{
+    let text = found.tree.focus_text(alloc, focus)?;
+    let metric = text_of(alloc, name)?;
+    let procs = found.procs.as_slice();
+    let points = found.points.as_slice();
+    let index = PlanIndex::new(alloc, procs, points)?;
+    match plan(
+        alloc,
+        &found.checked,
+        number,
+        focus,
+        &found.tree,
+        procs,
+        points,
+        &index,
+    ) {
+        Ok(plan) => {
+            let words = predicted(&plan);
+            let shown = plan_text(alloc, metric.bytes(), text.bytes(), words, &plan)?;
+            Ok(Texts::output(alloc, shown))
+        }
+        Err(PlanFault::NoMemory) => Err(Refusal::NoMemory),
+        Err(PlanFault::NoConstraint(axis)) => {
+            Err(bad_pick(metric, text, PickCause::NoConstraint(axis)))
+        }
+        Err(PlanFault::TooManySites(count)) => {
+            Err(bad_pick(metric, text, PickCause::TooManySites(count)))
+        }
+        Err(PlanFault::TooManyStmts(at)) => {
+            Err(bad_pick(metric, text, PickCause::TooManyStmts(at)))
+        }
+    }
+}
+
+/// The plan of the named metric at the focus of the text. First the name is looked for, and then what the text selects.
+fn plan_found(alloc: Global, request: &PlanRequest<'_>, found: &Found) -> Result<Texts, Refusal>
+    requires procs { length found.now.procs < 2 ^ 32 }
+    requires points { length found.now.points < 2 ^ 32 }
+    requires metrics { length found.now.checked.metrics < 2 ^ 32 }
+    requires sound { IsSound found.now.checked }
+    ensures { Comes result (IsPlan (asked_plan request.now) found.now) }
+{
+    let metrics = found.checked.metrics.as_slice();
+    let Some(number) = metric_number(metrics, request.metric.as_bytes()) else {
+        return Err(bad_configuration(0, 0, ConfKind::UnknownName));
+    };
+    let focus = select(found, request.focus)?;
+    plan_at(alloc, found, request.metric, number, &focus)
+}
+
+/// What is due for `plan`.
+pub fn show_plan<F: Files>(
+    alloc: Global,
+    request: &PlanRequest<'_>,
+    files: &mut F,
+) -> Result<Texts, Refusal>
+    requires { HasRanges (make_plan (asked_plan request.now)) }
+    ensures due { Comes result (IsPlanDue (asked_plan request.now) (seen (F.holds files.old) (F.faults files.old) (F.faults files.new))) }
+    ensures looks { Looks F.holds F.faults files.old files.new result }
+{
+    let inputs = read_inputs(alloc, files, request.program, request.conf)?;
+    let found = find(alloc, &inputs.image, request.harts, &inputs.conf)?;
+    plan_found(alloc, request, &found)
+}

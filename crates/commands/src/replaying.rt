@@ -1,0 +1,93 @@
+//! The commands `replay` and `relog`.
+
+ghost use Rattle.std.specs.Prelude.{◌≤◌, length};
+ghost use Rattle.std.specs.List.{AllByRecursion};
+ghost use Rattle.code_points.specs.Procedures.{AreModulesGood};
+ghost use Rattle.command_words.specs.Asked.{asked_replay};
+ghost use Rattle.mdl_ast.specs.Small.{HasSmall};
+ghost use Rattle.commands.specs.Given.{CanRun, IsUnscratched};
+ghost use Rattle.commands.specs.Replays.{IsRelogDue, IsReplay, IsReplayDue, IsReplayOf, IsReplayWith};
+ghost use Rattle.commands.specs.Sights.{seen, Looks};
+ghost use Rattle.pn_types.specs.Images.{IsImage};
+ghost use Rattle.quanta_log.specs.Spelling.{CanSpell};
+ghost use Rattle.quanta_log.specs.declared.version.Version.TheVariants as version;
+ghost use Rattle.refusals.specs.Refusals.{Comes};
+ghost use Rattle.session.specs.Given.{AreGiven};
+
+use crate::finding::{Found, find};
+use crate::inputs::{Inputs, read_inputs};
+use crate::logs::{Log, misfit_fault, read_log};
+use crate::preparing::session_inputs;
+use crate::running::bad_pick;
+use crate::texts::Texts;
+use code_points::procedures;
+use command_words::ReplayRequest;
+use outside::Files;
+use pn_types::Image;
+use quanta_log::write;
+use refusals::{Fault, Refusal};
+use std::alloc::Global;
+use whole_run::{ReplayFault, replay_run};
+
+/// What is due of a run with these inputs along a log's quanta.
+fn replay_inputs(alloc: Global, log: &Log, inputs: session::Inputs) -> Result<Texts, Refusal>
+    requires given { AreGiven inputs }
+    requires spelled { CanSpell version.Two inputs.settings log.now.quanta }
+    ensures { Comes result (IsReplayWith log.now inputs.image inputs) }
+{
+    let (_, skipped) = procedures(alloc, &inputs.image)?;
+    match replay_run(alloc, inputs, log.quanta.as_slice(), skipped) {
+        Ok(report) => Ok(Texts::output(alloc, report)),
+        Err(ReplayFault::NoMemory) => Err(Refusal::NoMemory),
+        Err(ReplayFault::BadPick(refused)) => Err(bad_pick(refused)),
+        Err(ReplayFault::Misfit(misfit)) => Err(Refusal::Fault(misfit_fault(log, misfit))),
+    }
+}
+
+/// What is due of a run along a log's quanta of the image with what was found of it.
+fn replay_found(alloc: Global, log: &Log, image: Image, found: Found) -> Result<Texts, Refusal>
+    requires spelled { CanSpell version.Two log.now.settings log.now.quanta }
+    requires runs { CanRun image log.now.settings.harts found }
+    ensures { Comes result (IsReplay log.now image found) }
+{
+    let inputs = session_inputs(alloc, image, found, log.settings)?;
+    replay_inputs(alloc, log, inputs)
+}
+
+/// What is due of a program and a configuration along a log's quanta.
+fn replay_log(alloc: Global, log: &Log, inputs: Inputs) -> Result<Texts, Refusal>
+    requires spelled { CanSpell version.Two log.now.settings log.now.quanta }
+    requires image { IsImage inputs.image }
+    requires unscratched { IsUnscratched inputs.image }
+    requires modules { AreModulesGood inputs.image }
+    requires few { length inputs.conf.items ≤ 1048576 }
+    requires small { AllByRecursion HasSmall inputs.conf.items }
+    ensures { Comes result (IsReplayOf log.now inputs) }
+{
+    let found = find(alloc, &inputs.image, log.settings.harts, &inputs.conf)?;
+    replay_found(alloc, log, inputs.image, found)
+}
+
+/// What is due for `replay`.
+pub fn replay<F: Files>(
+    alloc: Global,
+    request: &ReplayRequest<'_>,
+    files: &mut F,
+) -> Result<Texts, Refusal>
+    ensures due { Comes result (IsReplayDue (asked_replay request.now) (seen (F.holds files.old) (F.faults files.old) (F.faults files.new))) }
+    ensures looks { Looks F.holds F.faults files.old files.new result }
+{
+    let inputs = read_inputs(alloc, files, request.program, request.conf)?;
+    let log = read_log(alloc, files, request.log)?;
+    replay_log(alloc, &log, inputs)
+}
+
+/// What is due for `relog`.
+pub fn relog<F: Files>(alloc: Global, name: &str, files: &mut F) -> Result<Texts, Refusal>
+    ensures due { Comes result (IsRelogDue name.now (seen (F.holds files.old) (F.faults files.old) (F.faults files.new))) }
+    ensures looks { Looks F.holds F.faults files.old files.new result }
+{
+    let log = read_log(alloc, files, name)?;
+    let bytes = write(alloc, &log.settings, log.quanta.as_slice())?;
+    Ok(Texts::output(alloc, bytes))
+}

@@ -1,0 +1,145 @@
+//! A row is words between single spaces. Its answer is what they ask of `paradyn`: the command with the values that it has, or
+//! `usage`; and behind it the name of the log, where they give one.
+
+use crate::starts::start_text;
+use command_words::{
+    BlocksRequest, DirectRequest, LiveRequest, PlanRequest, ReplayRequest, Request, RunRequest,
+    StressRequest, VisiRequest, WordFault, log_name, read_request,
+};
+use pn_types::{NoMemory, Settings};
+use std::alloc::Global;
+use std::io;
+
+/// The words of a line.
+fn words(alloc: Global, line: &str) -> Result<Vec<String>, NoMemory> {
+    let mut words = Vec::new(alloc);
+    if !line.is_empty() {
+        for word in line.split(' ') {
+            words.push(String::from_str(alloc, word)?)?;
+        }
+    }
+    Ok(words)
+}
+
+/// The numbers of a run.
+fn settings_text(alloc: Global, settings: Settings) -> Result<String, NoMemory> {
+    let harts = settings.harts;
+    let budget = settings.budget;
+    let bins = settings.bins;
+    let width = settings.width;
+    let start = start_text(settings.start);
+    let instruments = settings.instruments;
+    let numbers = format!(in alloc; "harts {harts} budget {budget} bins {bins} width {width}")?;
+    format!(in alloc; "{numbers} {start} instruments {instruments}")
+}
+
+/// What `run` is asked for.
+fn run_text(alloc: Global, run: &RunRequest<'_>) -> Result<String, NoMemory> {
+    let settings = settings_text(alloc, run.settings)?;
+    let program = run.program;
+    let conf = run.conf;
+    let seed = run.seed;
+    let quantum = run.quantum;
+    format!(in alloc; "run [{program}] [{conf}] {settings} seed {seed} quantum {quantum}")
+}
+
+/// What `live` is asked for.
+fn live_text(alloc: Global, live: &LiveRequest<'_>) -> Result<String, NoMemory> {
+    let settings = settings_text(alloc, live.settings)?;
+    let program = live.program;
+    let conf = live.conf;
+    let workers = live.workers;
+    let quantum = live.quantum;
+    format!(in alloc; "live [{program}] [{conf}] {settings} workers {workers} quantum {quantum}")
+}
+
+/// What `replay` is asked for.
+fn replay_text(alloc: Global, replay: &ReplayRequest<'_>) -> Result<String, NoMemory> {
+    let program = replay.program;
+    let conf = replay.conf;
+    let log = replay.log;
+    format!(in alloc; "replay [{program}] [{conf}] [{log}]")
+}
+
+/// What `plan` is asked for.
+fn plan_text(alloc: Global, plan: &PlanRequest<'_>) -> Result<String, NoMemory> {
+    let program = plan.program;
+    let conf = plan.conf;
+    let metric = plan.metric;
+    let focus = plan.focus;
+    let harts = plan.harts;
+    format!(in alloc; "plan [{program}] [{conf}] [{metric}] [{focus}] harts {harts}")
+}
+
+/// What `stress` is asked for.
+fn stress_text(alloc: Global, stress: StressRequest) -> Result<String, NoMemory> {
+    let procs = stress.procs;
+    let seed = stress.seed;
+    format!(in alloc; "stress procs {procs} seed {seed}")
+}
+
+/// What `blocks` is asked for.
+fn blocks_text(alloc: Global, blocks: &BlocksRequest<'_>) -> Result<String, NoMemory> {
+    let program = blocks.program;
+    let harts = blocks.harts;
+    let budget = blocks.budget;
+    let seed = blocks.seed;
+    let quantum = blocks.quantum;
+    format!(in alloc;
+        "blocks [{program}] harts {harts} budget {budget} seed {seed} quantum {quantum}"
+    )
+}
+
+/// What `visi` is asked for.
+fn visi_text(alloc: Global, visi: &VisiRequest<'_>) -> Result<String, NoMemory> {
+    let settings = settings_text(alloc, visi.settings)?;
+    let program = visi.program;
+    let conf = visi.conf;
+    let seed = visi.seed;
+    let quantum = visi.quantum;
+    let views = visi.views;
+    let files = format!(in alloc; "visi [{program}] [{conf}]")?;
+    format!(in alloc; "{files} {settings} seed {seed} quantum {quantum} views {views}")
+}
+
+/// What `direct` is asked for.
+fn direct_text(alloc: Global, direct: &DirectRequest<'_>) -> Result<String, NoMemory> {
+    let settings = settings_text(alloc, direct.settings)?;
+    let program = direct.program;
+    let conf = direct.conf;
+    let directives = direct.directives;
+    let seed = direct.seed;
+    let quantum = direct.quantum;
+    let files = format!(in alloc; "direct [{program}] [{conf}] [{directives}]")?;
+    format!(in alloc; "{files} {settings} seed {seed} quantum {quantum}")
+}
+
+/// What words ask for.
+fn request_text(alloc: Global, words: &[String]) -> Result<String, NoMemory> {
+    match read_request(alloc, words) {
+        Ok(Request::Run(run)) => run_text(alloc, &run),
+        Ok(Request::Live(live)) => live_text(alloc, &live),
+        Ok(Request::Replay(replay)) => replay_text(alloc, &replay),
+        Ok(Request::Plan(plan)) => plan_text(alloc, &plan),
+        Ok(Request::Asm(text)) => format!(in alloc; "asm [{text}]"),
+        Ok(Request::Points(program)) => format!(in alloc; "points [{program}]"),
+        Ok(Request::Relog(log)) => format!(in alloc; "relog [{log}]"),
+        Ok(Request::Stress(stress)) => stress_text(alloc, stress),
+        Ok(Request::Blocks(blocks)) => blocks_text(alloc, &blocks),
+        Ok(Request::Visi(visi)) => visi_text(alloc, &visi),
+        Ok(Request::Advise(report)) => format!(in alloc; "advise [{report}]"),
+        Ok(Request::Direct(direct)) => direct_text(alloc, &direct),
+        Err(WordFault::Usage) => String::from_str(alloc, "usage"),
+        Err(WordFault::NoMemory) => Err(NoMemory {}),
+    }
+}
+
+/// Prints what a row asks for.
+pub fn answer(rt: &impl Print, alloc: Global, row: &str) -> io::Result<()> {
+    let words = words(alloc, row)?;
+    let request = request_text(alloc, &words)?;
+    match log_name(&words) {
+        Some(log) => println!(rt; "{request} log [{log}]"),
+        None => println!(rt; "{request}"),
+    }
+}

@@ -1,0 +1,11 @@
+//! The words for how a session starts.
+
+use pn_types::Start;
+
+/// The word for a start.
+pub fn start_text(start: Start) -> &'static str {
+    match start {
+        Start::Cold => "cold",
+        Start::Warm => "warm",
+    }
+}

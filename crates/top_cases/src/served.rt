@@ -1,0 +1,87 @@
+use hex::encode;
+use outside::{MemSink, StdSink, write_all};
+use std::alloc::Global;
+use std::io;
+use std::process::ExitCode;
+
+/// How words that were served ended, and what the sinks have.
+pub struct Served {
+    pub exit: ExitCode,
+    pub out: MemSink,
+    pub log: MemSink,
+}
+
+// By a call of its own: what drops it need not prove the drops of both sinks.
+impl Drop for Served {
+    fn drop(self) {
+        let Served {
+            exit: _,
+            out: _,
+            log: _,
+        } = self;
+    }
+}
+
+/// Prints bytes as they are.
+fn print_bytes(rt: HostRuntime, bytes: &[u8]) {
+    let mut printed = StdSink::new(rt);
+    let _ = write_all(&mut printed, bytes);
+}
+
+/// Prints what a sink has.
+pub fn print_sink(rt: HostRuntime, name: &str, sink: &MemSink) -> io::Result<()> {
+    print!(rt; "{name} '")?;
+    print_bytes(rt, sink.bytes());
+    println!(rt; "'")
+}
+
+/// Prints the report of a session, and whether `run` and `replay` print the same.
+pub fn print_report(rt: HostRuntime, report: &[u8], run: &[u8], replay: &[u8]) -> io::Result<()> {
+    let by_run = sameness(report, run);
+    let by_replay = sameness(report, replay);
+    println!(rt; "run {by_run} replay {by_replay}")?;
+    print_bytes(rt, report);
+    println!(rt; "")
+}
+
+/// Whether bytes are these.
+pub fn sameness(bytes: &[u8], others: &[u8]) -> &'static str {
+    if bytes == others { "same" } else { "other" }
+}
+
+impl Served {
+    /// Prints how the program ended, and what the output gained, at most so many bytes.
+    pub fn print_output(&self, rt: HostRuntime, most: usize) -> io::Result<()> {
+        let exit = self.exit;
+        let out = self.out.bytes();
+        let count = out.len();
+        let logged = self.log.bytes().len();
+        println!(rt; "{exit:?} out {count} log {logged}")?;
+        print_bytes(rt, &out[..count.min(most)]);
+        Ok(())
+    }
+
+    /// Prints what the log gained, and an empty line.
+    pub fn print_log(&self, rt: HostRuntime, alloc: Global) -> io::Result<()> {
+        let log = self.log.bytes();
+        if log.is_empty() {
+            return println!(rt; "");
+        }
+        let digits = encode(alloc, log)?;
+        println!(rt; "log {}\n", digits.as_str())
+    }
+
+    /// Prints how the program ended, and whether its two workers missed each other.
+    pub fn print_meeting(&self, rt: HostRuntime, missed: bool) -> io::Result<()> {
+        let exit = self.exit;
+        let met = if missed { "missed" } else { "met" };
+        println!(rt; "{exit:?} {met}\n")
+    }
+
+    /// Prints how the program ended, and whether the output gained these bytes.
+    pub fn print_compared(&self, rt: HostRuntime, report: &[u8]) -> io::Result<()> {
+        let exit = self.exit;
+        let same = sameness(self.out.bytes(), report);
+        println!(rt; "{exit:?} {same} report\n")
+    }
+}
