@@ -9,3 +9,5 @@ mod Wished
 mod Numbered
 mod Given
 mod Counted
+pub mod OneDue
+pub mod Rising

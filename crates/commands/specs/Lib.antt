@@ -11,3 +11,4 @@ pub mod Blocks
 pub mod Advising
 pub mod Directing
 pub mod Listing
+pub mod Due

@@ -9,7 +9,8 @@ use Rattle.refusals.specs.declared.fault.Fault.{Fault}
 use Rattle.refusals.specs.declared.fault.Fault.TheVariants.{Usage, FileFault, BadProgram, BadConf, BadPick, BadLog, TooManyBlocks, BadDirectives, BadReport}
 use Rattle.paradyn_top.specs.Answers.{status_of, texts_of}
 use Rattle.paradyn_top.specs.Delivery.{IsTorn}
-use Rattle.paradyn_top.specs.Serving.{AreGained, AreOne, AreTold, AreTorn, IsOwed, IsSpared, IsUntold, OneOwed, is_live}
+use Rattle.commands.specs.Due.{AreOne, is_live}
+use Rattle.paradyn_top.specs.Serving.{AreGained, AreTold, AreTorn, IsOwed, IsSpared, IsUntold, OneOwed}
 use Rattle.commands.specs.declared.texts.Texts.{Texts}
 
 -- a sink that was torn isn't spared

@@ -1,5 +1,3 @@
-mod OneDue
-mod Rising
 mod OneOwed
 mod Served
 mod Complete

@@ -10,9 +10,10 @@ use Rattle.outside.specs.Outside.{Holding, IsWhole, IsCalm}
 use Rattle.refusals.proofs.Steps.{IsOne}
 use Rattle.refusals.specs.declared.fault.Fault.{Fault}
 use Rattle.refusals.specs.declared.fault.Fault.TheVariants.{Usage, FileFault, BadProgram, BadConf, BadPick, BadLog, TooManyBlocks, BadDirectives, BadReport}
-use Rattle.paradyn_top.proofs.OneDue.{Laws, due_once, of_same}
-use Rattle.paradyn_top.proofs.Rising.{NotFile, rises}
-use Rattle.paradyn_top.specs.Serving.{AreOne, AreTold, IsOwed, is_live}
+use Rattle.commands.proofs.OneDue.{Laws, due_once, of_same}
+use Rattle.commands.proofs.Rising.{NotFile, rises}
+use Rattle.commands.specs.Due.{AreOne, is_live}
+use Rattle.paradyn_top.specs.Serving.{AreTold, IsOwed}
 use Rattle.commands.specs.Sights.{seen, Counted}
 use Rattle.commands.specs.declared.texts.Texts.{Texts}
 

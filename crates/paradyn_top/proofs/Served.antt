@@ -6,7 +6,7 @@ use Rattle.refusals.specs.declared.fault.Fault.{Fault}
 use Rattle.refusals.specs.declared.fault.Fault.TheVariants.{Usage, FileFault, BadProgram, BadConf, BadPick, BadLog, TooManyBlocks, BadDirectives, BadReport}
 use Rattle.refusals.specs.declared.refusal.Refusal.{Refusal}
 use Rattle.refusals.specs.declared.refusal.Refusal.TheVariants as refusal
-use Rattle.paradyn_top.specs.Due.{IsDue}
+use Rattle.commands.specs.Due.{IsDue}
 use Rattle.paradyn_top.specs.Serving.{IsOwed, IsUntold, told_of}
 use Rattle.commands.specs.Sights.{seen, Counted, Looks}
 use Rattle.commands.specs.declared.texts.Texts.{Texts}

@@ -1,4 +1,3 @@
 pub mod Answers
-pub mod Due
 pub mod Delivery
 pub mod Serving

@@ -1,6 +1,6 @@
 -- What the top call leaves in its sinks.
-use Rattle.std.specs.Prelude.{◌≡◌, ◌⊎◌, ℕ, ◌<◌, ◌-◌, ◌^◌, IsSome, Bool, true, false, List, [], map, string_bytes, Option, Some, None, Result, Ok, Err}
-use Rattle.command_words.specs.Requests.{Request, live, request_of}
+use Rattle.std.specs.Prelude.{◌≡◌, ◌⊎◌, ℕ, ◌<◌, ◌-◌, ◌^◌, IsSome, List, [], map, string_bytes, Option, Some, None, Result, Ok, Err}
+use Rattle.command_words.specs.Requests.{request_of}
 use Rattle.outside.specs.Outside.{Holding, IsCalm}
 use Rattle.refusals.specs.declared.fault.Fault.{Fault}
 use Rattle.refusals.specs.declared.fault.Fault.TheVariants.{FileFault}
@@ -8,7 +8,7 @@ use Rattle.refusals.specs.declared.refusal.Refusal.{Refusal}
 use Rattle.refusals.specs.declared.refusal.Refusal.TheVariants as refusal
 use Rattle.paradyn_top.specs.Answers.{status_of, texts_of}
 use Rattle.paradyn_top.specs.Delivery.{IsTorn, Gained}
-use Rattle.paradyn_top.specs.Due.{IsDue}
+use Rattle.commands.specs.Due.{AreOne, IsDue, is_live}
 use Rattle.commands.specs.Sights.{seen, CountedFor}
 use Rattle.commands.specs.declared.texts.Texts.{Texts}
 use Rattle.paradyn_top.specs.declared.program.Words.{Words}
@@ -25,23 +25,6 @@ pub record IsOwed {F : Type 0} (holds : F → List ℕ → Holding) (faults : F 
 -- What each file holds is told, and its count of faults is below the end of its type.
 abbrev pub AreTold : {F : Type 0} → (F → List ℕ → Holding) → (F → List ℕ → ℕ) → F → Type 0
 AreTold holds faults files = (name : List ℕ) → IsSome (holds files name) × (faults files name < 2 ^ 64 - 1)
-
--- two answers are both texts, or the same
-abbrev pub AreAlike : Result Texts Fault → Result Texts Fault → Type 0
-AreAlike (Ok texts) (Ok others) = Unit {0}
-AreAlike (Ok texts) (Err fault) = ⊥
-AreAlike (Err fault) (Ok texts) = ⊥
-AreAlike (Err fault) (Err other) = fault ≡ other
-
--- the request is for a run that workers share
-abbrev pub is_live : Option Request → Bool
-is_live (Some (live r)) = true
-is_live asked = false
-
--- under `live` they are alike, and else the same
-abbrev pub AreOne : Bool → Result Texts Fault → Result Texts Fault → Type 0
-AreOne true a b = AreAlike a b
-AreOne false a b = a ≡ b
 
 -- Over files that are told one answer is owed; under `live` the texts may be others.
 abbrev pub OneOwed : {F : Type 0} → (F → List ℕ → Holding) → (F → List ℕ → ℕ) → Type 0

@@ -3,7 +3,7 @@
 ghost use Rattle.std.specs.Prelude.{◌≡◌, false, Some, map, string_bytes};
 ghost use Rattle.command_words.specs.Asked.{asked};
 ghost use Rattle.command_words.specs.Requests.{begins_threaded, HasRanges, IsUnthreaded};
-ghost use Rattle.paradyn_top.specs.Due.{IsDue, IsDueFor};
+ghost use Rattle.commands.specs.Due.{IsDue, IsDueFor};
 ghost use Rattle.commands.specs.Sights.{seen, Looks};
 ghost use Rattle.refusals.specs.Refusals.{Comes};
 

@@ -2,10 +2,10 @@
 
 ghost use Rattle.std.specs.Prelude.{◌<◌, ◌^◌, length};
 
+use crate::comparison::compare;
 use pn_types::Image;
 use rv_asm::{AsmFault, assemble};
 use std::alloc::Global;
-use std::test::Fail;
 
 /// Whether the first segment stands at 0x10000 and has these bytes.
 fn begins_with(image: &Image, bytes: &[u8]) -> bool {
@@ -26,13 +26,15 @@ fn has_text(alloc: Global, text: &[u8], bytes: &[u8]) -> bool
 }
 
 #[test]
-fn assembles_words(rt: HostRuntime) -> Result<(), Fail> {
+fn assembles_words(rt: HostRuntime) {
     let three = b"\x93\x08\xd0\x05\x13\x05\x00\x00\x73\x00\x00\x00";
-    assert!(rt; has_text(rt.alloc(), b"li a7, 93\nli a0, 0\necall\n", three));
-    assert!(rt; has_text(rt.alloc(), b".word 0 # nothing", b"\0\0\0\0"));
     let two = b"\x0f\0\xf0\x0f\x6f\xf0\xdf\xff";
-    assert!(rt; has_text(rt.alloc(), b"a: fence\r\n\tj a", two));
-    Ok(())
+    let assembled = [
+        has_text(rt.alloc(), b"li a7, 93\nli a0, 0\necall\n", three),
+        has_text(rt.alloc(), b".word 0 # nothing", b"\0\0\0\0"),
+        has_text(rt.alloc(), b"a: fence\r\n\tj a", two),
+    ];
+    compare(&rt, assembled, [true; 3]);
 }
 
 /// Texts of at most 100 bytes, and their faults.
@@ -64,28 +66,35 @@ fn first_other<'a>(alloc: Global, rows: &[(&'a [u8], AsmFault)]) -> Option<&'a [
 
 #[test]
 fn names_the_first_faulty_line(rt: HostRuntime) {
-    assert_eq!(rt; first_other(rt.alloc(), &FAULTY), None);
+    compare(&rt, first_other(rt.alloc(), &FAULTY), None);
+}
+
+/// Whether the data, the name of the object, its module and the name of the procedure are as the text says, and the procedure's size;
+/// none where there are other segments or symbols.
+fn place_data_and_symbols(alloc: Global) -> Result<Option<([bool; 4], u64)>, AsmFault> {
+    let text =
+        b"_start: .proc f\nret\n.end\n.module m\n.data\n.object o 2\n.half -1\n.align 2\n.ascii \"a\\n#\"";
+    let image = assemble(alloc, text)?;
+    let [_, data] = image.segments.as_slice() else {
+        return Ok(None);
+    };
+    let [object, procedure] = image.symbols.as_slice() else {
+        return Ok(None);
+    };
+    let same = [
+        data.bytes.as_slice() == b"\xff\xff\0\0a\n#".as_slice(),
+        object.name.bytes() == b"o".as_slice(),
+        object.module.bytes() == b"m".as_slice(),
+        procedure.name.bytes() == b"f".as_slice(),
+    ];
+    Ok(Some((same, procedure.size)))
 }
 
 #[test]
-fn places_data_and_symbols(rt: HostRuntime) -> Result<(), Fail> {
-    let text =
-        b"_start: .proc f\nret\n.end\n.module m\n.data\n.object o 2\n.half -1\n.align 2\n.ascii \"a\\n#\"";
-    let image = assemble(rt.alloc(), text).map_err(|_| "a fault")?;
-    let [_, data] = image.segments.as_slice() else {
-        return Err("not two segments".into());
-    };
-    assert_eq!(rt; data.bytes.as_slice(), b"\xff\xff\0\0a\n#".as_slice());
-    let [object, procedure] = image.symbols.as_slice() else {
-        return Err("not two symbols".into());
-    };
-    assert_eq!(rt;
-        (object.name.bytes(), object.module.bytes()),
-        (b"o".as_slice(), b"m".as_slice())
+fn places_data_and_symbols(rt: HostRuntime) {
+    compare(
+        &rt,
+        place_data_and_symbols(rt.alloc()),
+        Ok(Some(([true; 4], 4))),
     );
-    assert_eq!(rt;
-        (procedure.name.bytes(), procedure.size),
-        (b"f".as_slice(), 4)
-    );
-    Ok(())
 }

@@ -1,10 +1,10 @@
+use crate::comparison::compare;
 use crate::images::image;
 use pn_types::{HartNo, NoMemory};
 use rv_exec::{Decoded, Output, Regs, Reservations, exec};
 use rv_mem::Mem;
 use rv_word::{Cause, Next};
 use std::alloc::Global;
-use std::test::Fail;
 
 /// The data of the image.
 const DATA: u64 = 0x1_0010;
@@ -44,7 +44,7 @@ fn execute_words(alloc: Global) -> Result<([Next; 4], [bool; 2], [u64; 4]), NoMe
 }
 
 #[test]
-fn executes_words_in_turn(rt: HostRuntime) -> Result<(), Fail> {
+fn executes_words_in_turn(rt: HostRuntime) {
     let next = [
         Next::Go(0x1_0004),
         Next::Go(0x1_0008),
@@ -52,11 +52,11 @@ fn executes_words_in_turn(rt: HostRuntime) -> Result<(), Fail> {
         Next::Stop(Cause::Misaligned),
     ];
     let registers = [0x0403_0201, 0, 0x0807_0605_0403_0201, 0];
-    assert_eq!(rt;
-        execute_words(rt.alloc())?,
-        (next, [true, false], registers)
+    compare(
+        &rt,
+        execute_words(rt.alloc()),
+        Ok((next, [true, false], registers)),
     );
-    Ok(())
 }
 
 /// Whether the hart goes on behind an `ecall` that writes three bytes of the data, its pc and its stop, what it answers, and
@@ -86,8 +86,11 @@ fn write_three(alloc: Global) -> Result<(bool, u64, Option<Cause>, u64, bool), N
 }
 
 #[test]
-fn writes_the_output(rt: HostRuntime) -> Result<(), Fail> {
-    assert_eq!(rt; Decoded::new(0x73).word(), 0x73);
-    assert_eq!(rt; write_three(rt.alloc())?, (true, 0x1_0004, None, 3, true));
-    Ok(())
+fn writes_the_output(rt: HostRuntime) {
+    let word = Decoded::new(0x73).word();
+    compare(
+        &rt,
+        (word, write_three(rt.alloc())),
+        (0x73, Ok((true, 0x1_0004, None, 3, true))),
+    );
 }

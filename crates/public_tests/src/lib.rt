@@ -6,6 +6,8 @@ mod assembly;
 #[cfg(test)]
 mod blocks;
 #[cfg(test)]
+mod comparison;
+#[cfg(test)]
 mod elf_files;
 #[cfg(test)]
 mod events;

@@ -1,7 +1,9 @@
+use crate::comparison::compare;
 use crate::images::image;
+use pn_types::NoMemory;
 use rv_mem::Mem;
 use rv_word::MemStop;
-use std::test::Fail;
+use std::alloc::Global;
 
 /// A load of so many bytes, at most 8, at an address, and its answer.
 type Load = (u64, u32, Result<u64, MemStop>);
@@ -73,26 +75,41 @@ fn first_other_store(mem: &mut Mem, stores: &[Store]) -> Option<Store> {
     None
 }
 
-#[test]
-fn loads_at_the_borders(rt: HostRuntime) -> Result<(), Fail> {
-    let mem = Mem::new(rt.alloc(), &image(rt.alloc())?, 32)?;
-    assert_eq!(rt; first_other_load(&mem, &LOADS), None);
-    Ok(())
+/// The first other load with 32 harts.
+fn load_at_borders(alloc: Global) -> Result<Option<Load>, NoMemory> {
+    let mem = Mem::new(alloc, &image(alloc)?, 32)?;
+    Ok(first_other_load(&mem, &LOADS))
 }
 
 #[test]
-fn stores_at_the_borders(rt: HostRuntime) -> Result<(), Fail> {
-    let mut mem = Mem::new(rt.alloc(), &image(rt.alloc())?, 2)?;
-    assert_eq!(rt; first_other_store(&mut mem, &STORES), None);
-    assert_eq!(rt; first_other_load(&mem, &LOADS_BEHIND), None);
-    Ok(())
+fn loads_at_the_borders(rt: HostRuntime) {
+    compare(&rt, load_at_borders(rt.alloc()), Ok(None));
+}
+
+/// The first other store with two harts, and the first other load behind the stores.
+fn store_at_borders(alloc: Global) -> Result<(Option<Store>, Option<Load>), NoMemory> {
+    let mut mem = Mem::new(alloc, &image(alloc)?, 2)?;
+    let store = first_other_store(&mut mem, &STORES);
+    Ok((store, first_other_load(&mem, &LOADS_BEHIND)))
 }
 
 #[test]
-fn touches_single_bytes(rt: HostRuntime) -> Result<(), Fail> {
-    let mem = Mem::new(rt.alloc(), &image(rt.alloc())?, 1)?;
-    assert_eq!(rt; mem.byte(0x10013), Ok(4));
-    assert_eq!(rt; mem.byte(0x10003), Err(MemStop::InText(0x10003)));
-    assert_eq!(rt; mem.byte(0x7002_0000), Err(MemStop::Unmapped(0x7002_0000)));
-    Ok(())
+fn stores_at_the_borders(rt: HostRuntime) {
+    compare(&rt, store_at_borders(rt.alloc()), Ok((None, None)));
+}
+
+/// Bytes of the data, of the text, and where with one hart there is none.
+fn touch_bytes(alloc: Global) -> Result<[Result<u8, MemStop>; 3], NoMemory> {
+    let mem = Mem::new(alloc, &image(alloc)?, 1)?;
+    Ok([mem.byte(0x10013), mem.byte(0x10003), mem.byte(0x7002_0000)])
+}
+
+#[test]
+fn touches_single_bytes(rt: HostRuntime) {
+    let bytes = [
+        Ok(4),
+        Err(MemStop::InText(0x10003)),
+        Err(MemStop::Unmapped(0x7002_0000)),
+    ];
+    compare(&rt, touch_bytes(rt.alloc()), Ok(bytes));
 }

@@ -1,13 +1,14 @@
 //! Files and sinks, in memory and outside.
 
+use crate::comparison::compare;
 use outside::{
     DropSink, Failed, FileSink, Files, Gate, MemFiles, MemSink, OpenGate, OsFiles, ReadFault, Sink,
     StdSink, SureFiles, SureSink, read_whole, write_all,
 };
 use pn_types::NoMemory;
 use std::alloc::Global;
-use std::fs;
 use std::test::Fail;
+use std::{fs, rt};
 
 /// Whether a reading of at most so many bytes gives these.
 fn gives<F: Files>(alloc: Global, files: &mut F, name: &str, most: u64, bytes: &[u8]) -> bool {
@@ -22,45 +23,64 @@ fn fault_of<F: Files>(alloc: Global, files: &mut F, name: &str, most: u64) -> Op
     read_whole(alloc, files, name, most).err()
 }
 
-/// A file that was given twice, and one that is absent.
+/// What is given, one behind the other: a file twice, and one that is absent.
+const GIVEN: [(&str, Option<&[u8]>); 3] = [
+    ("a", Some(b"first")),
+    ("b", None),
+    ("a", Some(b"second")),
+];
+
 fn mem_files(alloc: Global) -> Result<MemFiles, NoMemory> {
-    let first = Vec::from_slice(alloc, b"first")?;
-    let second = Vec::from_slice(alloc, b"second")?;
     let mut files = MemFiles::new(alloc);
-    files.give(alloc, "a", Some(first), Vec::new(alloc))?;
-    files.give(alloc, "b", None, Vec::new(alloc))?;
-    files.give(alloc, "a", Some(second), Vec::new(alloc))?;
+    for (name, bytes) in GIVEN {
+        let bytes = match bytes {
+            Some(bytes) => Some(Vec::from_slice(alloc, bytes)?),
+            None => None,
+        };
+        files.give(alloc, name, bytes, Vec::new(alloc))?;
+    }
     Ok(files)
 }
 
-#[test]
-fn files_in_memory_give_what_they_were_given(rt: HostRuntime) -> Result<(), Fail> {
-    let alloc = rt.alloc();
+/// Whether the file that was given twice reads as it was given last, and one that wasn't given is empty; the faults of a reading of
+/// too many bytes and of the absent file; and the faults that are counted.
+fn read_given(alloc: Global) -> Result<([bool; 2], [Option<ReadFault>; 2], [u64; 2]), NoMemory> {
     let mut files = mem_files(alloc)?;
-    assert!(rt; gives(alloc, &mut files, "a", 6, b"second"));
-    assert!(rt; gives(alloc, &mut files, "c", 0, b""));
-    let long = fault_of(alloc, &mut files, "a", 5);
-    let absent = fault_of(alloc, &mut files, "b", 5);
-    assert_eq!(rt;
-        [long, absent],
-        [Some(ReadFault::TooLong), Some(ReadFault::Outside)]
-    );
-    assert_eq!(rt; [files.faults("a"), files.faults("b")], [0, 1]);
-    Ok(())
+    let given = [
+        gives(alloc, &mut files, "a", 6, b"second"),
+        gives(alloc, &mut files, "c", 0, b""),
+    ];
+    let faults = [
+        fault_of(alloc, &mut files, "a", 5),
+        fault_of(alloc, &mut files, "b", 5),
+    ];
+    Ok((given, faults, [files.faults("a"), files.faults("b")]))
 }
 
 #[test]
-fn sure_files_give_what_they_were_given(rt: HostRuntime) -> Result<(), Fail> {
-    let alloc = rt.alloc();
-    let bytes = Vec::from_slice(alloc, b"some bytes")?;
+fn files_in_memory_give_what_they_were_given(rt: HostRuntime) {
+    let faults = [Some(ReadFault::TooLong), Some(ReadFault::Outside)];
+    compare(&rt, read_given(rt.alloc()), Ok(([true; 2], faults, [0, 1])));
+}
+
+/// Whether a file reads as it was given, and what is answered at its end and for an unknown file, with what was read of the end.
+fn read_sure(alloc: Global) -> Result<(bool, [Result<usize, Failed>; 2], [u8; 4]), NoMemory> {
     let mut files = SureFiles::new(alloc);
-    files.give(alloc, "a", bytes)?;
-    assert!(rt; gives(alloc, &mut files, "a", 10, b"some bytes"));
+    files.give(alloc, "a", Vec::from_slice(alloc, b"some bytes")?)?;
+    let given = gives(alloc, &mut files, "a", 10, b"some bytes");
     let mut piece = [0; 4];
     let behind = files.read_at("a", 7, &mut piece);
     let unknown = files.read_at("b", 0, &mut piece);
-    assert_eq!(rt; (behind, unknown, piece), (Ok(3), Ok(0), *b"tes\0"));
-    Ok(())
+    Ok((given, [behind, unknown], piece))
+}
+
+#[test]
+fn sure_files_give_what_they_were_given(rt: HostRuntime) {
+    compare(
+        &rt,
+        read_sure(rt.alloc()),
+        Ok((true, [Ok(3), Ok(0)], *b"tes\0")),
+    );
 }
 
 /// So many bytes, which repeat the numbers below 251.
@@ -83,14 +103,16 @@ fn failing_reading(alloc: Global, call: u64) -> Result<(Option<ReadFault>, u64),
 
 /// A file of two pieces is read by three calls, of which the last finds the end.
 #[test]
-fn each_failing_reading_is_reported(rt: HostRuntime) -> Result<(), Fail> {
+fn each_failing_reading_is_reported(rt: HostRuntime) {
     let alloc = rt.alloc();
-    let failed = (Some(ReadFault::Outside), 1);
-    assert_eq!(rt; failing_reading(alloc, 0)?, failed);
-    assert_eq!(rt; failing_reading(alloc, 1)?, failed);
-    assert_eq!(rt; failing_reading(alloc, 2)?, failed);
-    assert_eq!(rt; failing_reading(alloc, 3)?, (None, 0));
-    Ok(())
+    let failed = Ok((Some(ReadFault::Outside), 1));
+    let readings = [
+        failing_reading(alloc, 0),
+        failing_reading(alloc, 1),
+        failing_reading(alloc, 2),
+        failing_reading(alloc, 3),
+    ];
+    compare(&rt, readings, [failed, failed, failed, Ok((None, 0))]);
 }
 
 /// Whether twenty bytes are written five at a time where this writing fails, how many of them the sink has then, and its
@@ -108,36 +130,57 @@ fn failing_writing(alloc: Global, call: u64) -> Result<(bool, usize, u64), NoMem
 }
 
 #[test]
-fn each_failing_writing_leaves_what_came_before(rt: HostRuntime) -> Result<(), Fail> {
+fn each_failing_writing_leaves_what_came_before(rt: HostRuntime) {
     let alloc = rt.alloc();
-    assert_eq!(rt; failing_writing(alloc, 0)?, (false, 0, 1));
-    assert_eq!(rt; failing_writing(alloc, 1)?, (false, 5, 1));
-    assert_eq!(rt; failing_writing(alloc, 3)?, (false, 15, 1));
-    assert_eq!(rt; failing_writing(alloc, 4)?, (true, 20, 0));
-    Ok(())
+    let writings = [
+        failing_writing(alloc, 0),
+        failing_writing(alloc, 1),
+        failing_writing(alloc, 3),
+        failing_writing(alloc, 4),
+    ];
+    let due = [
+        Ok((false, 0, 1)),
+        Ok((false, 5, 1)),
+        Ok((false, 15, 1)),
+        Ok((true, 20, 0)),
+    ];
+    compare(&rt, writings, due);
 }
 
-#[test]
-fn a_sink_without_room_fails(rt: HostRuntime) -> Result<(), Fail> {
-    let mut full = SureSink::new(rt.alloc(), 3)?;
+/// What two writings answer where there is room for the first, whether the sink has that one alone, and its faults.
+fn overfill(alloc: Global) -> Result<([Result<(), Failed>; 2], bool, u64), NoMemory> {
+    let mut full = SureSink::new(alloc, 3)?;
     let written = [write_all(&mut full, b"abc"), write_all(&mut full, b"d")];
-    assert_eq!(rt; written, [Ok(()), Err(Failed)]);
-    assert_eq!(rt; (full.bytes(), full.faults()), (b"abc".as_slice(), 1));
-    Ok(())
+    Ok((written, full.bytes() == b"abc".as_slice(), full.faults()))
 }
 
 #[test]
-fn a_sink_without_pieces_fails(rt: HostRuntime) -> Result<(), Fail> {
-    let mut idle = MemSink::new(rt.alloc(), 3, 0, Vec::new(rt.alloc()))?;
+fn a_sink_without_room_fails(rt: HostRuntime) {
+    compare(
+        &rt,
+        overfill(rt.alloc()),
+        Ok(([Ok(()), Err(Failed)], true, 1)),
+    );
+}
+
+/// What one writing and a whole one answer where no piece is taken, and the sink's faults.
+fn write_to_idle(
+    alloc: Global,
+) -> Result<(Result<usize, Failed>, Result<(), Failed>, u64), NoMemory> {
+    let mut idle = MemSink::new(alloc, 3, 0, Vec::new(alloc))?;
     let first = idle.write(b"abc");
     let second = write_all(&mut idle, b"abc");
-    assert_eq!(rt; (first, second, idle.faults()), (Ok(0), Err(Failed), 2));
-    Ok(())
+    Ok((first, second, idle.faults()))
+}
+
+#[test]
+fn a_sink_without_pieces_fails(rt: HostRuntime) {
+    compare(&rt, write_to_idle(rt.alloc()), Ok((Ok(0), Err(Failed), 2)));
 }
 
 #[test]
 fn what_is_dropped_is_accepted(rt: HostRuntime) {
-    assert_eq!(rt; write_all(&mut DropSink, b"abc"), Ok(()));
+    compare(&rt, write_all(&mut DropSink, b"abc"), Ok(()));
     OpenGate.pass(0, 0);
 }
 
@@ -145,30 +188,38 @@ fn what_is_dropped_is_accepted(rt: HostRuntime) {
 fn an_absent_file_fails(rt: HostRuntime) {
     let mut files = OsFiles::new(rt);
     let absent = fault_of(rt.alloc(), &mut files, "absent", 100);
-    assert_eq!(rt; absent, Some(ReadFault::Outside));
-    assert_eq!(rt; files.faults("written"), 1, "the one count of all names");
+    // there is one count for all names
+    let faults = files.faults("written");
+    compare(&rt, (absent, faults), (Some(ReadFault::Outside), 1));
+}
+
+/// Whether a file is written in these pieces.
+fn is_written<R: rt::Files + Drop>(alloc: Global, rt: R, name: &str, pieces: &[&[u8]]) -> bool {
+    let Ok(name) = String::from_str(alloc, name) else {
+        return false;
+    };
+    let mut sink = FileSink::new(rt, name);
+    for piece in pieces {
+        if write_all(&mut sink, piece).is_err() {
+            return false;
+        }
+    }
+    true
 }
 
 #[test]
-fn a_written_file_is_read_back(rt: HostRuntime) -> Result<(), Fail> {
+fn a_written_file_is_read_back(rt: HostRuntime) {
     let alloc = rt.alloc();
-    let mut sink = FileSink::new(rt, String::from_str(alloc, "written")?);
-    let written = [
-        write_all(&mut sink, b"some "),
-        write_all(&mut sink, b"bytes"),
-    ];
-    let is_read = gives(alloc, &mut OsFiles::new(rt), "written", 100, b"some bytes");
-    fs::remove_file(&rt, "written")?;
-    assert_eq!(rt; (written, is_read), ([Ok(()), Ok(())], true));
-    Ok(())
+    let written = is_written(alloc, rt, "written", &[b"some ", b"bytes"]);
+    let read = gives(alloc, &mut OsFiles::new(rt), "written", 100, b"some bytes");
+    let removed = fs::remove_file(&rt, "written").is_ok();
+    compare(&rt, [written, read, removed], [true; 3]);
 }
 
 #[test]
 fn standard_output_is_written(rt: HostRuntime) {
-    assert_eq!(rt;
-        write_all(&mut StdSink::new(rt), b"to standard output\n"),
-        Ok(())
-    );
+    let written = write_all(&mut StdSink::new(rt), b"to standard output\n");
+    compare(&rt, written, Ok(()));
 }
 
 /// A file of two pieces, under a name with blanks at its ends.
@@ -176,15 +227,15 @@ fn standard_output_is_written(rt: HostRuntime) {
 fn a_long_file_with_an_odd_name_is_read_back(rt: HostRuntime) -> Result<(), Fail> {
     let alloc = rt.alloc();
     let bytes = counted(alloc, 70_000)?;
-    let mut sink = FileSink::new(rt, String::from_str(alloc, " odd name ")?);
-    let written = write_all(&mut sink, &bytes);
+    let written = is_written(alloc, rt, " odd name ", &[&bytes]);
     let mut files = OsFiles::new(rt);
-    let is_read = gives(alloc, &mut files, " odd name ", 70_000, &bytes);
+    let read = gives(alloc, &mut files, " odd name ", 70_000, &bytes);
     let trimmed = fault_of(alloc, &mut files, "odd name", 70_000);
-    fs::remove_file(&rt, " odd name ")?;
-    assert_eq!(rt;
-        (written, is_read, trimmed),
-        (Ok(()), true, Some(ReadFault::Outside))
+    let removed = fs::remove_file(&rt, " odd name ").is_ok();
+    compare(
+        &rt,
+        (written, read, trimmed, removed),
+        (true, true, Some(ReadFault::Outside), true),
     );
     Ok(())
 }

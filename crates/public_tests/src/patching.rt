@@ -1,11 +1,11 @@
 //! Blocks that are unlinked under a hart.
 
 use crate::blocks::{counter, mini};
+use crate::comparison::compare;
 use crate::unlinking::{Renewal, passed_by, renew};
 use machine::Taken;
 use pn_types::NoMemory;
 use std::alloc::Global;
-use std::test::Fail;
 
 /// The turns of the hart that is inside until it is outside: its own word is among them.
 const LEFT: Taken = Taken {
@@ -26,14 +26,13 @@ fn renew_once(alloc: Global) -> Result<([bool; 2], Renewal, usize), NoMemory> {
 }
 
 #[test]
-fn unlinked_blocks_are_freed_once_left(rt: HostRuntime) -> Result<(), Fail> {
+fn unlinked_blocks_are_freed_once_left(rt: HostRuntime) {
     let renewal = Renewal {
         held: false,
         settled: LEFT,
         freed: true,
     };
-    assert_eq!(rt; renew_once(rt.alloc())?, ([false, true], renewal, 0));
-    Ok(())
+    compare(&rt, renew_once(rt.alloc()), Ok(([false, true], renewal, 0)));
 }
 
 /// Whether the third counter is armed under a hart and once all are outside, and the second then; and what settling took, twice.
@@ -48,10 +47,10 @@ fn arm_around(alloc: Global) -> Result<([bool; 3], [Taken; 2]), NoMemory> {
 }
 
 #[test]
-fn nothing_is_armed_under_a_hart(rt: HostRuntime) -> Result<(), Fail> {
-    assert_eq!(rt;
-        arm_around(rt.alloc())?,
-        ([false, true, false], [LEFT, NONE])
+fn nothing_is_armed_under_a_hart(rt: HostRuntime) {
+    compare(
+        &rt,
+        arm_around(rt.alloc()),
+        Ok(([false, true, false], [LEFT, NONE])),
     );
-    Ok(())
 }

@@ -1,9 +1,9 @@
 //! The points of a program of two procedures, and a plan.
 
+use crate::comparison::compare;
 use pn_types::{Act, Cmp, Cond, Left, NoMemory, Plan, Point, Proc, Seq, Site, Stmt, Text, Var};
 use report::{plan_text, points_text};
 use std::alloc::Global;
-use std::test::Fail;
 
 fn text(alloc: Global, bytes: &[u8]) -> Result<Text, NoMemory> {
     Ok(Text::from_vec(Vec::from_slice(alloc, bytes)?))
@@ -31,25 +31,28 @@ fn point(at: u64, proc_no: u32, kinds: (bool, bool, bool, bool)) -> Point {
     }
 }
 
-#[test]
-fn points_are_written(rt: HostRuntime) -> Result<(), Fail> {
-    let alloc = rt.alloc();
+/// The text of the points of main, which calls f twice, and of f.
+fn write_points(alloc: Global) -> Result<Vec<u8>, NoMemory> {
     let main = procedure(alloc, b"main", 0x10000, 16)?;
     let f = procedure(alloc, b"f", 0x10010, 4)?;
-    let procs = vec![in alloc; main, f]?;
     let points = [
         point(0x10000, 0, (true, false, false, true)),
         point(0x10004, 0, (false, true, false, true)),
         point(0x10008, 0, (false, true, false, false)),
         point(0x10010, 1, (true, false, true, false)),
     ];
+    points_text(alloc, &[main, f], &points, 0)
+}
+
+#[test]
+fn points_are_written(rt: HostRuntime) {
     let expected = b"points 4 skipped 0\n\
         0x10000 program/main entry call\n\
         0x10004 program/main after call\n\
         0x10008 program/main after\n\
         0x10010 program/f entry return\n";
-    assert_eq!(rt; points_text(alloc, &procs, &points, 0)?[..], expected[..]);
-    Ok(())
+    let alloc = rt.alloc();
+    compare(&rt, write_points(alloc), Vec::from_slice(alloc, expected));
 }
 
 fn variable(alloc: Global, name: &[u8], timer: bool) -> Result<Var, NoMemory> {
@@ -95,10 +98,16 @@ fn plan(alloc: Global) -> Result<Plan, NoMemory> {
     })
 }
 
+const FOCUS: &[u8] = b"/Code/program/lock_acquire,/Machine,/SyncObject";
+
+/// The text of the plan.
+fn write_plan(alloc: Global) -> Result<Vec<u8>, NoMemory> {
+    let plan = plan(alloc)?;
+    plan_text(alloc, b"sync_wait", FOCUS, 40, &plan)
+}
+
 #[test]
-fn plans_are_written(rt: HostRuntime) -> Result<(), Fail> {
-    let alloc = rt.alloc();
-    let focus = b"/Code/program/lock_acquire,/Machine,/SyncObject";
+fn plans_are_written(rt: HostRuntime) {
     let expected = b"plan sync_wait /Code/program/lock_acquire,/Machine,/SyncObject words 40\n\
         variable sync_wait timer initially 0\n\
         variable in_proc counter initially 0\n\
@@ -106,10 +115,6 @@ fn plans_are_written(rt: HostRuntime) -> Result<(), Fail> {
         at 0x10014 if (in_proc != 0) start(sync_wait);\n\
         at 0x1002c stop(sync_wait);\n\
         at 0x1002c in_proc--;\n";
-    let plan = plan(alloc)?;
-    assert_eq!(rt;
-        plan_text(alloc, b"sync_wait", focus, 40, &plan)?[..],
-        expected[..]
-    );
-    Ok(())
+    let alloc = rt.alloc();
+    compare(&rt, write_plan(alloc), Vec::from_slice(alloc, expected));
 }

@@ -1,24 +1,13 @@
 //! Programs with their procedures, points and objects.
 
-ghost use Rattle.std.specs.Prelude.{◌<◌, ◌^◌, IfOk, length};
+ghost use Rattle.std.specs.Prelude.{◌<◌, ◌^◌, length};
 ghost use Rattle.pn_types.specs.Images.{IsImage};
 
+use crate::comparison::compare;
 use code_points::{objects, points, procedures};
-use pn_types::{Image, NoMemory, Point, Seq, SymKind, Symbol, Text};
-use rv_asm::assemble;
+use pn_types::{Image, NoMemory, Point, Proc, Seq, SymKind, Symbol, Text};
+use rv_asm::{AsmFault, assemble};
 use std::alloc::Global;
-use std::test::Fail;
-
-/// The program of an assembly text.
-fn program(alloc: Global, text: &[u8]) -> Result<Image, Fail>
-    requires { length text.now < 2 ^ 31 }
-    ensures { IfOk result IsImage }
-{
-    match assemble(alloc, text) {
-        Ok(image) => Ok(image),
-        Err(_) => Err("a fault".into()),
-    }
-}
 
 /// The program with these symbols instead of its own.
 fn with_symbols(image: Image, symbols: Vec<Symbol>) -> Image
@@ -48,10 +37,10 @@ fn point_of(row: &Row) -> Point {
 }
 
 /// Whether these are the points of the text's procedures, of which none is skipped.
-fn has_points(alloc: Global, text: &[u8], rows: &[Row]) -> Result<bool, Fail>
+fn has_points(alloc: Global, text: &[u8], rows: &[Row]) -> Result<bool, AsmFault>
     requires { length text.now < 2 ^ 31 }
 {
-    let image = program(alloc, text)?;
+    let image = assemble(alloc, text)?;
     let (procs, skipped) = procedures(alloc, &image)?;
     let points = points(alloc, &image, &procs)?;
     Ok(skipped == 0 && are_points(&points, rows))
@@ -68,7 +57,7 @@ fn are_points(points: &[Point], rows: &[Row]) -> bool {
 
 /// main calls f twice, then exits.
 #[test]
-fn lists_points(rt: HostRuntime) -> Result<(), Fail> {
+fn lists_points(rt: HostRuntime) {
     let text = b".proc m\ncall f\ncall f\nli a7, 93\necall\n.end\n.proc f\nret\n.end\n";
     let rows: [Row; 4] = [
         (0x10000, 0, b"ec"),
@@ -76,13 +65,12 @@ fn lists_points(rt: HostRuntime) -> Result<(), Fail> {
         (0x10008, 0, b"a"),
         (0x10010, 1, b"er"),
     ];
-    assert!(rt; has_points(rt.alloc(), text, &rows)?);
-    Ok(())
+    compare(&rt, has_points(rt.alloc(), text, &rows), Ok(true));
 }
 
 /// A jump in its procedure, a call that ends it, a jump out of the next one, `jr t0`, a call by t0 and what follows.
 #[test]
-fn tells_kinds_apart(rt: HostRuntime) -> Result<(), Fail> {
+fn tells_kinds_apart(rt: HostRuntime) {
     let text =
         b".proc f\na: j a\nb: call c\n.end\n.proc g\nj b\nc: jalr zero, 0(t0)\njalr ra, 0(t0)\nnop\n.end\n";
     let rows: [Row; 6] = [
@@ -93,8 +81,7 @@ fn tells_kinds_apart(rt: HostRuntime) -> Result<(), Fail> {
         (0x10010, 1, b"c"),
         (0x10014, 1, b"a"),
     ];
-    assert!(rt; has_points(rt.alloc(), text, &rows)?);
-    Ok(())
+    compare(&rt, has_points(rt.alloc(), text, &rows), Ok(true));
 }
 
 /// Symbols by their names, kinds, addresses and sizes. The second `l` by address has the name of the first, and `a` stands behind `m`
@@ -134,39 +121,48 @@ fn symbols(alloc: Global) -> Result<Vec<Symbol>, NoMemory> {
     Ok(symbols)
 }
 
-#[test]
-fn keeps_procedures(rt: HostRuntime) -> Result<(), Fail> {
-    let symbols = symbols(rt.alloc())?;
-    assert_eq!(rt; symbols.len(), SYMBOLS.len());
-    let image = with_symbols(program(rt.alloc(), b"nop\nnop\nnop\nnop\nnop\n")?, symbols);
-    let (procs, skipped) = procedures(rt.alloc(), &image)?;
+/// Whether a procedure has this name, its first address and its length.
+fn place_of(procedure: &Proc, name: &[u8]) -> (bool, u64, u64) {
+    (
+        procedure.name.bytes() == name,
+        procedure.start,
+        procedure.len,
+    )
+}
+
+/// The places of the procedures `m`, `t` and `l`, and how many symbols are skipped; none where there are other symbols or procedures.
+fn keep_procedures(alloc: Global) -> Result<Option<([(bool, u64, u64); 3], u32)>, AsmFault> {
+    let symbols = symbols(alloc)?;
+    if symbols.len() != SYMBOLS.len() {
+        return Ok(None);
+    }
+    let image = with_symbols(assemble(alloc, b"nop\nnop\nnop\nnop\nnop\n")?, symbols);
+    let (procs, skipped) = procedures(alloc, &image)?;
     let [m, t, l] = procs.as_slice() else {
-        return Err("not three procedures".into());
+        return Ok(None);
     };
-    assert_eq!(rt; skipped, 7);
-    assert_eq!(rt;
-        [
-            (m.name.bytes(), m.start, m.len),
-            (t.name.bytes(), t.start, t.len),
-            (l.name.bytes(), l.start, l.len)
-        ],
-        [
-            (b"m".as_slice(), 0x10000, 8),
-            (b"t".as_slice(), 0x10008, 4),
-            (b"l".as_slice(), 0x1000c, 4)
-        ]
-    );
-    Ok(())
+    let places = [place_of(m, b"m"), place_of(t, b"t"), place_of(l, b"l")];
+    Ok(Some((places, skipped)))
 }
 
 #[test]
-fn lists_objects(rt: HostRuntime) -> Result<(), Fail> {
+fn keeps_procedures(rt: HostRuntime) {
+    let places = [(true, 0x10000, 8), (true, 0x10008, 4), (true, 0x1000c, 4)];
+    compare(&rt, keep_procedures(rt.alloc()), Ok(Some((places, 7))));
+}
+
+/// Whether the text's one object is named `o`.
+fn list_objects(alloc: Global) -> Result<bool, AsmFault> {
     let text = b".proc f\nret\n.end\n.data\n.object o 2\n.half -1\n";
-    let image = program(rt.alloc(), text)?;
-    let objects = objects(rt.alloc(), &image)?;
-    let [object] = objects.as_slice() else {
-        return Err("not one object".into());
-    };
-    assert_eq!(rt; object.name.bytes(), b"o".as_slice());
-    Ok(())
+    let image = assemble(alloc, text)?;
+    let objects = objects(alloc, &image)?;
+    Ok(match objects.as_slice() {
+        [object] => object.name.bytes() == b"o".as_slice(),
+        _ => false,
+    })
+}
+
+#[test]
+fn lists_objects(rt: HostRuntime) {
+    compare(&rt, list_objects(rt.alloc()), Ok(true));
 }

@@ -1,9 +1,9 @@
+use crate::comparison::compare;
 use crate::images::image;
 use plain_run::{PlainMachine, run_schedule};
 use pn_types::{HartNo, NoMemory};
 use rv_word::Cause;
 use std::alloc::Global;
-use std::test::Fail;
 use turn_order::{Order, Ready, generated};
 
 /// Whether the second of two harts may go before a run and behind it; the run's samples; and the hart's ticks, its stop and where it
@@ -20,18 +20,20 @@ fn run_two(alloc: Global) -> Result<([bool; 2], u64, u64, Option<Cause>, u64, us
 }
 
 #[test]
-fn runs_to_the_exit(rt: HostRuntime) -> Result<(), Fail> {
-    assert_eq!(rt;
-        run_two(rt.alloc())?,
-        ([true, false], 2, 3, Some(Cause::Exit(7)), 0x1_0008, 0)
+fn runs_to_the_exit(rt: HostRuntime) {
+    compare(
+        &rt,
+        run_two(rt.alloc()),
+        Ok(([true, false], 2, 3, Some(Cause::Exit(7)), 0x1_0008, 0)),
     );
-    Ok(())
 }
 
-#[test]
-fn picks_harts_in_turn(rt: HostRuntime) -> Result<(), Fail> {
+/// The harts that orders pick of two; and once the first of them is gone, how many there are, and the first of all and from 5 on.
+fn pick_in_turn(
+    alloc: Global,
+) -> Result<([Option<HartNo>; 4], usize, [Option<HartNo>; 2]), NoMemory> {
     let (one, four) = (HartNo::numbered(1), HartNo::numbered(4));
-    let mut ready = Ready::new(rt.alloc());
+    let mut ready = Ready::new(alloc);
     ready.push(one)?;
     ready.push(four)?;
     let round = Order::of_seed(0);
@@ -43,9 +45,19 @@ fn picks_harts_in_turn(rt: HostRuntime) -> Result<(), Fail> {
         Order::of_seed(1).pick(&ready),
     ];
     ready.remove(one);
-    let left = (ready.count(), ready.at(0), ready.first_from(5));
-    assert_eq!(rt; picked, [Some(one), Some(four), Some(one), Some(one)]);
-    assert_eq!(rt; left, (1, Some(four), None));
-    assert_eq!(rt; generated(1), 7_806_831_264_735_756_412);
-    Ok(())
+    Ok((picked, ready.count(), [ready.at(0), ready.first_from(5)]))
+}
+
+#[test]
+fn picks_harts_in_turn(rt: HostRuntime) {
+    let (one, four) = (HartNo::numbered(1), HartNo::numbered(4));
+    let picked = [Some(one), Some(four), Some(one), Some(one)];
+    compare(
+        &rt,
+        (pick_in_turn(rt.alloc()), generated(1)),
+        (
+            Ok((picked, 1, [Some(four), None])),
+            7_806_831_264_735_756_412,
+        ),
+    );
 }

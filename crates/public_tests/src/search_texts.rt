@@ -1,9 +1,9 @@
 //! The lines of a report on the search.
 
+use crate::comparison::compare;
 use pn_types::{Axis, BarCause, CodePart, Focus, NoMemory, Seq, StopText, Text};
 use report::{HartPart, NodePart, ReportParts, SearchPart, report};
 use std::alloc::Global;
-use std::test::Fail;
 use w3_search::{MAX_NODES, Node, NodeState};
 
 const ROOT: &str = "/Code,/Machine,/SyncObject";
@@ -237,41 +237,53 @@ fn expected(alloc: Global, lines: &[&str]) -> Result<Vec<u8>, NoMemory> {
     Ok(bytes)
 }
 
-#[test]
-fn lines_of_a_search_are_written(rt: HostRuntime) -> Result<(), Fail> {
-    let alloc = rt.alloc();
-    let without = report_with(alloc, None)?;
-    assert_eq!(rt; without, expected(alloc, &[])?);
+/// The report of the search in two phases.
+fn report_two_phases(alloc: Global) -> Result<Vec<u8>, NoMemory> {
     let search = search_part(alloc, false, &TWO_PHASES)?;
-    let with = report_with(alloc, Some(search))?;
-    assert_eq!(rt; with, expected(alloc, &[TWO_PHASES_TEXT])?);
-    Ok(())
+    report_with(alloc, Some(search))
 }
 
 #[test]
-fn each_state_is_written(rt: HostRuntime) -> Result<(), Fail> {
+fn lines_of_a_search_are_written(rt: HostRuntime) {
     let alloc = rt.alloc();
+    let reports = [report_with(alloc, None), report_two_phases(alloc)];
+    let due = [expected(alloc, &[]), expected(alloc, &[TWO_PHASES_TEXT])];
+    compare(&rt, reports, due);
+}
+
+/// The report of a node with two samples in this state.
+fn report_state(alloc: Global, state: NodeState) -> Result<Vec<u8>, NoMemory> {
+    let row = Row {
+        state,
+        seen: 2,
+        value: 120,
+        ticks: 200,
+        from: 300,
+        to: 500,
+        ..WAITS
+    };
+    let search = search_part(alloc, false, &[row])?;
+    report_with(alloc, Some(search))
+}
+
+/// What is due of the first state of which something else is written.
+fn first_other(alloc: Global) -> Result<Option<&'static str>, NoMemory> {
     let start = "search nodes 1\nnode 0 phase global parent none Never /Code,/Machine,/SyncObject ";
-    for (state, text) in &STATES {
-        let row = Row {
-            state: *state,
-            seen: 2,
-            value: 120,
-            ticks: 200,
-            from: 300,
-            to: 500,
-            ..WAITS
-        };
-        let search = search_part(alloc, false, &[row])?;
-        let written = report_with(alloc, Some(search))?;
-        assert_eq!(rt; written, expected(alloc, &[start, text, "\n"])?);
+    for (state, text) in STATES {
+        if report_state(alloc, state)? != expected(alloc, &[start, text, "\n"])? {
+            return Ok(Some(text));
+        }
     }
-    Ok(())
+    Ok(None)
 }
 
 #[test]
-fn a_full_search_says_so(rt: HostRuntime) -> Result<(), Fail> {
-    let alloc = rt.alloc();
+fn each_state_is_written(rt: HostRuntime) {
+    compare(&rt, first_other(rt.alloc()), Ok(None));
+}
+
+/// Whether the report of a full search begins as it says so, and ends with its last node.
+fn report_full(alloc: Global) -> Result<[bool; 2], NoMemory> {
     let mut rows = Vec::new(alloc);
     for _ in 0..MAX_NODES {
         rows.push(WAITS)?;
@@ -279,9 +291,12 @@ fn a_full_search_says_so(rt: HostRuntime) -> Result<(), Fail> {
     let search = search_part(alloc, true, &rows)?;
     let written = report_with(alloc, Some(search))?;
     let start = expected(alloc, &["search nodes 4096 full\nnode 0 phase global "])?;
-    assert!(rt; written.starts_with(&start));
     let last =
         b"\nnode 4095 phase global parent none Never /Code,/Machine,/SyncObject waiting seen 0 of 3\n";
-    assert!(rt; written.ends_with(last));
-    Ok(())
+    Ok([written.starts_with(&start), written.ends_with(last)])
+}
+
+#[test]
+fn a_full_search_says_so(rt: HostRuntime) {
+    compare(&rt, report_full(rt.alloc()), Ok([true; 2]));
 }

@@ -2,12 +2,14 @@
 
 ghost use Rattle.std.specs.Prelude.{◌≡◌, IfOk};
 
+use crate::comparison::compare;
 use pn_types::NoMemory;
 use session_spec::Latest;
+use std::alloc::Global;
 use std::sync::Wait;
 use std::sync::atomic::{AtomicU64, Ordering};
-use std::test::Fail;
 use std::thread;
+use std::thread::Threads;
 use visi_stream::{Publisher, Reading, View, gather, gauge, streams};
 
 fn item(n: u64) -> Latest {
@@ -25,28 +27,33 @@ const READING: Reading = Reading {
     ended: true,
 };
 
-/// A read that follows a set on the same thread gives what was set.
-#[test]
-fn reads_what_was_set(rt: HostRuntime) -> Result<(), Fail> {
-    let (dial, mut writer, mut readers) = gauge(rt.alloc(), 2)?;
-    dial.set(&rt, &mut writer, READING);
-    let read = dial.read(&rt, &mut readers[1]);
-    let last = dial.close(&rt, writer, readers);
-    assert_eq!(rt; [read, last], [READING; 2]);
-    Ok(())
+/// What is read behind a set on the same thread, and what the gauge gives at its end.
+fn set_and_read<R: Wait>(rt: &R, alloc: Global) -> Result<[Reading; 2], NoMemory> {
+    let (dial, mut writer, mut readers) = gauge(alloc, 2)?;
+    dial.set(rt, &mut writer, READING);
+    let read = dial.read(rt, &mut readers[1]);
+    Ok([read, dial.close(rt, writer, readers)])
 }
 
-/// With room 1 and no take, all three items reach both views.
 #[test]
-fn gathers_what_waits(rt: HostRuntime) -> Result<(), Fail> {
-    let (mut publisher, views) = streams(rt.alloc(), 2, 1)?;
+fn reads_what_was_set(rt: HostRuntime) {
+    compare(&rt, set_and_read(&rt, rt.alloc()), Ok([READING; 2]));
+}
+
+/// How many lists there are of three items that went, with room 1 and no take, to two views, and whether each has all.
+fn gather_waiting<R: Wait>(rt: &R, alloc: Global) -> Result<(usize, bool), NoMemory> {
+    let (mut publisher, views) = streams(alloc, 2, 1)?;
     let items = [item(1), item(2), item(3)];
     publisher.publish(&items)?;
-    publisher.offer(&rt);
-    let lists = gather(&rt, rt.alloc(), publisher, views)?;
+    publisher.offer(rt);
+    let lists = gather(rt, alloc, publisher, views)?;
     let whole = lists.iter().all(|list| list.as_slice() == items.as_slice());
-    assert_eq!(rt; (lists.len(), whole), (2, true));
-    Ok(())
+    Ok((lists.len(), whole))
+}
+
+#[test]
+fn gathers_what_waits(rt: HostRuntime) {
+    compare(&rt, gather_waiting(&rt, rt.alloc()), Ok((2, true)));
 }
 
 /// Publishes the first item, waits until the view took it, for a bounded number of polls, and publishes the second.
@@ -88,23 +95,37 @@ fn take_two<R: Wait>(rt: &R, flag: &AtomicU64, mut view: View) -> Result<View, N
     Ok(view)
 }
 
-/// Items pass while the run goes on.
-#[test]
-fn items_pass(rt: HostRuntime) -> Result<(), Fail> {
-    let (publisher, mut views) = streams(rt.alloc(), 1, 4)?;
+/// Whether the first item was taken before the second was published, how many items the view took, and how many lists are gathered
+/// and how long the first is.
+fn pass_two<R: Threads + Wait + Sync>(
+    rt: &R,
+    alloc: Global,
+) -> Result<(bool, usize, usize, Option<usize>), NoMemory> {
+    let (publisher, mut views) = streams(alloc, 1, 4)?;
     let flag = AtomicU64::new(0);
-    let view = views.pop().ok_or("no view")?;
+    let Some(view) = views.pop() else {
+        return Ok((false, 0, 0, None));
+    };
     let (sent, view) = thread::join(
-        &rt,
-        || publish_two(&rt, &flag, publisher),
-        || take_two(&rt, &flag, view),
+        rt,
+        || publish_two(rt, &flag, publisher),
+        || take_two(rt, &flag, view),
     );
     let (publisher, came) = sent?;
     let view = view?;
     let taken = view.taken().len();
     views.push(view)?;
-    let lists = gather(&rt, rt.alloc(), publisher, views)?;
-    let gathered = lists.first().map(|list| list.len());
-    assert_eq!(rt; (came, taken, lists.len(), gathered), (true, 2, 1, Some(2)));
-    Ok(())
+    let lists = gather(rt, alloc, publisher, views)?;
+    Ok((
+        came,
+        taken,
+        lists.len(),
+        lists.first().map(|list| list.len()),
+    ))
+}
+
+/// Items pass while the run goes on.
+#[test]
+fn items_pass(rt: HostRuntime) {
+    compare(&rt, pass_two(&rt, rt.alloc()), Ok((true, 2, 1, Some(2))));
 }

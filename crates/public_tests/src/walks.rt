@@ -6,11 +6,11 @@ ghost use Rattle.std.specs.List.{AllByRecursion};
 ghost use Rattle.pn_types.specs.Images.{IsImage};
 ghost use Rattle.frame_walk.specs.Rooms.{IsSmall};
 
+use crate::comparison::compare;
 use frame_walk::{WalkStart, open_values};
 use pn_types::{Act, Cmp, Cond, Image, Left, NoMemory, Open, Segment, Seq, Stmt, Text, Var};
 use rv_mem::{FIRST_STACK_AT, Mem, STACK_LEN};
 use std::alloc::Global;
-use std::test::Fail;
 
 /// Where the stack ends: the frame pointer of f.
 const STACK_END: u64 = FIRST_STACK_AT + STACK_LEN as u64;
@@ -194,7 +194,6 @@ fn first_other(alloc: Global) -> Result<Option<usize>, NoMemory> {
 }
 
 #[test]
-fn opens_what_was_called(rt: HostRuntime) -> Result<(), Fail> {
-    assert_eq!(rt; first_other(rt.alloc())?, None);
-    Ok(())
+fn opens_what_was_called(rt: HostRuntime) {
+    compare(&rt, first_other(rt.alloc()), Ok(None));
 }

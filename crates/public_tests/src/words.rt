@@ -1,8 +1,8 @@
+use crate::comparison::compare;
 use rv_word::{
     AtomicWidth, Instr, decode, encode, first_scratch, is_call, is_return, jump_target, names_x31,
     split_word,
 };
-use std::test::Fail;
 
 /// `add a7, t0, t0`.
 const ADD: u32 = 0x0052_88b3;
@@ -26,7 +26,7 @@ const SC: u32 = 0x181e_b0af;
 const LR: u32 = 0x1005_a52f;
 
 #[test]
-fn atomic_accesses_are_told_apart(rt: HostRuntime) -> Result<(), Fail> {
+fn atomic_accesses_are_told_apart(rt: HostRuntime) {
     let sc = Instr::Sc {
         width: AtomicWidth::Doubleword,
         rd: 1,
@@ -61,17 +61,14 @@ fn atomic_accesses_are_told_apart(rt: HostRuntime) -> Result<(), Fail> {
             None,
         ]
     );
-    assert!(rt; is_decoded);
-    assert_eq!(rt; [encode(&sc), encode(&lr)], [SC, LR]);
-    Ok(())
+    let encoded = [encode(&sc), encode(&lr)];
+    compare(&rt, (is_decoded, encoded), (true, [SC, LR]));
 }
 
 #[test]
-fn words_name_and_lead(rt: HostRuntime) -> Result<(), Fail> {
+fn words_name_and_lead(rt: HostRuntime) {
     let targets = [jump_target(JAL, 0x7_2914), jump_target(ADD, 0x7_2914)];
-    assert_eq!(rt; targets, [Some(0x7_291c), None]);
     let calls = [is_call(CALL), is_call(JAL), is_call(ADD)];
-    assert_eq!(rt; calls, [true, false, false]);
     let returns = [
         is_return(RET, 0x1_0000, 0x1_0000, 8),
         is_return(CALL, 0x1_0000, 0x1_0000, 8),
@@ -79,16 +76,23 @@ fn words_name_and_lead(rt: HostRuntime) -> Result<(), Fail> {
         is_return(JUMP, 0x1_0000, 0x1_0000, 12),
         is_return(JUMP, 0x1_0000, 0xffff_ffff_ffff_fff0, 0x20),
     ];
-    assert_eq!(rt; returns, [true, false, true, false, true]);
-    assert_eq!(rt; [names_x31(ADD), names_x31(ADD | 0x0f80)], [false, true]);
-    Ok(())
+    let names = [names_x31(ADD), names_x31(ADD | 0x0f80)];
+    compare(
+        &rt,
+        (targets, calls, returns, names),
+        (
+            [Some(0x7_291c), None],
+            [true, false, false],
+            [true, false, true, false, true],
+            [false, true],
+        ),
+    );
 }
 
 #[test]
-fn words_stand_in_texts(rt: HostRuntime) -> Result<(), Fail> {
+fn words_stand_in_texts(rt: HostRuntime) {
     let text = b"\xb3\x88\x52\0\xb3\x8f\x52\0";
     let (word, rest) = split_word(text);
-    assert_eq!(rt; (word, rest.len()), (ADD, 4));
-    assert_eq!(rt; first_scratch(text, 0x1_0000), Some(0x1_0004));
-    Ok(())
+    let scratch = first_scratch(text, 0x1_0000);
+    compare(&rt, (word, rest.len(), scratch), (ADD, 4, Some(0x1_0004)));
 }

@@ -1,7 +1,8 @@
--- What the top call owes for words and files.
-use Rattle.std.specs.Prelude.{◌≡◌, ℕ, List, Option, None, Some, Err}
+-- What is due for words and files.
+use Rattle.std.specs.Prelude.{◌≡◌, ℕ, Bool, true, false, List, Option, None, Some, Result, Ok, Err}
 use Rattle.command_words.specs.Requests.{Request, run, live, replay, make_plan, assemble, list_points, relog, stress, count_blocks, visi, advise, direct, request_of}
 use Rattle.refusals.specs.Refusals.{Step}
+use Rattle.refusals.specs.declared.fault.Fault.{Fault}
 use Rattle.refusals.specs.declared.fault.Fault.TheVariants.{Usage}
 use Rattle.commands.specs.Advising.{IsAdviceDue}
 use Rattle.commands.specs.Blocks.{AreBlocksDue}
@@ -13,6 +14,7 @@ use Rattle.commands.specs.Runs.{IsRunDue, IsLiveDue, IsVisiDue, IsStressDue}
 use Rattle.commands.specs.Sights.{Sight}
 use Rattle.commands.specs.declared.texts.Texts.{Texts}
 
+-- what is due for a request; words that are no command have none
 abbrev pub IsDueFor : Option Request → Sight → Step Texts
 IsDueFor None sees texts = texts ≡ Err Usage
 IsDueFor (Some (run r)) sees texts = IsRunDue r sees texts
@@ -31,3 +33,22 @@ IsDueFor (Some (direct r)) sees texts = IsDirectDue r sees texts
 -- What is due for words and what was seen of files: the texts that were asked for, or the first fault.
 abbrev pub IsDue : List (List ℕ) → Sight → Step Texts
 IsDue words sees = IsDueFor (request_of words) sees
+
+-- ---- how many answers may be due
+
+-- two answers are both texts, or the same
+abbrev pub AreAlike : Result Texts Fault → Result Texts Fault → Type 0
+AreAlike (Ok texts) (Ok others) = Unit {0}
+AreAlike (Ok texts) (Err fault) = ⊥
+AreAlike (Err fault) (Ok texts) = ⊥
+AreAlike (Err fault) (Err other) = fault ≡ other
+
+-- the request is for a run that workers share
+abbrev pub is_live : Option Request → Bool
+is_live (Some (live r)) = true
+is_live asked = false
+
+-- under `live` they are alike, and else the same
+abbrev pub AreOne : Bool → Result Texts Fault → Result Texts Fault → Type 0
+AreOne true a b = AreAlike a b
+AreOne false a b = a ≡ b

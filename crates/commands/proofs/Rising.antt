@@ -56,7 +56,7 @@ use Rattle.commands.specs.Advising.{advised, IsAdviceDue, IsReportContent}
 use Rattle.commands.specs.Output.{output}
 use Rattle.commands.specs.Blocks.{AreCounted}
 use Rattle.commands.specs.Directing.{AreDirectives, IsDirected, IsDirectDue, IsDirection, IsDirectivesContent, IsDirectRun, IsDirectWith, conf_with, directed_texts, or_bad_directives}
-use Rattle.paradyn_top.specs.Due.{IsDueFor, IsDue}
+use Rattle.commands.specs.Due.{IsDueFor, IsDue}
 use Rattle.commands.specs.Runs.{texts_of_run, IsPrepared, IsOpened, IsRunWith, IsRunDue, IsLiveWith, IsLiveDue, IsVisiWith, IsVisiDue, views_of, IsStressWith, IsStressDue, stress_settings, stress_sight, summary_of}
 use Rattle.commands.specs.Found.{resources_of, IsCheck, IsFound}
 use Rattle.commands.specs.Inputs.{begins_elf, or_bad_elf, or_bad_text, image_of, file_of, MeansConf, IsProgramContent, IsProgram, IsElfFile, IsConfContent, IsConfiguration, AreInputs}

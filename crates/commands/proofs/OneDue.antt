@@ -45,7 +45,6 @@ use Rattle.commands.specs.Advising.{advised, IsAdviceDue, IsReportContent}
 use Rattle.commands.specs.Output.{output}
 use Rattle.commands.specs.Blocks.{AreCounted}
 use Rattle.commands.specs.Directing.{AreDirectives, IsDirected, IsDirectDue, IsDirection, IsDirectivesContent, IsDirectRun, IsDirectWith, conf_with, directed_texts, or_bad_directives}
-use Rattle.paradyn_top.specs.Due.{IsDueFor, IsDue}
 use Rattle.commands.specs.Found.{resources_of, IsCheck, IsFound}
 use Rattle.commands.specs.Given.{inputs_with}
 use Rattle.commands.specs.Inputs.{image_of, file_of, MeansConf, IsProgramContent, IsProgram, IsElfFile, IsConfContent, IsConfiguration, AreInputs}
@@ -53,7 +52,7 @@ use Rattle.commands.specs.Logs.{or_bad_log, IsLog, IsLogContent, MeansLog}
 use Rattle.commands.specs.Replays.{replayed, IsReplay, IsReplayDue, IsReplayOf, IsReplayWith}
 use Rattle.commands.specs.Runs.{texts_of_run, IsPrepared, IsOpened, IsRunWith, IsRunDue, IsLiveWith, IsLiveDue, IsVisiWith, IsVisiDue, views_of, IsStressWith, IsStressDue, stress_settings, stress_sight, summary_of}
 use Rattle.commands.specs.Plans.{metric_named, or_unknown, or_bad_focus, IsSelected, IsPlanned, IsPlanAt, IsPlan}
-use Rattle.paradyn_top.specs.Serving.{AreAlike, AreOne, is_live}
+use Rattle.commands.specs.Due.{AreAlike, AreOne, IsDue, IsDueFor, is_live}
 use Rattle.commands.specs.Sights.{Sight, limited, IsContent}
 use Rattle.commands.specs.declared.advising.TheConstants.{REPORT_LIMIT}
 use Rattle.commands.specs.declared.configuration.TheConstants.{CONFIGURATION_LIMIT}
