@@ -13,14 +13,14 @@ mod columns;
 mod counts;
 mod line;
 mod listed;
-mod machine;
+mod one_hart;
 mod setting;
 mod source;
 mod vector;
 
 use counts::Counts;
 use line::Line;
-use machine::Machine;
+use one_hart::Machine;
 use pn_types::NoMemory;
 use std::alloc::Global;
 use std::io;
