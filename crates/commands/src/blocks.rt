@@ -49,7 +49,7 @@ fn counted(alloc: Global, request: &BlocksRequest<'_>, image: &Image) -> Result<
 }
 
 /// What is due for `blocks`.
-pub fn blocks<F: Files>(
+pub fn show_blocks<F: Files>(
     alloc: Global,
     request: &BlocksRequest<'_>,
     files: &mut F,

@@ -21,12 +21,12 @@ mod texts;
 mod viewing;
 
 pub use advising::advise_from;
-pub use blocks::blocks;
+pub use blocks::show_blocks;
 pub use directing::direct;
 pub use finding::{Found, find};
 pub use inputs::{Inputs, read_inputs};
 pub use listing::{list_points, write_elf};
-pub use live::live;
+pub use live::run_shared;
 pub use planning::show_plan;
 pub use preparing::session_inputs;
 pub use replaying::{relog, replay};

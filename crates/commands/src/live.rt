@@ -65,7 +65,7 @@ fn live_inputs<R: Threads + Wait + Sync, G: Gate + Sync>(
 }
 
 /// What is due for `live`.
-pub fn live<F: Files, R: Threads + Wait + Sync, G: Gate + Sync>(
+pub fn run_shared<F: Files, R: Threads + Wait + Sync, G: Gate + Sync>(
     rt: &R,
     alloc: Global,
     request: &LiveRequest<'_>,

@@ -9,8 +9,8 @@ ghost use Rattle.refusals.specs.Refusals.{Comes};
 
 use command_words::{Request, WordFault, read_request};
 use commands::{
-    Texts, advise_from, blocks, direct, list_points, live, relog, replay, run, show_plan, stress,
-    view, write_elf,
+    Texts, advise_from, direct, list_points, relog, replay, run, run_shared, show_blocks,
+    show_plan, stress, view, write_elf,
 };
 use outside::{Files, Gate};
 use refusals::{Fault, Refusal};
@@ -38,7 +38,7 @@ fn answer_request<F: Files>(
         Request::Asm(text) => write_elf(alloc, text, files),
         Request::Relog(log) => relog(alloc, log, files),
         Request::Stress(request) => stress(alloc, *request),
-        Request::Blocks(request) => blocks(alloc, request, files),
+        Request::Blocks(request) => show_blocks(alloc, request, files),
         Request::Advise(report) => advise_from(alloc, report, files),
         Request::Direct(request) => direct(alloc, request, files),
     }
@@ -73,7 +73,7 @@ pub(crate) fn answer_threaded<F: Files, R: Threads + Wait + Sync, G: Gate + Sync
     ensures looks { Looks F.holds F.faults files.old files.new result }
 {
     match read_request(alloc, words) {
-        Ok(Request::Live(request)) => live(rt, alloc, &request, files, gate),
+        Ok(Request::Live(request)) => run_shared(rt, alloc, &request, files, gate),
         Ok(Request::Visi(request)) => view(rt, alloc, &request, files),
         Ok(request) => answer_request(alloc, &request, files),
         Err(WordFault::Usage) => Err(Refusal::Fault(Fault::Usage)),
