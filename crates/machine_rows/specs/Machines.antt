@@ -2,7 +2,7 @@
 use Rattle.std.specs.Prelude.{◌≡◌, ℕ, Option, Some, None, List, MatchOption}
 use Rattle.rv_word.specs.Exec.{Prog, prog_of}
 use Rattle.machine_rows.specs.Vectors.{State}
-use Rattle.machine_rows.specs.declared.conformance.one_hart.Machine.{Machine}
+use Rattle.machine_rows.specs.declared.conformance.executor.Machine.{Machine}
 
 -- the memory, the reservations and the output of a machine
 abbrev pub prog_in : Machine → Prog

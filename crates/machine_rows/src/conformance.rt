@@ -11,16 +11,16 @@
 mod assembled;
 mod columns;
 mod counts;
+mod executor;
 mod line;
 mod listed;
-mod one_hart;
 mod setting;
 mod source;
 mod vector;
 
 use counts::Counts;
+use executor::Machine;
 use line::Line;
-use one_hart::Machine;
 use pn_types::NoMemory;
 use std::alloc::Global;
 use std::io;

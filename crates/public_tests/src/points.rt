@@ -65,7 +65,7 @@ fn lists_points(rt: HostRuntime) {
         (0x10008, 0, b"a"),
         (0x10010, 1, b"er"),
     ];
-    compare(&rt, has_points(rt.alloc(), text, &rows), Ok(true));
+    compare(&rt, has_points(rt.alloc(), text, &rows).ok(), Some(true));
 }
 
 /// A jump in its procedure, a call that ends it, a jump out of the next one, `jr t0`, a call by t0 and what follows.
@@ -81,7 +81,7 @@ fn tells_kinds_apart(rt: HostRuntime) {
         (0x10010, 1, b"c"),
         (0x10014, 1, b"a"),
     ];
-    compare(&rt, has_points(rt.alloc(), text, &rows), Ok(true));
+    compare(&rt, has_points(rt.alloc(), text, &rows).ok(), Some(true));
 }
 
 /// Symbols by their names, kinds, addresses and sizes. The second `l` by address has the name of the first, and `a` stands behind `m`
@@ -131,24 +131,25 @@ fn place_of(procedure: &Proc, name: &[u8]) -> (bool, u64, u64) {
 }
 
 /// The places of the procedures `m`, `t` and `l`, and how many symbols are skipped; none where there are other symbols or procedures.
-fn keep_procedures(alloc: Global) -> Result<Option<([(bool, u64, u64); 3], u32)>, AsmFault> {
-    let symbols = symbols(alloc)?;
+fn keep_procedures(alloc: Global) -> Option<([(bool, u64, u64); 3], u32)> {
+    let symbols = symbols(alloc).ok()?;
     if symbols.len() != SYMBOLS.len() {
-        return Ok(None);
+        return None;
     }
-    let image = with_symbols(assemble(alloc, b"nop\nnop\nnop\nnop\nnop\n")?, symbols);
-    let (procs, skipped) = procedures(alloc, &image)?;
+    let image = assemble(alloc, b"nop\nnop\nnop\nnop\nnop\n").ok()?;
+    let image = with_symbols(image, symbols);
+    let (procs, skipped) = procedures(alloc, &image).ok()?;
     let [m, t, l] = procs.as_slice() else {
-        return Ok(None);
+        return None;
     };
     let places = [place_of(m, b"m"), place_of(t, b"t"), place_of(l, b"l")];
-    Ok(Some((places, skipped)))
+    Some((places, skipped))
 }
 
 #[test]
 fn keeps_procedures(rt: HostRuntime) {
     let places = [(true, 0x10000, 8), (true, 0x10008, 4), (true, 0x1000c, 4)];
-    compare(&rt, keep_procedures(rt.alloc()), Ok(Some((places, 7))));
+    compare(&rt, keep_procedures(rt.alloc()), Some((places, 7)));
 }
 
 /// Whether the text's one object is named `o`.
@@ -164,5 +165,5 @@ fn list_objects(alloc: Global) -> Result<bool, AsmFault> {
 
 #[test]
 fn lists_objects(rt: HostRuntime) {
-    compare(&rt, list_objects(rt.alloc()), Ok(true));
+    compare(&rt, list_objects(rt.alloc()).ok(), Some(true));
 }

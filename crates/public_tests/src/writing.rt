@@ -41,7 +41,7 @@ fn write_words(alloc: Global) -> Result<(usize, [bool; 4]), AsmFault> {
 
 #[test]
 fn three_words_are_written(rt: HostRuntime) {
-    compare(&rt, write_words(rt.alloc()), Ok((424, [true; 4])));
+    compare(&rt, write_words(rt.alloc()).ok(), Some((424, [true; 4])));
 }
 
 /// Of a text's file, as it is loaded, the text's address, its length and the entry; how many segments there are; and whether the object,

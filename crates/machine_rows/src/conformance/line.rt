@@ -1,7 +1,7 @@
 use crate::conformance::assembled::Assembled;
 use crate::conformance::columns::Columns;
+use crate::conformance::executor::Machine;
 use crate::conformance::listed::Listed;
-use crate::conformance::one_hart::Machine;
 use crate::conformance::vector::Vector;
 use std::alloc::Global;
 
