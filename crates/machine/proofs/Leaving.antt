@@ -1,31 +1,38 @@
 -- A hart inside is soon outside.
-use Rattle.std.proofs.Common.{◌≡◌, ℕ, zero, suc, ◌+◌, ◌<◌, ◌≤◌, List, [], ◌∷◌, Option, Some, None, refl, sym, ap, ◌∙◌, subst, arith, inl, inr}
+use Rattle.std.proofs.Common.{◌≡◌, ℕ, zero, suc, ◌+◌, ◌<◌, ◌≤◌, List, [], ◌∷◌, Option, Some, None, refl, sym, ap, ◌∙◌, subst, arith, ⊎_elim, inl, inr}
 use Rattle.std.specs.Prelude.{Bool, true, false, cond, not, is_none, IsTrue, slice_get, map, ◌⊎◌, ◌&&◌, ◌||◌, ◌==◌, nat_lt}
+use Rattle.std.specs.FinMap.{get}
 use Rattle.std.proofs.lemmas.Bool.{true≢false, not-true, eq-eqb, eqb-true, and_parts}
 use Rattle.std.proofs.lemmas.Grind.{common_steps}
 use Rattle.std.proofs.lemmas.Option.{slice_get_within}
-use Rattle.rv_word.specs.Plain.{Words, PlainHart, Plain, Alone}
+use Rattle.rv_word.specs.Plain.{Words, PlainHart, Plain, Alone, program_word}
 use Rattle.rv_word.specs.Plain as plain
 use Rattle.rv_word.specs.declared.outcome.Cause.{Cause}
 use Rattle.rv_mem.specs.Start.{program_of}
 use Rattle.rv_exec.specs.Start.{start}
 use Rattle.rv_exec.specs.Run.{run_from}
-use Rattle.tramp_spec.specs.Codes.{Code}
-use Rattle.tramp_spec.specs.Harts.{Hart, Solo, is_tick}
-use Rattle.tramp_spec.specs.Marks.{own}
+use Rattle.tramp_spec.specs.Codes.{Code, is_text_word}
+use Rattle.tramp_spec.specs.Harts.{Hart, Solo, step_of, is_tick}
+use Rattle.tramp_spec.specs.Marks.{own, enter}
 use Rattle.tramp_spec.specs.MovedWords.{own_place}
-use Rattle.machine.specs.Cores.{In, Row, Core, is_written, start_core}
-use Rattle.machine.specs.Places.{block_at}
-use Rattle.machine.specs.Turns.{fetched, may_turn, turn_by, put_back, is_runnable, turn_alone}
+use Rattle.machine.specs.Cores.{In, Row, Core, Live, is_written, start_core}
+use Rattle.machine.specs.Places.{block_at, program_pc}
+use Rattle.machine.specs.Events.{Turn}
+use Rattle.machine.specs.Effects.{owned}
+use Rattle.machine.specs.Turns.{fetched, may_turn, turn, turn_by, put_back, is_runnable, turn_alone}
+use Rattle.machine.specs.Links.{enters}
 use Rattle.machine.specs.Leaving.{words_at, is_out_now, OutWithin, OutSoon, LeavesSoon}
 use Rattle.machine.specs.Replays.{replay, owns}
 use Rattle.machine.proofs.Beginning.{begins}
-use Rattle.machine.proofs.Homes.{base_shape, base_len, block_is, one_block}
-use Rattle.machine.proofs.Invariant.{Piece, the_row, IsBase, Linked, BasePlace, Static, HartOk, InBase, InMini, Dynamic, Inv}
+use Rattle.machine.proofs.Fetching.{fetch_text, fetch_none}
+use Rattle.machine.proofs.Homes.{base_shape, base_len, block_is, one_block, has_len}
+use Rattle.machine.proofs.Invariant.{Piece, the_row, IsBase, Linked, Door, BasePlace, Static, Outside, HartOk, InBase, InMini, Dynamic, Inv}
 use Rattle.machine.proofs.Lefts.{is_ahead, words_if, ahead, ahead_of, left_at, left, Below, Soon}
 use Rattle.machine.proofs.Standing.{in_base, in_mini}
 use Rattle.machine.proofs.Lists.{get_set_same, get_set_other, length_slice_set, same_some}
-use Rattle.machine.proofs.Steps.{puts, within, all_events}
+use Rattle.machine.proofs.Nexts.{entering}
+use Rattle.machine.proofs.Steps.{puts, within, not_stopped, step, all_events}
+use Rattle.machine.proofs.Texts.{text_cases}
 use Rattle.machine.proofs.Turns.{OwesBy, turn_at}
 
 module _ (t : Words) (budget : ℕ) (code : Code) (rows : List Row) (ps : List Piece) (clock : ℕ) (st : Static t code rows ps clock) (x : Hart) (y : PlainHart) where
@@ -232,7 +239,65 @@ out_soon c s v h x ex i =
         let b = bounded c.program c.budget c.code c.rows v.ps v.clock v.static x q.0 k in
         (b.row, b.block, out_within (words_at b.row.point c.rows) c s v h x q.0 ex q.1 d (λ on. below_words c.program c.budget c.code c.rows v.ps v.clock v.static x q.0 b.row b.block (d.hart on)))
 
+-- ---- through the jump at a point
+
+module _ (c : Core) (s : Plain) (v : Inv c s) (h : ℕ) (x : Hart) (jump : ℕ) (ex : slice_get c.harts h ≡ Some x) (out : x.inside ≡ false) (may : IsTrue (is_runnable c h)) (f : fetched c.program c.code x ≡ Some (enter jump)) where
+  y : (y : PlainHart) × (slice_get s.harts h ≡ Some y)
+  y = within c.harts s.harts h x v.many ex
+
+  d : Dynamic c.program c.budget v.ps x y.0
+  d = v.harts h x y.0 ex y.1
+
+  can : (x.stop ≡ None) × ((x.inside ≡ true) ⊎ (x.ticks < c.budget))
+  can = not_stopped x c.budget (subst (λ o. IsTrue (may_turn o c.budget)) ex may)
+
+  -- the base block to which the jump leads
+  door : (b : Piece) × In b v.ps × IsBase b × (b.row.point ≡ x.pc) × Door c.code b
+  door = ⊎_elim near (λ r. absurd (none_enters (fetch_none c.program v.ground c.budget c.code c.rows v.ps v.clock v.static h x y.0 c.prog d can.0 out r.1))) (text_cases c.program x.pc)
+    where
+      none_enters : fetched c.program c.code x ≡ None → ⊥
+      none_enters n = let e : None ≡ Some (enter jump) = sym n ∙ f in absurd cc
+
+      own_enters : (w : ℕ) → fetched c.program c.code x ≡ Some (own w) → ⊥
+      own_enters w n = true≢false (sym (ap enters f) ∙ ap enters n)
+
+      near : (w : ℕ) × (program_word c.program x.pc ≡ Some w) × (is_text_word c.program x.pc ≡ true) → (b : Piece) × In b v.ps × IsBase b × (b.row.point ≡ x.pc) × Door c.code b
+      near r = ⊎_elim (λ (e : get c.code x.pc ≡ Some (own r.0)). absurd (own_enters r.0 (fetch_text c.program v.ground c.budget c.code c.rows v.ps v.clock v.static h x y.0 c.prog d can.0 (Some (own r.0)) out r.2 e)))
+          (λ (e : (b : Piece) × In b v.ps × IsBase b × (b.row.point ≡ x.pc) × (b.row.status ≡ Live) × Door c.code b). (e.0, e.1, e.2, e.3, e.5))
+          ((v.static).words x.pc r.0 r.1)
+
+  -- where the hart stands behind it
+  entered : (turn_alone c h x).hart ≡ record x { pc = (door.0).row.at; inside = true }
+  entered =
+      let o = ⊎_elim (λ e. absurd (true≢false (sym e ∙ out))) (λ l. l) can.1 in
+      let outside = ⊎_elim (λ (k : Outside x y.0). k) (λ k. absurd (true≢false (sym (inside_of {t = c.program} k) ∙ out))) (d.hart can.0) in
+      let e = door.3 in
+      let text = text_word_at in
+      let b = (entering c.program v.ground c.budget c.code c.rows v.ps v.clock v.static h x y.0 c.prog d can.0 door.0 door.1 door.3 door.4 outside o text).0 in
+      ap (λ q. (step_of q h (program_pc c.code c.rows x) (record { hart = x; prog = c.prog })).hart) b.1 ∙ ap (λ (z : Solo). z.hart) b.3
+    where
+      text_word_at : fetched c.program c.code x ≡ Some (enter (door.4).jump)
+      text_word_at = ⊎_elim
+          (λ (r : (w : ℕ) × (program_word c.program x.pc ≡ Some w) × (is_text_word c.program x.pc ≡ true)).
+          fetch_text c.program v.ground c.budget c.code c.rows v.ps v.clock v.static h x y.0 c.prog d can.0 (Some (enter (door.4).jump)) out r.2 (ap (get c.code) (sym door.3) ∙ (door.4).stands))
+          (λ r. let n = fetch_none c.program v.ground c.budget c.code c.rows v.ps v.clock v.static h x y.0 c.prog d can.0 out r.1 in let e : None ≡ Some (enter jump) = sym n ∙ f in absurd cc)
+          (text_cases c.program x.pc)
+
+  out_behind : OutWithin (words_at x.pc c.rows) (turn c h) h
+  out_behind =
+      let b = door.0 in
+      let z = turn_alone c h x in
+      let after : Inv (put_back c h z) (run_from c.program (owned c (Turn h)) s) = subst (λ q. Inv (turn_by q c h) (run_from c.program (owned c (Turn h)) s)) ex (step c s (Turn h) v may).1 in
+      let at : slice_get (put_back c h z).harts h ≡ Some z.hart = get_set_same c.harts h x z.hart ex in
+      let soon = out_soon (put_back c h z) (run_from c.program (owned c (Turn h)) s) after h z.hart at (ap (λ (k : Hart). k.inside) entered) in
+      let len = has_len c.program c.code c.rows v.ps v.clock v.static b door.1 in
+      let block : block_at c.rows z.hart.pc ≡ Some b.row = ap (λ (k : Hart). block_at c.rows k.pc) entered ∙ block_is c.program c.code c.rows v.ps v.clock v.static b b.row.at door.1 (omega arith) (omega arith) in
+      let same : soon.0 ≡ b.row = same_some (block_at c.rows z.hart.pc) soon.0 b.row soon.1 block in
+      let point : (soon.0).point ≡ x.pc = ap (λ (r : Row). r.point) same ∙ door.3 in
+      subst (λ q. OutWithin (words_at x.pc c.rows) (turn_by q c h) h) (sym ex) (subst (λ p. OutWithin (words_at p c.rows) (put_back c h z) h) point soon.2)
+
 pub leaves_soon : LeavesSoon
 leaves_soon image n budget es p l =
     let a = all_events es (program_of image) budget (start_core image n budget) (start image n) refl refl (begins image n budget p) l in
-    out_soon (replay es (start_core image n budget)) (run_from (program_of image) (owns es (start_core image n budget)) (start image n)) a.1
+    let c = replay es (start_core image n budget) in
+    let s = run_from (program_of image) (owns es (start_core image n budget)) (start image n) in (out_soon c s a.1, λ h x jump ex out may f. out_behind c s a.1 h x jump ex out may f)

@@ -24,6 +24,7 @@ pub mod Sames
 pub mod Beginning
 pub mod Erasing
 pub mod Leaving
+pub mod Keeping
 pub mod Banked
 pub mod Performed
 pub mod HartPlaces

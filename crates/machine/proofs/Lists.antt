@@ -8,6 +8,7 @@ use Rattle.std.specs.FinMap.{get, insert, get-insert}
 use Rattle.tramp_spec.specs.Codes.{Code, put_words}
 use Rattle.tramp_spec.specs.declared.mark.MarkedWord.{MarkedWord}
 use Rattle.machine.specs.Cores.{In}
+pub use Rattle.machine.specs.Kept.{Stands}
 
 pub in_map : {A B : Type 0} (f : A → B) (xs : List A) (y : B) → In y (map f xs) → (x : A) × In x xs × (y ≡ f x)
 in_map f [] y h = absurd h
@@ -93,11 +94,6 @@ get_same code a w = get-insert nat_cmp_total code a w a ∙ ap (λ b. cond b (So
 
 pub get_other : (code : Code) (a q : ℕ) (w : MarkedWord) → (q ≡ a → ⊥) → get (insert code a w) q ≡ get code q
 get_other code a q w n = get-insert nat_cmp_total code a w q ∙ ap (λ b. cond b (Some w) (get code q)) (unsigned_tied q a ∙ ne_eqb q a n)
-
--- what stands at an address and behind it
-abbrev pub Stands : Code → ℕ → List MarkedWord → Type 0
-Stands code at [] = Unit {0}
-Stands code at (w ∷ ws) = (get code at ≡ Some w) × Stands code (at + 4) ws
 
 pub stands_other : (code : Code) (a : ℕ) (v : MarkedWord) (at : ℕ) (ws : List MarkedWord) → (a < at) ⊎ (at + 4 * length ws ≤ a) → Stands code at ws → Stands (insert code a v) at ws
 stands_other code a v at [] o h = tt

@@ -90,7 +90,7 @@ fewer p (r ∷ rs) = let l = fewer p rs in some (r.point == p) l
     some false l = omega arith
 
 soon : (c : Core) → IsReached c → OutSoon c
-soon c r = subst OutSoon (sym r.is) (leaves_soon r.image r.many c.budget r.events r.program r.legal)
+soon c r = subst OutSoon (sym r.is) (leaves_soon r.image r.many c.budget r.events r.program r.legal).0
 
 pub out_within_all : (c : Core) → IsReached c → (h : ℕ) → OutWithin (words_in c.rows) c h
 out_within_all c r h = by (slice_get c.harts h) refl

@@ -1,10 +1,11 @@
 -- How soon a hart that takes turns with no event of the tool between is outside.
-use Rattle.std.specs.Prelude.{◌≡◌, ℕ, zero, suc, ◌+◌, ◌==◌, ◌||◌, ◌⊎◌, not, if◌then◌else◌, Bool, true, IsTrue, Option, Some, None, is_none, List, [], ◌∷◌, slice_get}
+use Rattle.std.specs.Prelude.{◌≡◌, ℕ, zero, suc, ◌+◌, ◌==◌, ◌||◌, ◌⊎◌, not, if◌then◌else◌, Bool, true, false, IsTrue, Option, Some, None, is_none, List, [], ◌∷◌, slice_get}
 use Rattle.pn_types.specs.declared.image.Image.{Image}
 use Rattle.tramp_spec.specs.Harts.{Hart}
+use Rattle.tramp_spec.specs.Marks.{enter}
 use Rattle.machine.specs.Cores.{Row, Core, start_core}
 use Rattle.machine.specs.Places.{block_at}
-use Rattle.machine.specs.Turns.{turn, is_runnable}
+use Rattle.machine.specs.Turns.{fetched, turn, is_runnable}
 use Rattle.machine.specs.Events.{Event}
 use Rattle.machine.specs.Replays.{replay, Legal}
 use Rattle.machine.specs.Laws.{IsProgram}
@@ -31,6 +32,15 @@ OutWithin (suc most) c h = (is_out c h ≡ true) ⊎ (IsTrue (is_runnable c h) �
 abbrev pub OutSoon : Core → Type 0
 OutSoon c = (h : ℕ) (x : Hart) → slice_get c.harts h ≡ Some x → x.inside ≡ true → (r : Row) × (block_at c.rows x.pc ≡ Some r) × OutWithin (words_at r.point c.rows) c h
 
--- That is so behind every list of events of which each may happen when it comes.
+-- A hart outside that can take the jump into a trampoline is out within one turn more than that: behind the jump, within the words
+-- of the blocks of the point at which it stood.
+abbrev pub OutSoonBehindEnter : Core → Type 0
+OutSoonBehindEnter c =
+    (h : ℕ) (x : Hart) (jump : ℕ) → slice_get c.harts h ≡ Some x → x.inside ≡ false → IsTrue (is_runnable c h) → fetched c.program c.code x ≡ Some (enter jump)
+    → OutWithin (words_at x.pc c.rows) (turn c h) h
+
+-- Both are so behind every list of events of which each may happen when it comes.
 abbrev pub LeavesSoon : Type 0
-LeavesSoon = (image : Image) (n budget : ℕ) (es : List Event) → IsProgram image → Legal es (start_core image n budget) → OutSoon (replay es (start_core image n budget))
+LeavesSoon =
+    (image : Image) (n budget : ℕ) (es : List Event) → IsProgram image → Legal es (start_core image n budget)
+    → OutSoon (replay es (start_core image n budget)) × OutSoonBehindEnter (replay es (start_core image n budget))

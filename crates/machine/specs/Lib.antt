@@ -14,6 +14,7 @@ pub mod FirstTurns
 pub mod Leaving
 pub mod States
 pub mod Quanta
+pub mod Kept
 pub mod Reached
 pub mod Codes
 pub mod Views

@@ -2,6 +2,7 @@
 
 ghost use Rattle.machine.specs.FirstTurns.{FirstTurns};
 ghost use Rattle.machine.specs.HartInside.{HartInside};
+ghost use Rattle.machine.specs.Kept.{Keeps};
 ghost use Rattle.machine.specs.Leaving.{LeavesSoon};
 ghost use Rattle.machine.specs.Laws.{Erasure, ReplaysGoOn};
 ghost use Rattle.machine.specs.LoopCounted.{LoopCounted};
@@ -18,6 +19,14 @@ ghost use Rattle.machine.specs.ThreeCounters.{MinisUnlinked, PointUnlinked};
 /// pc and registers x1 to x30, those that the tool has saved or is rebuilding being taken from where they are.
 pub fn erasure()
     ensures { Erasure }
+{}
+
+/// What is kept at every event: each block has its shape, and a point has at most one base block that isn't retired; each word of the
+/// text is the program's or the jump into that base block; from each block that is or was linked a way leads down, through older
+/// mini blocks of the same base block and each one that is live, to its tail; and a hart inside stands in such a block, isn't
+/// stopped, and can still take the tick of the program's word.
+pub fn kept()
+    ensures { Keeps }
 {}
 
 /// Readings. Take any list of events each of which may happen when it comes, and an instrument that is armed in its course, carries a

@@ -18,7 +18,7 @@ mod turning;
 
 pub use instruments::Sample;
 pub use laws::{
-    arming_sets, budget_is_kept, erasure, first_turns, hart_inside, leaves_soon, levels_go_on,
+    arming_sets, budget_is_kept, erasure, first_turns, hart_inside, kept, leaves_soon, levels_go_on,
     loop_counted, measures_add, minis_unlinked, point_unlinked, quanta_are_legal, readings_measure,
     replays_go_on, time_goes_on,
 };
