@@ -21,7 +21,7 @@ use Rattle.machine.proofs.Lists.{in_snoc, snoc_old, map_snoc, put_words_other, p
 use Rattle.machine.proofs.Invariant.{Piece, the_row, IsBase, Linked, LiveOf, BaseShape, MiniShape, ShapedAs, Shaped, Placed, Leads, HasFamily, Door, Static, InBase, InMini, Dynamic, Inv}
 use Rattle.machine.proofs.Homes.{has_len, row_in}
 use Rattle.machine.proofs.Texts.{text_low}
-use Rattle.machine.proofs.Follow.{Image, Kept, All, Nowhere}
+use Rattle.machine.proofs.Follow.{Image, Kept, All, Nowhere, NoMore}
 use Rattle.machine.proofs.Minis.{point_word}
 use Rattle.machine.proofs.Blocks.{mini_len, shaped_still}
 
@@ -153,7 +153,7 @@ module _ (c : Core) (s : Plain) (v : Inv c s) (b : Block) (low : tool_at c.progr
         (λ (k : InMini c.budget v.ps x y). inr (record { m = k.m; b = k.b; is_in = snoc_old v.ps new k.m k.is_in; linked = k.linked; family = family_more k.m k.b k.family; was = k.was; inside = k.inside; home = k.home; before = k.before; saved = k.saved; i = k.i; f = k.f; pc = k.pc; safe = k.safe })) r)) (d.hart e);
   }
 
-  write_kept : Kept All (λ y. y ≡ new) (λ r. r.status) Nowhere v.ps c (written b c) s
+  write_kept : Kept All (λ y. y ≡ new) (λ r. r.status) Nowhere NoMore v.clock v.ps c (written b c) s
   write_kept = record {
     inv = record {
       ground = v.ground;
@@ -165,6 +165,7 @@ module _ (c : Core) (s : Plain) (v : Inv c s) (b : Block) (low : tool_at c.progr
       many = v.many;
       harts = λ h x y ex ey. stays x y (v.harts h x y ex ey);
     };
+    numbers = λ l k. (k.0, λ y h ly. ⊎_elim (λ i. k.1 y i ly) (λ i. absurd (unlinked (subst Linked i ly))) (in_snoc v.ps new y h));
     follows = record {
       on = λ x h k. (x, snoc_old v.ps new x h, same_piece x);
       back = λ y h. ⊎_elim (λ i. inl (y, i, same_piece y)) (λ i. inr (i, λ k. unlinked (subst Linked i k))) (in_snoc v.ps new y h);
@@ -181,7 +182,7 @@ pub record Wrote (c : Core) (s : Plain) (v : Inv c s) (b : Block) : Type 0 where
   pub new : Piece
   pub base : new.row.base ≡ b.base
   pub words : b.base ≡ false → (jump : ℕ) × (b.words ≡ new.body ++ tool jump ∷ [])
-  pub kept : Kept All (λ y. y ≡ new) (λ r. r.status) Nowhere v.ps c (written b c) s
+  pub kept : Kept All (λ y. y ≡ new) (λ r. r.status) Nowhere NoMore v.clock v.ps c (written b c) s
 
 write_base : (c : Core) (s : Plain) (v : Inv c s) (b : Block) → MayWrite c b → b.base ≡ true → HasShape c b true → Wrote c s v b
 write_base c s v b may e h =

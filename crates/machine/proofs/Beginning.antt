@@ -19,6 +19,8 @@ use Rattle.tramp_spec.specs.Marks.{own}
 use Rattle.machine.specs.Cores.{first_hart, start_core}
 use Rattle.machine.specs.Laws.{IsProgram}
 use Rattle.machine.proofs.Lists.{get_same, get_other}
+use Rattle.machine.specs.Kept.{no_linkings}
+use Rattle.machine.proofs.Follow.{Numbers}
 use Rattle.machine.proofs.Invariant.{Ground, Static, Dynamic, Inv}
 use Rattle.machine.proofs.Texts.{in_text}
 
@@ -134,3 +136,8 @@ module _ (image : Image) (n budget : ℕ) where
             let e : x ≡ first_hart (start_hart image n k.0) = mapped (start image n).harts h x y ex ey ∙ ap first_hart k.1 in
             subst (λ a. Dynamic (program_of image) budget [] a y) (sym e) (subst (Dynamic (program_of image) budget [] (first_hart (start_hart image n k.0))) (sym k.1) (first k.0));
       }
+
+  -- no mini block was linked yet
+  pub begins_numbers : (p : IsProgram image) → Numbers no_linkings (begins p).ps (begins p).clock
+  unfolding begins
+  begins_numbers p = (refl, λ x h. absurd h)

@@ -20,7 +20,8 @@ use Rattle.frame_walk.specs.Walks.{walk_now}
 use Rattle.prim_code.specs.Standing.{SameSlots}
 use Rattle.machine.specs.Cores.{In, Row, Status, Live, Retired, Core, is_current}
 use Rattle.machine.specs.Effects.{after, owned, armed, at_set, retired_at, is_kept, written, mini_linked, point_linked, point_unlinked}
-use Rattle.machine.specs.Events.{Event, Turn, Write, LinkMini, UnlinkMini, LinkPoint, UnlinkPoint, Free, Arm, Sample, May, MayWrite, MayLinkMini, MayLinkPoint, HasMini, IsQuiet, is_linked, StandsIn}
+use Rattle.machine.specs.Events.{Event, Turn, Write, LinkMini, UnlinkMini, LinkPoint, UnlinkPoint, Free, Arm, Sample, May, MayWrite, MayLinkMini, MayLinkPoint, HasMini, IsQuiet, is_linked, current_base, StandsIn}
+use Rattle.machine.specs.Kept.{Linkings, link_under}
 use Rattle.machine.specs.Instruments.{Spares, Lets, AllLet, body_of_block}
 use Rattle.machine.specs.Measures.{Level, level, passed, passed_by}
 use Rattle.machine.specs.Replays.{replay, Legal, owns}
@@ -28,7 +29,7 @@ use Rattle.machine.specs.Turns.{fetched, may_turn, turn_by, put_back, ticks_by, 
 use Rattle.machine.proofs.Adding.{Wrote, write}
 use Rattle.machine.proofs.Arming.{arms, get_map}
 use Rattle.machine.proofs.Blocks.{mini_len}
-use Rattle.machine.proofs.Follow.{Kept, All, NoPiece, Nowhere}
+use Rattle.machine.proofs.Follow.{Kept, All, NoPiece, Nowhere, NoMore}
 use Rattle.machine.proofs.Force.{Mine, Ready, BaseReads, MiniReads, Reads}
 use Rattle.machine.proofs.ForceKeeping.{ready, reads}
 use Rattle.machine.proofs.ForceTurns.{OwesBy, turn_reads}
@@ -94,12 +95,12 @@ module _ (i : Placed) (plan : Plan) (families ages : ℕ → ℕ) where
   module _ (c : Core) (s : Plain) (v : ℕ → Level) (k : Known c s v) where
     -- ---- an event of the tool
 
-    known : (keep fresh : Piece → Type 0) (f : Row → Status) (but : ℕ → Type 0) (d : Core) → Kept keep fresh f but (k.inv).ps c d s
+    known : (keep fresh : Piece → Type 0) (f : Row → Status) (but : ℕ → Type 0) (more : Linkings → Linkings) (d : Core) → Kept keep fresh f but more (k.inv).clock (k.inv).ps c d s
         → ((z : PlacedSite) → In z i.sites → (m : Mine i plan families ages (k.inv).ps z) → keep m.x × keep m.b × (f (m.x).row ≡ Live) × (f (m.b).row ≡ Live))
         → ((y : Piece) → fresh y → y.row.base ≡ false → Spares i y.body)
         → ((h : ℕ) (x : Hart) (y : PlainHart) → slice_get c.harts h ≡ Some x → (q : InBase c.program c.budget (k.inv).ps x y) → keep q.b)
         → ((h : ℕ) (x : Hart) (y : PlainHart) → slice_get c.harts h ≡ Some x → (q : InMini c.budget (k.inv).ps x y) → keep q.m × keep q.b) → Known d s v
-    known keep fresh f but d e own new hb hm =
+    known keep fresh f but more d e own new hb hm =
         record {
           inv = e.inv;
           ready = ready i plan families ages (k.inv).ps (e.inv).ps keep fresh f e.follows k.ready own (λ y z h b. new y z b);
@@ -111,14 +112,14 @@ module _ (i : Placed) (plan : Plan) (families ages : ℕ → ℕ) where
         }
 
     -- one that keeps all blocks and adds none
-    same_blocks : (f : Row → Status) (but : ℕ → Type 0) (d : Core) → Kept All NoPiece f but (k.inv).ps c d s
+    same_blocks : (f : Row → Status) (but : ℕ → Type 0) (more : Linkings → Linkings) (d : Core) → Kept All NoPiece f but more (k.inv).clock (k.inv).ps c d s
         → ((z : PlacedSite) → In z i.sites → (m : Mine i plan families ages (k.inv).ps z) → (f (m.x).row ≡ Live) × (f (m.b).row ≡ Live)) → Known d s v
-    same_blocks f but d e own = known All NoPiece f but d e (λ z h m. let o = own z h m in (tt, tt, o.0, o.1)) (λ y n. absurd n) (λ h x y ex q. tt) (λ h x y ex q. (tt, tt))
+    same_blocks f but more d e own = known All NoPiece f but more d e (λ z h m. let o = own z h m in (tt, tt, o.0, o.1)) (λ y n. absurd n) (λ h x y ex q. tt) (λ h x y ex q. (tt, tt))
 
     writes : (b : Block) → MayWrite c b → Lets i (Write b) → Known (written b c) s v
     writes b m l =
         let w = write c s k.inv b m in
-        known All (λ y. y ≡ w.new) (λ r. r.status) Nowhere (written b c) w.kept (λ z h m. (tt, tt, m.live, m.entered))
+        known All (λ y. y ≡ w.new) (λ r. r.status) Nowhere NoMore (written b c) w.kept (λ z h m. (tt, tt, m.live, m.entered))
         (λ y e z. subst (λ (u : Piece). Spares i u.body) (sym e) (spares w (sym (ap (λ (u : Piece). u.row.base) e) ∙ z) l))
         (λ h x y ex q. tt) (λ h x y ex q. (tt, tt))
       where
@@ -128,20 +129,20 @@ module _ (i : Placed) (plan : Plan) (families ages : ℕ → ℕ) where
 
     frees : (p : ℕ) → ((r : Row) → In r c.rows → r.point ≡ p → StandsIn c r → ⊥) → Known (after c (Free p)) s v
     frees p m =
-        known (λ x. is_kept p x.row ≡ true) NoPiece (λ r. r.status) Nowhere (after c (Free p)) (freed c s k.inv p m)
+        known (λ x. is_kept p x.row ≡ true) NoPiece (λ r. r.status) Nowhere NoMore (after c (Free p)) (freed c s k.inv p m)
         (λ z h q. (kept_current c s k.inv p m q.x (ap is_current q.live), kept_current c s k.inv p m q.b (ap is_current q.entered), q.live, q.entered))
         (λ y n. absurd n) (λ h x y ex q. holds_base c s k.inv p m h x y ex q) (λ h x y ex q. holds_mini c s k.inv p m h x y ex q)
 
     links : (p m : ℕ) → MayLinkMini c p m → Known (after c (LinkMini p m)) s v
     links p m o =
         let q = o.mini in
-        same_blocks (at_set m Live) Nowhere (after c (LinkMini p m))
-        (subst (λ b. Kept All NoPiece (at_set m Live) Nowhere (k.inv).ps c (mini_linked b m c) s) (sym o.current) (link_mini c s k.inv p m o.base q.row o.current q.listed q.mini q.point q.at q.is o.next))
+        same_blocks (at_set m Live) Nowhere (link_under (current_base c.rows p) m) (after c (LinkMini p m))
+        (subst (λ b. Kept All NoPiece (at_set m Live) Nowhere (link_under b m) (k.inv).clock (k.inv).ps c (mini_linked b m c) s) (sym o.current) (link_mini c s k.inv p m o.base q.row o.current q.listed q.mini q.point q.at q.is o.next))
         (λ z h n. (live_set m (n.x).row n.live, live_set m (n.b).row n.entered))
 
     unlinks : (p m : ℕ) → HasMini c p m Live → Lets i (UnlinkMini p m) → Known (after c (UnlinkMini p m)) s v
     unlinks p m o l =
-        same_blocks (at_set m Retired) Nowhere (after c (UnlinkMini p m)) (unlink_mini c s k.inv m o.row o.listed o.mini o.at o.is)
+        same_blocks (at_set m Retired) Nowhere NoMore (after c (UnlinkMini p m)) (unlink_mini c s k.inv m o.row o.listed o.mini o.at o.is)
         (λ z h n. (at_miss m Retired (n.x).row (λ e. l (z, h, sym n.at ∙ e)) ∙ n.live, at_miss m Retired (n.b).row (base_not n) ∙ n.entered))
       where
         -- a base block is no mini block
@@ -154,14 +155,14 @@ module _ (i : Placed) (plan : Plan) (families ages : ℕ → ℕ) where
 
     links_point : (p : ℕ) → MayLinkPoint c p → Known (after c (LinkPoint p)) s v
     links_point p o =
-        same_blocks (at_set (o.base).at Live) (λ a. a ≡ p) (after c (LinkPoint p))
-        (subst (λ b. Kept All NoPiece (at_set (o.base).at Live) (λ a. a ≡ p) (k.inv).ps c (point_linked b p c) s) (sym o.current) (link_point c s k.inv p o.base o.word o.current o.program))
+        same_blocks (at_set (o.base).at Live) (λ a. a ≡ p) NoMore (after c (LinkPoint p))
+        (subst (λ b. Kept All NoPiece (at_set (o.base).at Live) (λ a. a ≡ p) NoMore (k.inv).clock (k.inv).ps c (point_linked b p c) s) (sym o.current) (link_point c s k.inv p o.base o.word o.current o.program))
         (λ z h n. (live_set (o.base).at (n.x).row n.live, live_set (o.base).at (n.b).row n.entered))
 
     unlinks_point : (p : ℕ) (o : Option ℕ) → program_word c.program p ≡ o → Lets i (UnlinkPoint p) → Known (point_unlinked o p c) s v
     unlinks_point p None e l = k
     unlinks_point p (Some w) e l =
-        same_blocks (retired_at p) (λ a. a ≡ p) (point_unlinked (Some w) p c) (unlink_point c s k.inv p w e)
+        same_blocks (retired_at p) (λ a. a ≡ p) NoMore (point_unlinked (Some w) p c) (unlink_point c s k.inv p w e)
         (λ z h n.
         let away : z.at ≡ p → ⊥ = λ q. l (z, h, q) in (
           not_retired p (n.x).row (λ q. away (sym n.point ∙ q)) ∙ n.live,

@@ -11,7 +11,7 @@ use Rattle.machine.proofs.Lists.{in_filter, filter_in, map_filter}
 use Rattle.machine.proofs.Invariant.{Piece, the_row, IsBase, Linked, Leads, HasFamily, Door, Static, InBase, InMini, Dynamic, Inv}
 use Rattle.machine.proofs.Homes.{row_in}
 use Rattle.machine.proofs.Points.{live_true, same_point, base_point}
-use Rattle.machine.proofs.Follow.{Kept, NoPiece, Nowhere}
+use Rattle.machine.proofs.Follow.{Kept, NoPiece, Nowhere, NoMore}
 use Rattle.machine.proofs.Standing.{base_holds, mini_holds}
 
 module _ (c : Core) (s : Plain) (v : Inv c s) (p : ℕ) (may : (r : Row) → In r c.rows → r.point ≡ p → StandsIn c r → ⊥) where
@@ -88,7 +88,7 @@ module _ (c : Core) (s : Plain) (v : Inv c s) (p : ℕ) (may : (r : Row) → In 
         (λ (k : InMini c.budget v.ps x y). let a = (holds_mini h x y ex k).0 in inr (record { m = k.m; b = k.b; is_in = filter_in kept v.ps k.m k.is_in a; linked = k.linked; family = family_kept k.m k.b k.is_in k.linked a k.family; was = k.was; inside = k.inside; home = k.home; before = k.before; saved = k.saved; i = k.i; f = k.f; pc = k.pc; safe = k.safe })) r)) (d.hart e);
   }
 
-  pub freed : Kept (λ x. is_kept p x.row ≡ true) NoPiece (λ r. r.status) Nowhere v.ps c (record c { rows = filter (is_kept p) c.rows }) s
+  pub freed : Kept (λ x. is_kept p x.row ≡ true) NoPiece (λ r. r.status) Nowhere NoMore v.clock v.ps c (record c { rows = filter (is_kept p) c.rows }) s
   freed = record {
     inv = record {
       ground = v.ground;
@@ -122,6 +122,7 @@ module _ (c : Core) (s : Plain) (v : Inv c s) (p : ℕ) (may : (r : Row) → In 
       many = v.many;
       harts = λ h x y ex ey. stays_free h x y ex (v.harts h x y ex ey);
     };
+    numbers = λ l k. (k.0, λ y h ly. k.1 y (keep y h).0 ly);
     follows = record {
       on = λ x h k. (x, filter_in kept v.ps x h k, record { at = refl; point = refl; base = refl; body = refl; status = refl; was = λ w. w; family = λ k. refl; age = λ k. refl });
       back = λ y h. inl (y, (keep y h).0, record { at = refl; point = refl; base = refl; body = refl; status = refl; was = λ w. w; family = λ k. refl; age = λ k. refl });

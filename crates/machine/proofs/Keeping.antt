@@ -2,6 +2,7 @@
 use Rattle.std.proofs.Common.{◌≡◌, ◌≢◌, ℕ, zero, suc, ◌+◌, ◌-◌, ◌*◌, ◌%◌, ◌^◌, ◌<◌, ◌≤◌, List, [], ◌∷◌, length, Option, Some, None, refl, sym, ap, ◌∙◌, subst, arith, ⊎_elim, inl, inr}
 use Rattle.std.specs.Prelude.{Bool, true, false, slice_get, find, ◌⊎◌, ◌==◌}
 use Rattle.std.proofs.lemmas.Bool.{true≢false, eq-eqb, eqb-true, cases_order}
+use Rattle.pn_types.specs.declared.image.Image.{Image}
 use Rattle.rv_word.specs.Plain.{Words, PlainHart, Plain, program_word}
 use Rattle.rv_word.specs.declared.outcome.Cause.{Cause}
 use Rattle.rv_mem.specs.Start.{program_of}
@@ -14,51 +15,28 @@ use Rattle.tramp_spec.specs.MovedWords.{own_place}
 use Rattle.tramp_spec.proofs.Hops.{Hops}
 use Rattle.machine.specs.Cores.{In, Row, Written, Live, Core, is_live, is_current, start_core}
 use Rattle.machine.specs.Events.{Event, Apart, next_of}
-use Rattle.machine.specs.Kept.{IsJump, IsBaseBlock, IsMiniBlock, IsBlock, WasLinked, IsOpen, IsTextWord, Linkings, IsUnder, Way, AreOlder, LeadsDown, HasBase, IsBeforeTick, IsInside, IsKept, Keeps}
+use Rattle.machine.specs.Kept.{IsJump, IsBaseBlock, IsMiniBlock, IsBlock, WasLinked, IsOpen, IsTextWord, Linkings, linkings, no_linkings, IsUnder, Way, AreOlder, LeadsDown, HasBase, IsBeforeTick, IsInside, IsKept, Keeps}
+use Rattle.machine.specs.Laws.{IsProgram}
 use Rattle.machine.specs.Places.{block_at}
 use Rattle.machine.specs.Replays.{replay, owns}
-use Rattle.machine.proofs.Beginning.{begins}
+use Rattle.machine.proofs.Beginning.{begins, begins_numbers}
 use Rattle.machine.proofs.Homes.{piece_of, row_in, base_shape, one_block, block_is}
 use Rattle.machine.proofs.Invariant.{Piece, the_row, IsBase, Linked, LiveOf, BaseShape, MiniShape, Leads, Door, BasePlace, InBase, InMini, HartOk, Dynamic, Inv}
-use Rattle.machine.proofs.Lists.{find_gives, find_finds, same_some}
+use Rattle.machine.proofs.Lists.{same_some}
 use Rattle.machine.proofs.Minis.{next_is}
 use Rattle.machine.proofs.Standing.{in_base, in_mini}
-use Rattle.machine.proofs.Steps.{within, all_events}
-
--- ---- linkings
-
-abbrev age_if : Option Piece → ℕ
-age_if None = 0
-age_if (Some p) = p.age
-
-abbrev family_if : Option Piece → ℕ
-family_if None = 0
-family_if (Some p) = p.family
-
-abbrev at_address : List Piece → ℕ → Option Piece
-at_address ps a = find (λ p. p.row.at == a) ps
-
-abbrev pub linkings : List Piece → Linkings
-linkings ps = record { number = λ a. age_if (at_address ps a); under = λ a. family_if (at_address ps a) }
+use Rattle.machine.proofs.Follow.{Numbers}
+use Rattle.machine.proofs.Steps.{Counted, within, counted_events}
 
 jump_of_hops : (from to other word : ℕ) → Hops from to word → other ≡ to → IsJump from other word
 jump_of_hops from to other word h e = record { offset = h.offset; is = h.is; leads = h.leads ∙ sym e }
 
-module _ (c : Core) (s : Plain) (v : Inv c s) where
-  abbrev l : Linkings
-  l = linkings v.ps
+module _ (l : Linkings) (c : Core) (s : Plain) (v : Inv c s) (told : Numbers l v.ps v.clock) where
+  age_is : (p : Piece) → In p v.ps → Linked p → l.number p.row.at ≡ p.age
+  age_is p h k = sym (told.1 p h k).0
 
-  found : (p : Piece) → In p v.ps → at_address v.ps p.row.at ≡ Some p
-  found p h =
-      let f = find_finds (λ q. q.row.at == p.row.at) v.ps p h (eq-eqb p.row.at p.row.at refl) in
-      let g = find_gives (λ q. q.row.at == p.row.at) v.ps f.0 f.1 in
-      f.1 ∙ ap (λ (q : Piece). Some q) (one_block c.program c.code c.rows v.ps v.clock v.static f.0 p g.0 h (eqb-true (f.0).row.at p.row.at g.1))
-
-  age_is : (p : Piece) → In p v.ps → l.number p.row.at ≡ p.age
-  age_is p h = ap age_if (found p h)
-
-  family_is : (p : Piece) → In p v.ps → l.under p.row.at ≡ p.family
-  family_is p h = ap family_if (found p h)
+  family_is : (p : Piece) → In p v.ps → Linked p → l.under p.row.at ≡ p.family
+  family_is p h k = sym (told.1 p h k).1
 
   listed : (r : Row) → In r c.rows → (p : Piece) × In p v.ps × (r ≡ p.row)
   listed r h = piece_of c.program c.code c.rows v.ps v.clock v.static r h
@@ -125,8 +103,8 @@ module _ (c : Core) (s : Plain) (v : Inv c s) where
         whole = λ r h u on y.
             let p = listed r h in
             let lk = is_linked p.0 r p.2 u.mini u.linked in
-            let age : l.number r.at ≡ (p.0).age = ap (λ (x : Row). l.number x.at) p.2 ∙ age_is p.0 p.1 in
-            let fam : (p.0).family ≡ family = sym (ap (λ (x : Row). l.under x.at) p.2 ∙ family_is p.0 p.1) ∙ u.under in
+            let age : l.number r.at ≡ (p.0).age = ap (λ (x : Row). l.number x.at) p.2 ∙ age_is p.0 p.1 lk in
+            let fam : (p.0).family ≡ family = sym (ap (λ (x : Row). l.under x.at) p.2 ∙ family_is p.0 p.1 lk) ∙ u.under in
             let a = ((v.static).ages p.0 p.1 lk).0 in
             let live : (p.0).row.status ≡ Live = ap (λ (x : Row). x.status) (sym p.2) ∙ on in
             absurd (k.free p.0 p.1 (record { mini = lk.mini; of = fam; live = live }) (let z : k.lo < (p.0).age = omega arith in z) (let z : (p.0).age < n = omega arith in z));
@@ -136,7 +114,7 @@ module _ (c : Core) (s : Plain) (v : Inv c s) where
   first_or : (family : ℕ) (m : Piece) → In m v.ps → Linked m → m.family ≡ family → (rs : List Row) → ((r : Row) → In r rs → In r c.rows × IsUnder l family r) → (r : Row) → In r (m.row ∷ rs) → In r c.rows × IsUnder l family r
   first_or family m hm k f rs u r (inl i) = (
     subst (λ (x : Row). In x c.rows) (sym i) (among m hm),
-    subst (λ (x : Row). IsUnder l family x) (sym i) (record { mini = k.mini; linked = k.was; under = family_is m hm ∙ f }),
+    subst (λ (x : Row). IsUnder l family x) (sym i) (record { mini = k.mini; linked = k.was; under = family_is m hm k ∙ f }),
   )
   first_or family m hm k f rs u r (inr h) = u r h
 
@@ -155,14 +133,14 @@ module _ (c : Core) (s : Plain) (v : Inv c s) where
     whole r h u on y =
         let p = listed r h in
         let lk = is_linked p.0 r p.2 u.mini u.linked in
-        let age : l.number r.at ≡ (p.0).age = ap (λ (x : Row). l.number x.at) p.2 ∙ age_is p.0 p.1 in
-        let fam : (p.0).family ≡ family = sym (ap (λ (x : Row). l.under x.at) p.2 ∙ family_is p.0 p.1) ∙ u.under in
+        let age : l.number r.at ≡ (p.0).age = ap (λ (x : Row). l.number x.at) p.2 ∙ age_is p.0 p.1 lk in
+        let fam : (p.0).family ≡ family = sym (ap (λ (x : Row). l.under x.at) p.2 ∙ family_is p.0 p.1 lk) ∙ u.under in
         at_age r h u on y p.0 p.1 p.2 lk age (record { mini = lk.mini; of = fam; live = ap (λ (x : Row). x.status) (sym p.2) ∙ on })
 
     goes : m.family ≡ family → m.row.at ≡ q → (live ≡ true → m.row.status ≡ Live) → LeadsDown l c family n q live
     goes fm at on =
         let b = k.below in
-        let number = age_is m hm in
+        let number = age_is m hm lm in
         record {
           through = m.row ∷ rest.through;
           way = (at, subst (λ x. Way c.code x rest.through (tail_of family)) (sym (next m hm)) rest.way);
@@ -240,7 +218,7 @@ module _ (c : Core) (s : Plain) (v : Inv c s) where
       ((f.0).row, record {
         listed = among f.0 (f.1).is_in;
         base = ((f.1).base).base;
-        under = ap (λ (z : Row). l.under z.at) p.2 ∙ (family_is p.0 p.1 ∙ sym (f.1).at);
+        under = ap (λ (z : Row). l.under z.at) p.2 ∙ (family_is p.0 p.1 k ∙ sym (f.1).at);
         point = ap (λ (z : Row). z.point) p.2 ∙ sym (f.1).point;
         current = λ e. (v.static).used p.0 f.0 p.1 k f.1 (ap (λ (z : Row). z.status) (sym p.2) ∙ e);
       })
@@ -250,23 +228,21 @@ module _ (c : Core) (s : Plain) (v : Inv c s) where
       let p = listed r h in
       let k = is_linked p.0 r p.2 b w in
       let o = down (p.0).age (p.0).age (p.0).family (p.0).next (is_live (p.0).row.status) (omega arith) ((v.static).chains p.0 p.1 k) in
-      let o1 : LeadsDown l c (l.under (p.0).row.at) (p.0).age (p.0).next (is_live (p.0).row.status) = subst (λ f. LeadsDown l c f (p.0).age (p.0).next (is_live (p.0).row.status)) (sym (family_is p.0 p.1)) o in
-      let o2 : LeadsDown l c (l.under (p.0).row.at) (l.number (p.0).row.at) (p.0).next (is_live (p.0).row.status) = subst (λ n. LeadsDown l c (l.under (p.0).row.at) n (p.0).next (is_live (p.0).row.status)) (sym (age_is p.0 p.1)) o1 in
+      let o1 : LeadsDown l c (l.under (p.0).row.at) (p.0).age (p.0).next (is_live (p.0).row.status) = subst (λ f. LeadsDown l c f (p.0).age (p.0).next (is_live (p.0).row.status)) (sym (family_is p.0 p.1 k)) o in
+      let o2 : LeadsDown l c (l.under (p.0).row.at) (l.number (p.0).row.at) (p.0).next (is_live (p.0).row.status) = subst (λ n. LeadsDown l c (l.under (p.0).row.at) n (p.0).next (is_live (p.0).row.status)) (sym (age_is p.0 p.1 k)) o1 in
       let o3 : LeadsDown l c (l.under (p.0).row.at) (l.number (p.0).row.at) (next_of c.code (p.0).row) (is_live (p.0).row.status) = subst (λ q. LeadsDown l c (l.under (p.0).row.at) (l.number (p.0).row.at) q (is_live (p.0).row.status)) (sym (next p.0 p.1)) o2 in
       subst (λ (z : Row). LeadsDown l c (l.under z.at) (l.number z.at) (next_of c.code z) (is_live z.status)) (sym p.2) o3
 
-  head_of : (b : Row) → In b c.rows → b.base ≡ true → LeadsDown l c b.at (v.clock - 1 + 1) (next_of c.code b) (is_current b.status)
+  head_of : (b : Row) → In b c.rows → b.base ≡ true → LeadsDown l c b.at (l.count + 1) (next_of c.code b) (is_current b.status)
   head_of b h e =
       let p = listed b h in
       let bs : IsBase p.0 = record { base = ap (λ (z : Row). z.base) (sym p.2) ∙ e } in
-      let z = v.some in
-      let clock : v.clock ≡ v.clock - 1 + 1 = omega arith in
       let o = down v.clock v.clock (p.0).row.at (p.0).next (is_current (p.0).row.status) (omega arith) ((v.static).heads p.0 p.1 bs) in
-      let o1 : LeadsDown l c (p.0).row.at (v.clock - 1 + 1) (p.0).next (is_current (p.0).row.status) = subst (λ n. LeadsDown l c (p.0).row.at n (p.0).next (is_current (p.0).row.status)) clock o in
-      let o2 : LeadsDown l c (p.0).row.at (v.clock - 1 + 1) (next_of c.code (p.0).row) (is_current (p.0).row.status) = subst (λ q. LeadsDown l c (p.0).row.at (v.clock - 1 + 1) q (is_current (p.0).row.status)) (sym (next p.0 p.1)) o1 in
-      subst (λ (r : Row). LeadsDown l c r.at (v.clock - 1 + 1) (next_of c.code r) (is_current r.status)) (sym p.2) o2
+      let o1 : LeadsDown l c (p.0).row.at (l.count + 1) (p.0).next (is_current (p.0).row.status) = subst (λ n. LeadsDown l c (p.0).row.at n (p.0).next (is_current (p.0).row.status)) told.0 o in
+      let o2 : LeadsDown l c (p.0).row.at (l.count + 1) (next_of c.code (p.0).row) (is_current (p.0).row.status) = subst (λ q. LeadsDown l c (p.0).row.at (l.count + 1) q (is_current (p.0).row.status)) (sym (next p.0 p.1)) o1 in
+      subst (λ (r : Row). LeadsDown l c r.at (l.count + 1) (next_of c.code r) (is_current r.status)) (sym p.2) o2
 
-  pub kept : IsKept l (v.clock - 1) c
+  pub kept : IsKept l c
   kept =
       record {
         blocks = λ r h. let p = listed r h in subst (IsBlock c) (sym p.2) (is_block p.0 p.1);
@@ -292,14 +268,15 @@ module _ (c : Core) (s : Plain) (v : Inv c s) where
             let a = (v.static).ages p.0 p.1 (is_linked p.0 r p.2 b w) in
             let a0 = a.0 in
             let a1 = a.1 in
-            let e : l.number r.at ≡ (p.0).age = ap (λ (z : Row). l.number z.at) p.2 ∙ age_is p.0 p.1 in
+            let k = told.0 in
+            let e : l.number r.at ≡ (p.0).age = ap (λ (z : Row). l.number z.at) p.2 ∙ age_is p.0 p.1 (is_linked p.0 r p.2 b w) in
             (omega arith, omega arith);
         distinct = λ r q hr hq br bq wr wq e.
             let a = listed r hr in
             let b = listed q hq in
             a.2
             ∙ (ap the_row ((v.static).distinct a.0 b.0 a.1 b.1 (is_linked a.0 r a.2 br wr) (is_linked b.0 q b.2 bq wq)
-            (sym (age_is a.0 a.1) ∙ (ap (λ (z : Row). l.number z.at) (sym a.2) ∙ (e ∙ (ap (λ (z : Row). l.number z.at) b.2 ∙ age_is b.0 b.1)))))
+            (sym (age_is a.0 a.1 (is_linked a.0 r a.2 br wr)) ∙ (ap (λ (z : Row). l.number z.at) (sym a.2) ∙ (e ∙ (ap (λ (z : Row). l.number z.at) b.2 ∙ age_is b.0 b.1 (is_linked b.0 q b.2 bq wq))))))
             ∙ sym b.2);
         families = family_block;
         ways = way_of;
@@ -309,7 +286,7 @@ module _ (c : Core) (s : Plain) (v : Inv c s) where
 
 pub keeps : Keeps
 keeps image n budget es p k =
-    let a = all_events es (program_of image) budget (start_core image n budget) (start image n) refl refl (begins image n budget p) k in
-    let c = replay es (start_core image n budget) in
-    let s = run_from (program_of image) (owns es (start_core image n budget)) (start image n) in
-    (linkings (a.1).ps, (a.1).clock - 1, kept c s a.1)
+    let c = start_core image n budget in
+    let first : Counted no_linkings c (start image n) = record { inv = begins image n budget p; numbers = begins_numbers image n budget p } in
+    let a = counted_events no_linkings es (program_of image) budget c (start image n) refl refl first k in
+    kept (linkings es c no_linkings) (replay es c) (run_from (program_of image) (owns es c) (start image n)) (a.1).inv (a.1).numbers

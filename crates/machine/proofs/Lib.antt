@@ -19,6 +19,7 @@ pub mod Adding
 pub mod Standing
 pub mod Freeing
 pub mod Arming
+pub mod Numbering
 pub mod Steps
 pub mod Sames
 pub mod Beginning

@@ -12,12 +12,13 @@ use Rattle.tramp_spec.proofs.Hops.{Hops, target_is, jump_hops}
 use Rattle.machine.specs.Cores.{In, Row, Status, Written, Live, Core, is_live, is_current}
 use Rattle.machine.specs.Effects.{with_status, at_set, mini_linked}
 use Rattle.machine.specs.Events.{Apart, link_at, next_of, target_at, current_base}
-use Rattle.machine.proofs.Lists.{map_in, get_other, stands_at, get_append}
+use Rattle.machine.specs.Kept.{Linkings, link_under}
+use Rattle.machine.proofs.Lists.{in_map, map_in, get_other, stands_at, get_append}
 use Rattle.machine.proofs.Invariant.{Ground, Piece, IsBase, Linked, LiveOf, BaseShape, MiniShape, ShapedAs, Shaped, Leads, Door, TextWord, Static, Inv}
 use Rattle.machine.proofs.Homes.{piece_of, one_block}
 use Rattle.machine.proofs.Texts.{text_low}
 use Rattle.machine.proofs.Points.{at_hit, at_miss, Current, current_piece, family_of}
-use Rattle.machine.proofs.Follow.{Kept, All, NoPiece, Nowhere, reworked}
+use Rattle.machine.proofs.Follow.{Kept, Numbers, All, NoPiece, Nowhere, reworked}
 use Rattle.machine.proofs.Blocks.{shaped_other, shaped_next, link_in, static_kept, leads_kept, rework, door_of}
 
 pub link_is : (code : Code) (row : Row) (a n w : ℕ) → link_at row ≡ a → Hops a n w → get code a ≡ Some (tool w) → next_of code row ≡ n
@@ -284,9 +285,29 @@ module _ (c : Core) (s : Plain) (v : Inv c s) (p m : ℕ) (b r : Row) (eb : curr
       (λ x h k e. ap is_current (sym (base_status x h k)) ∙ e)
       ages distinct families used chains heads
 
-  pub link_mini : Kept All NoPiece (at_set m Live) Nowhere v.ps c (mini_linked (Some b) m c) s
+  -- the linking of the mini block is the newest
+  numbers : (l : Linkings) → Numbers l v.ps v.clock → Numbers (link_under (Some (pb.d).row) m l) (map (rework f n fam age) v.ps) (v.clock + 1)
+  numbers l k = (ap (λ z. z + 1) k.0, λ y h ly.
+      let r = in_map (rework f n fam age) v.ps y h in
+      subst (λ (z : Piece). (z.age ≡ (link_under (Some (pb.d).row) m l).number z.row.at) × (z.family ≡ (link_under (Some (pb.d).row) m l).under z.row.at)) (sym r.2) (told r.0 r.1 (subst Linked r.2 ly)))
+    where
+      told : (x : Piece) → In x v.ps → Linked (rework f n fam age x) → (age x ≡ cond (x.row.at == m) (l.count + 1) (l.number x.row.at)) × (fam x ≡ cond (x.row.at == m) (pb.d).row.at (l.under x.row.at))
+      told x h lx = ⊎_elim
+          (λ (i : x.row.at ≡ m). (
+            age_hit x i ∙ (k.0 ∙ sym (cond-true (x.row.at == m) (l.count + 1) (l.number x.row.at) (eq-eqb _ _ i))),
+            fam_hit x i ∙ sym (cond-true (x.row.at == m) (pb.d).row.at (l.under x.row.at) (eq-eqb _ _ i)),
+          ))
+          (λ (i : x.row.at ≡ m → ⊥).
+          let o = k.1 x h (linked_back x i lx) in (
+            age_miss x i ∙ (o.0 ∙ sym (cond-false (x.row.at == m) (l.count + 1) (l.number x.row.at) (ne_eqb _ _ i))),
+            fam_miss x i ∙ (o.1 ∙ sym (cond-false (x.row.at == m) (pb.d).row.at (l.under x.row.at) (ne_eqb _ _ i))),
+          ))
+          (cases_eq x.row.at m)
+
+  pub link_mini : Kept All NoPiece (at_set m Live) Nowhere (link_under (Some b) m) v.clock v.ps c (mini_linked (Some b) m c) s
   link_mini =
-      subst (λ (z : Row). Kept All NoPiece (at_set m Live) Nowhere v.ps c (mini_linked (Some z) m c) s) (sym pb.row)
-      (reworked c s v f n fam age Nowhere (insert c.code (link_at (pb.d).row) (tool jump)) (v.clock + 1) (omega arith) linked
+      subst (λ (z : Row). Kept All NoPiece (at_set m Live) Nowhere (link_under (Some z) m) v.clock v.ps c (mini_linked (Some z) m c) s) (sym pb.row)
+      (reworked c s v f n fam age Nowhere (link_under (Some (pb.d).row) m) (insert c.code (link_at (pb.d).row) (tool jump)) (v.clock + 1) (omega arith) linked
       (λ x h w e. up x w e) (λ x h k. fam_miss x (linked_not x h k)) (λ x h k. age_miss x (linked_not x h k))
-      (λ a u e but. text_other c.program v.ground c.code c.rows v.ps v.clock v.static pb.d pb.is_in (tool jump) a u e))
+      (λ a u e but. text_other c.program v.ground c.code c.rows v.ps v.clock v.static pb.d pb.is_in (tool jump) a u e)
+      numbers)

@@ -15,7 +15,7 @@ use Rattle.machine.proofs.Lists.{map_in, find_gives, get_same, get_other, same_s
 use Rattle.machine.proofs.Invariant.{Ground, Piece, IsBase, Linked, Leads, HasFamily, Door, TextWord, Static, Inv}
 use Rattle.machine.proofs.Homes.{piece_of, one_block}
 use Rattle.machine.proofs.Texts.{in_text, text_low}
-use Rattle.machine.proofs.Follow.{Kept, All, NoPiece, reworked}
+use Rattle.machine.proofs.Follow.{Kept, All, NoPiece, NoMore, still, reworked}
 use Rattle.machine.proofs.Blocks.{shaped_other, static_kept, leads_kept, rework, door_of}
 
 pub live_true : (s : Status) → is_live s ≡ true → s ≡ Live
@@ -181,11 +181,11 @@ module _ (c : Core) (s : Plain) (v : Inv c s) where
         (v.static.words a u e))
         (cases_eq a p)
 
-    pub link_point : Kept All NoPiece (at_set b.at Live) (λ a. a ≡ p) v.ps c (point_linked (Some b) p c) s
+    pub link_point : Kept All NoPiece (at_set b.at Live) (λ a. a ≡ p) NoMore v.clock v.ps c (point_linked (Some b) p c) s
     link_point =
         let st = v.static in
         let near = text_low c.program p w ew in
-        reworked c s v (at_set b.at Live) same_next same_family same_age (λ a. a ≡ p) code' v.clock v.some
+        reworked c s v (at_set b.at Live) same_next same_family same_age (λ a. a ≡ p) NoMore code' v.clock v.some
         (static_kept v.ps (at_set b.at Live) same_next same_family same_age c.program c.code code' c.rows v.clock v.clock st
         (λ x h. let l = (st.places x h).low in shaped_other c.program c.code x.row x.body x.next p _ (inl (omega arith)) (st.shapes x h))
         words
@@ -199,6 +199,7 @@ module _ (c : Core) (s : Plain) (v : Inv c s) where
         (λ x h bx. on x.row.at v.clock x.next (is_current x.row.status) _ (λ e. cur_back x h e) (st.heads x h bx)))
         (λ x h n e. up x n e) (λ x h k. refl) (λ x h k. refl)
         (λ a u e but. get_other c.code p a (enter (jump_word p b.at)) but)
+        (still v.ps (at_set b.at Live) same_next v.clock linked_back)
 
 -- UnlinkPoint
 module _ (c : Core) (s : Plain) (v : Inv c s) (p w : ℕ) (ew : program_word c.program p ≡ Some w) where
@@ -263,11 +264,11 @@ module _ (c : Core) (s : Plain) (v : Inv c s) (p w : ℕ) (ew : program_word c.p
       (v.static.words a u e))
       (cases_eq a p)
 
-  pub unlink_point : Kept All NoPiece (retired_at p) (λ a. a ≡ p) v.ps c (point_unlinked (Some w) p c) s
+  pub unlink_point : Kept All NoPiece (retired_at p) (λ a. a ≡ p) NoMore v.clock v.ps c (point_unlinked (Some w) p c) s
   unlink_point =
       let st = v.static in
       let near = text_low c.program p w ew in
-      reworked c s v (retired_at p) same_next same_family same_age (λ a. a ≡ p) (insert c.code p (own w)) v.clock v.some
+      reworked c s v (retired_at p) same_next same_family same_age (λ a. a ≡ p) NoMore (insert c.code p (own w)) v.clock v.some
       (static_kept v.ps (retired_at p) same_next same_family same_age c.program c.code (insert c.code p (own w)) c.rows v.clock v.clock st
       (λ x h. let l = (st.places x h).low in shaped_other c.program c.code x.row x.body x.next p _ (inl (omega arith)) (st.shapes x h))
       words'
@@ -291,3 +292,4 @@ module _ (c : Core) (s : Plain) (v : Inv c s) (p w : ℕ) (ew : program_word c.p
       (st.heads x h bx)))
       (λ x h n e. up' x.row n e) (λ x h k. refl) (λ x h k. refl)
       (λ a u e but. get_other c.code p a (own w) but)
+      (still v.ps (retired_at p) same_next v.clock (λ x h k. linked_back' x k))

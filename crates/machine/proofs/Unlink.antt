@@ -17,7 +17,7 @@ use Rattle.machine.proofs.Invariant.{Piece, the_row, IsBase, Linked, LiveOf, Bas
 use Rattle.machine.proofs.Homes.{piece_of, one_block, has_len, row_in}
 use Rattle.machine.proofs.Points.{live_true, at_hit, at_miss, family_of}
 use Rattle.machine.proofs.Minis.{next_is, mini_or_base, tool_hops, shapes_but, words_but, doors_but, text_other}
-use Rattle.machine.proofs.Follow.{Kept, All, NoPiece, Nowhere, reworked}
+use Rattle.machine.proofs.Follow.{Kept, All, NoPiece, Nowhere, NoMore, still, reworked}
 use Rattle.machine.proofs.Blocks.{static_kept, leads_kept, rework}
 
 module _ (c : Core) (s : Plain) (v : Inv c s) (m : ℕ) (r : Row) (hr : In r c.rows) (rb : r.base ≡ false) (ra : r.at ≡ m) (rs : r.status ≡ Live) where
@@ -340,11 +340,12 @@ module _ (c : Core) (s : Plain) (v : Inv c s) (m : ℕ) (r : Row) (hr : In r c.r
         (λ x y hx hy kx by e lv. ap is_current (base_status y hy by) ∙ st.used x y hx (linked_back x hx kx) (family_of c.program c.code c.rows v.ps v.clock v.static x y hx hy (linked_back x hx kx) by e) (live_back x lv).0)
         chains heads
 
-    kept : Kept All NoPiece (at_set m Retired) Nowhere v.ps c (record c { code = new_code (pm.0).next; rows = map (with_status (at_set m Retired)) c.rows }) s
+    kept : Kept All NoPiece (at_set m Retired) Nowhere NoMore v.clock v.ps c (record c { code = new_code (pm.0).next; rows = map (with_status (at_set m Retired)) c.rows }) s
     kept =
-        reworked c s v f n (λ q. q.family) (λ q. q.age) Nowhere (new_code (pm.0).next) v.clock v.some unlinked
+        reworked c s v f n (λ q. q.family) (λ q. q.age) Nowhere NoMore (new_code (pm.0).next) v.clock v.some unlinked
         (λ x h w e. up x w e) (λ x h k. refl) (λ x h k. refl)
         (λ a u e but. text_other c.program v.ground c.code c.rows v.ps v.clock v.static pq hq (tool (jump_word (link_at pq.row) (pm.0).next)) a u e)
+        (still v.ps f n v.clock linked_back)
 
   -- what the two searches find stands
   pub unlinks : (h : Row) × (z : Row) × (before c m ≡ Some h) × (row_at c.rows m ≡ Some z) × ((y : Piece) × In y v.ps × (h ≡ y.row) × (is_linked y.row ≡ true) × (y.next ≡ m)) × (next_of c.code z ≡ (pm.0).next)
@@ -354,12 +355,12 @@ module _ (c : Core) (s : Plain) (v : Inv c s) (m : ℕ) (r : Row) (hr : In r c.r
       let z = find_finds (λ (r : Row). r.at == m) c.rows r hr (eq-eqb _ _ ra) in
       (b.0, z.0, b.1, z.1, the_before b.0 b.1, ap (next_of c.code) (the_row_at z.0 z.1) ∙ next_is c.program c.code pm.0 (st.shapes pm.0 pm.1))
 
-  pub unlink_mini : Kept All NoPiece (at_set m Retired) Nowhere v.ps c (mini_unlinked (before c m) (row_at c.rows m) m c) s
+  pub unlink_mini : Kept All NoPiece (at_set m Retired) Nowhere NoMore v.clock v.ps c (mini_unlinked (before c m) (row_at c.rows m) m c) s
   unlink_mini =
       let k = unlinks in
       let q = k.4 in
-      let is : Kept All NoPiece (at_set m Retired) Nowhere v.ps c (mini_unlinked (Some k.0) (Some k.1) m c) s =
-      subst (λ (u : Row). Kept All NoPiece (at_set m Retired) Nowhere v.ps c (mini_unlinked (Some u) (Some k.1) m c) s) (sym q.2)
-      (subst (λ w. Kept All NoPiece (at_set m Retired) Nowhere v.ps c (record c { code = insert c.code (link_at (q.0).row) (tool (jump_word (link_at (q.0).row) w)); rows = map (with_status (at_set m Retired)) c.rows }) s) (sym k.5) (kept q.0 q.1 q.3 q.4)) in
-      subst (λ o. Kept All NoPiece (at_set m Retired) Nowhere v.ps c (mini_unlinked o (row_at c.rows m) m c) s) (sym k.2)
-      (subst (λ o. Kept All NoPiece (at_set m Retired) Nowhere v.ps c (mini_unlinked (Some k.0) o m c) s) (sym k.3) is)
+      let is : Kept All NoPiece (at_set m Retired) Nowhere NoMore v.clock v.ps c (mini_unlinked (Some k.0) (Some k.1) m c) s =
+      subst (λ (u : Row). Kept All NoPiece (at_set m Retired) Nowhere NoMore v.clock v.ps c (mini_unlinked (Some u) (Some k.1) m c) s) (sym q.2)
+      (subst (λ w. Kept All NoPiece (at_set m Retired) Nowhere NoMore v.clock v.ps c (record c { code = insert c.code (link_at (q.0).row) (tool (jump_word (link_at (q.0).row) w)); rows = map (with_status (at_set m Retired)) c.rows }) s) (sym k.5) (kept q.0 q.1 q.3 q.4)) in
+      subst (λ o. Kept All NoPiece (at_set m Retired) Nowhere NoMore v.clock v.ps c (mini_unlinked o (row_at c.rows m) m c) s) (sym k.2)
+      (subst (λ o. Kept All NoPiece (at_set m Retired) Nowhere NoMore v.clock v.ps c (mini_unlinked (Some k.0) o m c) s) (sym k.3) is)

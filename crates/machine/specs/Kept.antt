@@ -1,6 +1,6 @@
 -- What the patched machine keeps at every event: the blocks that aren't freed and their words, the words of the text, the ways from
 -- block to block, and where harts stand.
-use Rattle.std.specs.Prelude.{◌≡◌, ◌≢◌, ℕ, ◌+◌, ◌*◌, ◌%◌, ◌^◌, ◌<◌, ◌≤◌, ◌⊎◌, Bool, true, false, Some, None, List, [], ◌∷◌, ◌++◌, length, slice_get}
+use Rattle.std.specs.Prelude.{◌≡◌, ◌≢◌, ℕ, ◌+◌, ◌*◌, ◌%◌, ◌^◌, ◌<◌, ◌≤◌, ◌⊎◌, ◌==◌, if◌then◌else◌, Option, Bool, true, false, Some, None, List, [], ◌∷◌, ◌++◌, length, slice_get}
 use Rattle.std.specs.FinMap.{get}
 use Rattle.pn_types.specs.declared.limits.TheConstants.{TOOL_TEXT_LEN}
 use Rattle.pn_types.specs.declared.image.Image.{Image}
@@ -18,7 +18,8 @@ use Rattle.tramp_spec.specs.Marks.{own, enter, tool}
 use Rattle.tramp_spec.specs.MovedWords.{moved_of, own_place}
 use Rattle.tramp_spec.specs.declared.mark.MarkedWord.{MarkedWord}
 use Rattle.machine.specs.Cores.{In, Row, Written, Live, Core, is_current, is_live, start_core}
-use Rattle.machine.specs.Events.{Event, Apart, next_of}
+use Rattle.machine.specs.Effects.{after}
+use Rattle.machine.specs.Events.{Event, LinkMini, Apart, current_base, next_of}
 use Rattle.machine.specs.Laws.{IsProgram}
 use Rattle.machine.specs.Places.{block_at, word_no}
 use Rattle.machine.specs.Replays.{replay, Legal}
@@ -84,11 +85,29 @@ IsTextWord c a word = (get c.code a ≡ Some (own word)) ⊎ ((b : Row) × In b 
 
 -- ---- ways from block to block
 
--- How mini blocks were linked, by their addresses: the number of the linking among all, the first being 1, and the address of the
--- base block under which it was.
+-- The linkings of mini blocks so far: how many they are; and for the address of a mini block the number of the last one, the first
+-- having number 1, and the address of the base block under which it was linked then.
 pub record Linkings : Type 0 where
+  pub count : ℕ
   pub number : ℕ → ℕ
   pub under : ℕ → ℕ
+
+abbrev pub no_linkings : Linkings
+no_linkings = record { count = 0; number = λ a. 0; under = λ a. 0 }
+
+-- one more, of the mini block at m
+abbrev pub link_under : Option Row → ℕ → Linkings → Linkings
+link_under None m l = l
+link_under (Some base) m l = record { count = l.count + 1; number = λ a. if a == m then l.count + 1 else l.number a; under = λ a. if a == m then base.at else l.under a }
+
+abbrev pub linkings_after : Core → Event → Linkings → Linkings
+linkings_after c (LinkMini p m) l = link_under (current_base c.rows p) m l
+linkings_after c e l = l
+
+-- The linkings behind these events.
+abbrev pub linkings : List Event → Core → Linkings → Linkings
+linkings [] c l = l
+linkings (e ∷ es) c l = linkings es (after c e) (linkings_after c e l)
 
 -- a mini block that was linked under a base block
 pub record IsUnder (l : Linkings) (base : ℕ) (r : Row) : Type 0 where
@@ -143,22 +162,22 @@ pub record IsInside (c : Core) (x : Hart) : Type 0 where
 
 -- ---- together
 
--- All this is so of a state in which mini blocks were linked as `l` says, `count` times so far.
-pub record IsKept (l : Linkings) (count : ℕ) (c : Core) : Type 0 where
+-- All this is so of a state behind these linkings.
+pub record IsKept (l : Linkings) (c : Core) : Type 0 where
   pub blocks : (r : Row) → In r c.rows → IsBlock c r
   pub apart : (r s : Row) → In r c.rows → In s c.rows → (r ≡ s) ⊎ Apart r.at r.len s.at s.len
   pub bases : (b d : Row) → In b c.rows → In d c.rows → b.base ≡ true → d.base ≡ true → b.point ≡ d.point → is_current b.status ≡ true → is_current d.status ≡ true → b ≡ d
   pub text : (a word : ℕ) → program_word c.program a ≡ Some word → IsTextWord c a word
   pub open_at : (b : Row) → In b c.rows → b.base ≡ true → b.status ≡ Live → IsOpen c.code b
-  pub numbers : (r : Row) → In r c.rows → r.base ≡ false → WasLinked r → (0 < l.number r.at) × (l.number r.at ≤ count)
+  pub numbers : (r : Row) → In r c.rows → r.base ≡ false → WasLinked r → (0 < l.number r.at) × (l.number r.at ≤ l.count)
   pub distinct : (r s : Row) → In r c.rows → In s c.rows → r.base ≡ false → s.base ≡ false → WasLinked r → WasLinked s → l.number r.at ≡ l.number s.at → r ≡ s
   pub families : (r : Row) → In r c.rows → r.base ≡ false → WasLinked r → (b : Row) × HasBase l c r b
   pub ways : (r : Row) → In r c.rows → r.base ≡ false → WasLinked r → LeadsDown l c (l.under r.at) (l.number r.at) (next_of c.code r) (is_live r.status)
-  pub heads : (b : Row) → In b c.rows → b.base ≡ true → LeadsDown l c b.at (count + 1) (next_of c.code b) (is_current b.status)
+  pub heads : (b : Row) → In b c.rows → b.base ≡ true → LeadsDown l c b.at (l.count + 1) (next_of c.code b) (is_current b.status)
   pub harts : (h : ℕ) (x : Hart) → slice_get c.harts h ≡ Some x → x.inside ≡ true → IsInside c x
 
 -- That is so behind every list of events of which each may happen when it comes.
 abbrev pub Keeps : Type 0
 Keeps =
     (image : Image) (n budget : ℕ) (es : List Event) → IsProgram image → Legal es (start_core image n budget)
-    → (l : Linkings) × (count : ℕ) × IsKept l count (replay es (start_core image n budget))
+    → IsKept (linkings es (start_core image n budget) no_linkings) (replay es (start_core image n budget))
