@@ -1,7 +1,6 @@
 pub mod Levels
 pub mod Replaying
 pub mod Sums
-pub mod FirstTurns
 pub mod Lists
 pub mod Invariant
 pub mod Homes
@@ -45,13 +44,6 @@ pub mod Opened
 pub mod Openings
 pub mod ForceArming
 pub mod Readings
-pub mod LoopLinked
-pub mod LoopCounted
-pub mod Traces
-pub mod ThreeLinked
-pub mod ThreeTurns
-pub mod ThreeCounters
-pub mod HartInside
 pub mod BlockLists
 pub mod BlockLooks
 pub mod BlockWalks

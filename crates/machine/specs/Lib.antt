@@ -10,7 +10,6 @@ pub mod Instruments
 pub mod Laws
 pub mod Arming
 pub mod Readings
-pub mod FirstTurns
 pub mod Leaving
 pub mod States
 pub mod Quanta
@@ -21,7 +20,4 @@ pub mod Views
 pub mod Performing
 pub mod Alone
 pub mod Stretches
-pub mod LoopCounted
 pub mod Links
-pub mod ThreeCounters
-pub mod HartInside

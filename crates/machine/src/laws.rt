@@ -1,16 +1,12 @@
 //! What holds of the definitions.
 
-ghost use Rattle.machine.specs.FirstTurns.{FirstTurns};
-ghost use Rattle.machine.specs.HartInside.{HartInside};
 ghost use Rattle.machine.specs.Kept.{Keeps};
 ghost use Rattle.machine.specs.Leaving.{LeavesSoon};
 ghost use Rattle.machine.specs.Laws.{Erasure, ReplaysGoOn};
-ghost use Rattle.machine.specs.LoopCounted.{LoopCounted};
 ghost use Rattle.machine.specs.Measures.{LevelsGoOn, MeasuresAdd};
 ghost use Rattle.machine.specs.Arming.{ArmingSets};
 ghost use Rattle.machine.specs.Quanta.{BudgetIsKept, QuantaAreLegal, TimeGoesOn};
 ghost use Rattle.machine.specs.Readings.{ReadingsMeasure};
-ghost use Rattle.machine.specs.ThreeCounters.{MinisUnlinked, PointUnlinked};
 
 /// Erasure. Take any image whose text is of words of 32 bits that never name x31, any number of harts and budget, and any list of
 /// events each of which may happen when it comes: turns, also inside trampolines, and blocks that are written, linked,
@@ -76,30 +72,4 @@ pub fn levels_go_on()
 /// What a plan measures adds up, over times and over harts.
 pub fn measures_add()
     ensures { MeasuresAdd }
-{}
-
-/// Thirteen turns of three words, the first of which is patched and counted.
-pub fn first_turns()
-    ensures { FirstTurns }
-{}
-
-/// Three rounds of a loop of one word, which an instrument counts: it is armed, and reads 3.
-pub fn loop_counted()
-    ensures { LoopCounted }
-{}
-
-/// Three counters at the loop's point. While a hart is at the second's mini block, this and the first's are unlinked. The hart goes
-/// through both, and nothing is freed before it is outside. Then a fourth takes their room, and three rounds later reads 3.
-pub fn minis_unlinked()
-    ensures { MinisUnlinked }
-{}
-
-/// The point is unlinked while a hart is at the third's mini block. It goes through all three, and then on by the program's own word.
-pub fn point_unlinked()
-    ensures { PointUnlinked }
-{}
-
-/// While a hart is inside a trampoline no instrument is armed or sampled. Once it has settled, both may happen.
-pub fn hart_inside()
-    ensures { HartInside }
 {}

@@ -18,9 +18,8 @@ mod turning;
 
 pub use instruments::Sample;
 pub use laws::{
-    arming_sets, budget_is_kept, erasure, first_turns, hart_inside, kept, leaves_soon, levels_go_on,
-    loop_counted, measures_add, minis_unlinked, point_unlinked, quanta_are_legal, readings_measure,
-    replays_go_on, time_goes_on,
+    arming_sets, budget_is_kept, erasure, kept, leaves_soon, levels_go_on, measures_add,
+    quanta_are_legal, readings_measure, replays_go_on, time_goes_on,
 };
 pub use machine::Machine;
 pub use quantum::Taken;

@@ -5,13 +5,13 @@ use Rattle.tramp_spec.specs.declared.block.Block.{Block}
 use Rattle.machine.specs.Cores.{Core}
 use Rattle.machine.specs.Effects.{after}
 use Rattle.machine.specs.Events.{Arm, May}
-use Rattle.machine.specs.LoopCounted.{loop_core, linking, counter}
+use Rattle.machine_examples.specs.LoopCounted.{loop_core, linking, counter}
 use Rattle.machine.specs.Replays.{Legal, replay}
 use Rattle.machine.specs.States.{Machine}
-use Rattle.machine.specs.ThreeCounters.{adding, arming}
-use Rattle.machine.proofs.LoopCounted.{loop_counted}
+use Rattle.machine_examples.specs.ThreeCounters.{adding, arming}
+use Rattle.machine_examples.proofs.LoopCounted.{loop_counted}
 use Rattle.machine.proofs.Replaying.{legal-parts}
-use Rattle.machine.proofs.ThreeCounters.{minis_unlinked}
+use Rattle.machine_examples.proofs.ThreeCounters.{minis_unlinked}
 use Rattle.public_tests.specs.Linkings.{linking_of, adding_of}
 
 -- equal blocks, in a machine that is known

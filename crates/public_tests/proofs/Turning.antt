@@ -3,7 +3,7 @@ use Rattle.std.proofs.Common.{◌≡◌, ℕ, suc, ◌-◌, ◌<◌, List, [], �
 use Rattle.std.specs.Prelude.{IsTrue}
 use Rattle.tramp_spec.specs.Harts.{Hart}
 use Rattle.machine.specs.Cores.{Core}
-use Rattle.machine.specs.FirstTurns.{turns}
+use Rattle.machine_examples.specs.FirstTurns.{turns}
 use Rattle.machine.specs.Replays.{Legal, replay}
 use Rattle.machine.specs.Turns.{is_runnable, turn}
 

@@ -1,9 +1,9 @@
 //! The blocks of the programs' first word, and counters on them.
 
 ghost use Rattle.std.specs.Prelude.{◌≡◌, ◌<◌, ◌^◌, IfOk};
-ghost use Rattle.machine.specs.FirstTurns as turns;
-ghost use Rattle.machine.specs.LoopCounted as example;
-ghost use Rattle.machine.specs.ThreeCounters.{counter_on, mini_on};
+ghost use Rattle.machine_examples.specs.FirstTurns as turns;
+ghost use Rattle.machine_examples.specs.LoopCounted as example;
+ghost use Rattle.machine_examples.specs.ThreeCounters.{counter_on, mini_on};
 
 use pn_types::{Act, NoMemory, Placed, PlacedSite, Seq, Stmt, Text, Var};
 use prim_code::compile;

@@ -5,7 +5,7 @@ ghost use Rattle.std.specs.List.{AllByRecursion};
 ghost use Rattle.frame_walk.specs.Rooms.{IsSmall};
 ghost use Rattle.machine.specs.Effects.{after};
 ghost use Rattle.machine.specs.Events.{Arm, May};
-ghost use Rattle.machine.specs.FirstTurns.{turns};
+ghost use Rattle.machine_examples.specs.FirstTurns.{turns};
 ghost use Rattle.machine.specs.Replays.{Legal, replay};
 ghost use Rattle.machine.specs.States.{with_core};
 ghost use Rattle.public_tests.specs.Linkings.{adding_of, linking_of};

@@ -2,7 +2,7 @@
 
 ghost use Rattle.std.specs.Prelude.{◌≡◌, IfOk};
 ghost use Rattle.pn_types.specs.Images.{IsImage};
-ghost use Rattle.machine.specs.LoopCounted as example;
+ghost use Rattle.machine_examples.specs.LoopCounted as example;
 
 use pn_types::{Image, NoMemory, Segment, Seq};
 use std::alloc::Global;

@@ -1,9 +1,9 @@
 //! The loop, patched.
 
 ghost use Rattle.std.specs.Prelude.{◌≡◌, IfOk};
-ghost use Rattle.machine.specs.LoopCounted.{linking, loop_core};
+ghost use Rattle.machine_examples.specs.LoopCounted.{linking, loop_core};
 ghost use Rattle.machine.specs.Replays.{replay};
-ghost use Rattle.machine.specs.ThreeCounters.{adding, counted};
+ghost use Rattle.machine_examples.specs.ThreeCounters.{adding, counted};
 
 use crate::blocks::{counter, loop_base, mini};
 use crate::events::{add_mini, arm, link_blocks};

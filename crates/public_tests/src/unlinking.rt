@@ -1,8 +1,8 @@
 //! The loop with three counters, two of which are unlinked under a hart.
 
 ghost use Rattle.std.specs.Prelude.{◌≡◌, IfOk};
-ghost use Rattle.machine.specs.ThreeCounters as example;
-ghost use Rattle.machine.specs.ThreeCounters.{counter_on, mini_on};
+ghost use Rattle.machine_examples.specs.ThreeCounters as example;
+ghost use Rattle.machine_examples.specs.ThreeCounters.{counter_on, mini_on};
 
 use crate::events::{add_mini, arm, take_turns};
 use crate::machines::three_counted;

@@ -7,7 +7,9 @@ use Rattle.machine.specs.Events.{IsQuiet}
 use Rattle.machine.specs.Replays.{replay}
 use Rattle.machine.specs.Same.{SameProgram}
 use Rattle.machine.proofs.Erasing.{erasure}
-use Rattle.rv_exec.specs.Run.{run}
+use Rattle.machine.proofs.Quanta.{budget_is_kept}
+use Rattle.machine.specs.Quanta.{KeepsBudget}
+use Rattle.rv_exec.specs.Run.{run, IsLegal}
 use Rattle.instrument.specs.Scenes.{events_of, first_scene}
 use Rattle.instrumented.proofs.Acts.{whole_of}
 use Rattle.session_spec.specs.Inputs.{Inputs}
@@ -139,5 +141,7 @@ is_run i s lasts k =
       core = w.core;
       owns = t.owned;
       time = k.time;
+      budget = subst KeepsBudget (sym w.core) (budget_is_kept i.image i.settings.harts i.settings.budget es t.program w.legal);
+      run = subst (IsLegal i.image i.settings.harts i.settings.budget) (sym t.owned) e.legal;
       same = subst (λ c. SameProgram c (run i.image i.settings.harts s.owns)) (sym w.core) (subst (λ l. SameProgram (replay es (start_core i.image i.settings.harts i.settings.budget)) (run i.image i.settings.harts l)) (sym t.owned) e.same);
     }

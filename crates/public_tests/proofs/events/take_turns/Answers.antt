@@ -1,6 +1,6 @@
 use Rattle.std.proofs.Common.{◌≡◌, suc, ◌+◌, ◌-◌, ◌<◌, length, refl, sym, ap, ◌∙◌, subst, arith}
 use Rattle.std.specs.Prelude.{IsTrue}
-use Rattle.machine.specs.FirstTurns.{turns}
+use Rattle.machine_examples.specs.FirstTurns.{turns}
 use Rattle.machine.specs.Replays.{Legal, replay}
 use Rattle.machine.specs.States.{Machine}
 use Rattle.machine.specs.Turns.{is_runnable, turn}

@@ -1,5 +1,5 @@
 use Rattle.std.proofs.Common.{◌≡◌, ◌-◌}
-use Rattle.machine.specs.FirstTurns.{turns}
+use Rattle.machine_examples.specs.FirstTurns.{turns}
 use Rattle.machine.specs.Replays.{Legal, replay}
 use Rattle.public_tests.proofs.events.take_turns.Given as goal
 

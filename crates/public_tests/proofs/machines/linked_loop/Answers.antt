@@ -1,4 +1,4 @@
-use Rattle.machine.specs.LoopCounted.{loop_core, loop_base, loop_mini}
+use Rattle.machine_examples.specs.LoopCounted.{loop_core, loop_base, loop_mini}
 use Rattle.public_tests.proofs.Linked.{link_legal, linked_so, links}
 use Rattle.public_tests.proofs.machines.linked_loop.Goals as goal
 

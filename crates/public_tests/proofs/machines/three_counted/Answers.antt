@@ -2,7 +2,7 @@ use Rattle.machine.specs.Cores.{Core}
 use Rattle.machine.specs.Effects.{after}
 use Rattle.machine.specs.Events.{Arm}
 use Rattle.machine.specs.Replays.{replay}
-use Rattle.machine.specs.ThreeCounters.{adding, first, second, third}
+use Rattle.machine_examples.specs.ThreeCounters.{adding, first, second, third}
 use Rattle.public_tests.proofs.Linked.{arm_legal, armed_so, linked, arms_all}
 use Rattle.public_tests.proofs.machines.three_counted.Goals as goal
 

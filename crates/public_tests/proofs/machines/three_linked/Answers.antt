@@ -1,6 +1,6 @@
 use Rattle.machine.specs.Cores.{Core}
 use Rattle.machine.specs.Replays.{replay}
-use Rattle.machine.specs.ThreeCounters.{mini_on}
+use Rattle.machine_examples.specs.ThreeCounters.{mini_on}
 use Rattle.public_tests.specs.Linkings.{adding_of}
 use Rattle.public_tests.proofs.Linked.{add_legal, added_so, linked, adds}
 use Rattle.public_tests.proofs.machines.three_linked.Goals as goal

@@ -2,11 +2,11 @@ use Rattle.std.proofs.Common.{sym, subst}
 use Rattle.machine.specs.Cores.{Live}
 use Rattle.machine.specs.Effects.{after}
 use Rattle.machine.specs.Events.{HasMini, UnlinkMini}
-use Rattle.machine.specs.FirstTurns.{turns}
+use Rattle.machine_examples.specs.FirstTurns.{turns}
 use Rattle.machine.specs.Replays.{Legal, replay}
 use Rattle.machine.specs.States.{Machine}
-use Rattle.machine.specs.ThreeCounters.{counted, at_second}
-use Rattle.machine.proofs.ThreeCounters.{minis_unlinked}
+use Rattle.machine_examples.specs.ThreeCounters.{counted, at_second}
+use Rattle.machine_examples.proofs.ThreeCounters.{minis_unlinked}
 use Rattle.public_tests.proofs.Unlinked.{goes_to}
 use Rattle.public_tests.proofs.unlinking.passed_by.Goals as goal
 

@@ -5,8 +5,8 @@ use Rattle.machine.specs.Effects.{after}
 use Rattle.machine.specs.Events.{Free, May}
 use Rattle.machine.specs.Replays.{replay}
 use Rattle.machine.specs.States.{Machine, with_core, settling}
-use Rattle.machine.specs.ThreeCounters.{mini_on, fourth, passed_by, gone_on}
-use Rattle.machine.proofs.ThreeCounters.{minis_unlinked}
+use Rattle.machine_examples.specs.ThreeCounters.{mini_on, fourth, passed_by, gone_on}
+use Rattle.machine_examples.proofs.ThreeCounters.{minis_unlinked}
 use Rattle.public_tests.specs.Linkings.{adding_of}
 use Rattle.public_tests.proofs.Linked.{add_legal, added_so, arm_legal, armed_so}
 use Rattle.public_tests.proofs.Unlinked.{goes_to, held_so, freed_so}

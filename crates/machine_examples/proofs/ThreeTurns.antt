@@ -15,11 +15,11 @@ use Rattle.tramp_spec.specs.Steps.{perform_on}
 use Rattle.tramp_spec.specs.declared.mark.MarkedWord.{MarkedWord}
 use Rattle.machine.specs.Cores.{Row}
 use Rattle.machine.specs.Places.{program_pc}
-use Rattle.machine.specs.FirstTurns.{turns}
-use Rattle.machine.specs.LoopCounted.{loop}
+use Rattle.machine_examples.specs.FirstTurns.{turns}
+use Rattle.machine_examples.specs.LoopCounted.{loop}
 use Rattle.machine.specs.States.{leaving}
-use Rattle.machine.proofs.ThreeLinked.{Three, entering, mini_of, at}
-use Rattle.machine.proofs.Traces.{Trace, placed, AllStand, stand_placed, Run, and_then, follows, leaving_so}
+use Rattle.machine_examples.proofs.ThreeLinked.{Three, entering, mini_of, at}
+use Rattle.machine_examples.proofs.Traces.{Trace, placed, AllStand, stand_placed, Run, and_then, follows, leaving_so}
 
 -- the hart by its pc, x5, ticks, inside, and the doublewords 2 to 4 of its bank
 abbrev pub hart : List ℕ → ℕ → ℕ → ℕ → Bool → ℕ → ℕ → ℕ → Hart

@@ -21,14 +21,14 @@ use Rattle.machine.specs.Effects.{after, owned}
 use Rattle.machine.specs.Events.{Event, Turn, Arm, May, MayArm, HasMini, IsEntered, IsQuiet}
 use Rattle.machine.specs.Instruments.{Carries, InForce, IsSpared, AllLet, body_in}
 use Rattle.machine.specs.Measures.{difference, level, measure}
-use Rattle.machine.specs.LoopCounted.{loop, loop_core, count_up, rounds, counter, linking, three_rounds, LoopCounted}
+use Rattle.machine_examples.specs.LoopCounted.{loop, loop_core, count_up, rounds, counter, linking, three_rounds, LoopCounted}
 use Rattle.machine.specs.Readings.{readings}
 use Rattle.machine.specs.Replays.{replay, Legal, owns}
 use Rattle.machine.specs.Turns.{turn}
 use Rattle.machine.proofs.Openings.{armed_cold}
 use Rattle.machine.proofs.Replaying.{replay-append, owns-append, legal-append}
 use Rattle.std.proofs.lemmas.Bool.{true≢false}
-use Rattle.machine.proofs.LoopLinked.{program, measurable, bank_is, places, base_row, mini_row, linked, linked_code, linking_legal, Stand, stand}
+use Rattle.machine_examples.proofs.LoopLinked.{program, measurable, bank_is, places, base_row, mini_row, linked, linked_code, linking_legal, Stand, stand}
 
 -- ---- a round
 

@@ -15,7 +15,7 @@ use Rattle.machine.specs.Cores.{Core, Row, Written, Live}
 use Rattle.machine.specs.Effects.{after}
 use Rattle.machine.specs.Events.{Write, LinkMini, Apart, target_at, MayWrite, MayLinkMini, MayLinkPoint}
 use Rattle.machine.specs.Laws.{IsProgram}
-use Rattle.machine.specs.LoopCounted.{loop, loop_core, count_up, rounds, counter, loop_base, loop_mini, linking}
+use Rattle.machine_examples.specs.LoopCounted.{loop, loop_core, count_up, rounds, counter, loop_base, loop_mini, linking}
 use Rattle.prim_code.specs.Fitting.{IsMeasurable}
 use Rattle.machine.specs.Replays.{replay, Legal}
 

@@ -15,19 +15,19 @@ use Rattle.machine.specs.Cores.{Core, Row, Status, Written, Live, Retired, In}
 use Rattle.machine.specs.Effects.{after, armed, mini_unlinked}
 use Rattle.machine.specs.Events.{UnlinkMini, UnlinkPoint, Free, Arm, May, MayArm, HasMini, IsLinked, IsQuiet, before, target_at}
 use Rattle.machine.specs.Places.{holds}
-use Rattle.machine.specs.FirstTurns.{turns}
-use Rattle.machine.specs.LoopCounted.{loop_core, linking}
+use Rattle.machine_examples.specs.FirstTurns.{turns}
+use Rattle.machine_examples.specs.LoopCounted.{loop_core, linking}
 use Rattle.machine.specs.Readings.{readings}
 use Rattle.machine.specs.Replays.{replay, Legal, owns}
 use Rattle.machine.specs.States.{settling}
-use Rattle.machine.specs.ThreeCounters.{counter_on, mini_on, first, second, third, fourth, adding, arming, counted, at_second, passing_by, passed_by, gone_on, renewing, renewed, ended, MinisUnlinked, at_third, left, gone_out, PointUnlinked}
+use Rattle.machine_examples.specs.ThreeCounters.{counter_on, mini_on, first, second, third, fourth, adding, arming, counted, at_second, passing_by, passed_by, gone_on, renewing, renewed, ended, MinisUnlinked, at_third, left, gone_out, PointUnlinked}
 use Rattle.std.proofs.lemmas.Bool.{true≢false}
-use Rattle.machine.proofs.LoopLinked.{linked, linking_legal}
+use Rattle.machine_examples.proofs.LoopLinked.{linked, linking_legal}
 use Rattle.machine.proofs.Openings.{armed_cold}
 use Rattle.machine.proofs.Replaying.{replay-append, legal-append}
-use Rattle.machine.proofs.ThreeLinked.{Three, entering, left_code, three_left, three, three_code, row, base_row, rows_third, unarmed, at, added, adding_legal, bank_five, past_second, past_both, three_past_second, three_past_both, fourth_code, three_fourth, may_write, links_mini}
-use Rattle.machine.proofs.ThreeTurns.{hart, comes_to_third, comes_to_second, goes_on, leaving_second, goes_out, leaving_third, goes_round, three_rounds}
-use Rattle.machine.proofs.Traces.{Run}
+use Rattle.machine_examples.proofs.ThreeLinked.{Three, entering, left_code, three_left, three, three_code, row, base_row, rows_third, unarmed, at, added, adding_legal, bank_five, past_second, past_both, three_past_second, three_past_both, fourth_code, three_fourth, may_write, links_mini}
+use Rattle.machine_examples.proofs.ThreeTurns.{hart, comes_to_third, comes_to_second, goes_on, leaving_second, goes_out, leaving_third, goes_round, three_rounds}
+use Rattle.machine_examples.proofs.Traces.{Run}
 
 -- ---- arming
 

@@ -9,7 +9,7 @@ use Rattle.tramp_spec.specs.declared.mark.MarkedWord.{MarkedWord}
 use Rattle.machine.specs.Cores.{Core, Row}
 use Rattle.machine.specs.Effects.{owned}
 use Rattle.machine.specs.Events.{Event, Turn}
-use Rattle.machine.specs.FirstTurns.{turns}
+use Rattle.machine_examples.specs.FirstTurns.{turns}
 use Rattle.machine.specs.Leaving.{is_out_now}
 use Rattle.machine.specs.Places.{program_pc}
 use Rattle.machine.specs.Replays.{replay, Legal, owns}

@@ -18,11 +18,11 @@ use Rattle.tramp_spec.specs.declared.mark.MarkedWord.{MarkedWord}
 use Rattle.machine.specs.Cores.{Core, Row, In, first_hart, Status, Written, Live}
 use Rattle.machine.specs.Events.{Apart, MayWrite, MayLinkMini, current_base, next_of, target_at}
 use Rattle.machine.specs.Replays.{replay, Legal}
-use Rattle.machine.specs.LoopCounted.{loop, loop_core, count_up, rounds, linking}
-use Rattle.machine.specs.ThreeCounters.{adding, counter_on, mini_on}
+use Rattle.machine_examples.specs.LoopCounted.{loop, loop_core, count_up, rounds, linking}
+use Rattle.machine_examples.specs.ThreeCounters.{adding, counter_on, mini_on}
 use Rattle.machine.proofs.Lists.{Stands}
-use Rattle.machine.proofs.LoopLinked.{measurable, linked, linked_code}
-use Rattle.machine.proofs.Traces.{one}
+use Rattle.machine_examples.proofs.LoopLinked.{measurable, linked, linked_code}
+use Rattle.machine_examples.proofs.Traces.{one}
 
 -- a mini block's words, of which these depend on its slot and its next
 abbrev pub mini_of : ℕ → ℕ → ℕ → List MarkedWord

@@ -17,17 +17,17 @@ use Rattle.tramp_spec.specs.Steps.{perform_on}
 use Rattle.machine.specs.Cores.{Core, Row, Written, Live, In, first_hart, start_core}
 use Rattle.machine.specs.Effects.{after}
 use Rattle.machine.specs.Events.{Write, LinkMini, MayWrite, MayLinkMini, MayLinkPoint, MayArm, IsLinked, IsQuiet, Apart, target_at}
-use Rattle.machine.specs.FirstTurns.{three_words, first_base, first_mini, turns}
-use Rattle.machine.specs.HartInside.{three_image, first_counter, first_linked, inside, settled, HartInside}
+use Rattle.machine_examples.specs.FirstTurns.{three_words, first_base, first_mini, turns}
+use Rattle.machine_examples.specs.HartInside.{three_image, first_counter, first_linked, inside, settled, HartInside}
 use Rattle.machine.specs.Laws.{IsProgram}
-use Rattle.machine.specs.LoopCounted.{count_up}
+use Rattle.machine_examples.specs.LoopCounted.{count_up}
 use Rattle.machine.specs.Readings.{readings}
 use Rattle.machine.specs.Replays.{replay, Legal}
 use Rattle.machine.specs.States.{settling}
 use Rattle.std.proofs.lemmas.Bool.{true≢false}
 use Rattle.machine.proofs.Lists.{Stands}
-use Rattle.machine.proofs.ThreeLinked.{harmless, bank_five}
-use Rattle.machine.proofs.Traces.{Trace, placed, AllStand, one, Run, follows, leaving_so}
+use Rattle.machine_examples.proofs.ThreeLinked.{harmless, bank_five}
+use Rattle.machine_examples.proofs.Traces.{Trace, placed, AllStand, one, Run, follows, leaving_so}
 
 program : IsProgram three_image
 unfolding decode_of

@@ -19,7 +19,7 @@ use Rattle.machine.specs.Turns.{turn}
 use Rattle.machine.specs.Events.{Turn}
 use Rattle.machine.specs.Effects.{owned}
 use Rattle.machine.specs.Replays.{replay, owns}
-use Rattle.machine.specs.FirstTurns.{three_words, linked_core, turns, FirstTurns}
+use Rattle.machine_examples.specs.FirstTurns.{three_words, linked_core, turns, FirstTurns}
 
 -- ---- the words that stand
 

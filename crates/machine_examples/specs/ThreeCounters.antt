@@ -9,8 +9,8 @@ use Rattle.tramp_spec.specs.Statements.{body_of}
 use Rattle.tramp_spec.specs.declared.block.Block.{Block}
 use Rattle.machine.specs.Cores.{Core, Retired}
 use Rattle.machine.specs.Events.{Event, Write, LinkMini, UnlinkMini, UnlinkPoint, Free, Arm, Sample, May}
-use Rattle.machine.specs.FirstTurns.{turns}
-use Rattle.machine.specs.LoopCounted.{loop_core, count_up, rounds, linking}
+use Rattle.machine_examples.specs.FirstTurns.{turns}
+use Rattle.machine_examples.specs.LoopCounted.{loop_core, count_up, rounds, linking}
 use Rattle.machine.specs.Readings.{readings}
 use Rattle.machine.specs.Replays.{replay, Legal, owns}
 use Rattle.machine.specs.States.{settling}

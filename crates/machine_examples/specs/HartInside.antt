@@ -4,9 +4,9 @@ use Rattle.pn_types.specs.declared.image.Image.{Image}
 use Rattle.pn_types.specs.declared.placed.Placed.{Placed}
 use Rattle.machine.specs.Cores.{Core, start_core}
 use Rattle.machine.specs.Events.{Arm, Sample, May}
-use Rattle.machine.specs.FirstTurns.{first_linking, turns}
+use Rattle.machine_examples.specs.FirstTurns.{first_linking, turns}
 use Rattle.machine.specs.Laws.{IsProgram}
-use Rattle.machine.specs.LoopCounted.{rounds}
+use Rattle.machine_examples.specs.LoopCounted.{rounds}
 use Rattle.machine.specs.Readings.{readings}
 use Rattle.machine.specs.Replays.{replay, Legal}
 use Rattle.machine.specs.States.{settling}

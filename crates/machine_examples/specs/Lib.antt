@@ -1,0 +1,4 @@
+pub mod FirstTurns
+pub mod LoopCounted
+pub mod ThreeCounters
+pub mod HartInside
