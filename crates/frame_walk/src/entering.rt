@@ -1,16 +1,17 @@
 //! The statements of Opens act, from the last address of a walk to the first. A walk has at most 66 addresses, and each lets at
 //! most 32 statements act, so that no number of starts comes near the end of its range.
 
-ghost use Rattle.std.specs.Prelude.{◌≡◌, ◌<◌, ◌≤◌, ◌-◌, ◌*◌, nat_lt, if◌then◌else◌, [], slice_get, true, Some};
+ghost use Rattle.std.specs.Prelude.{◌≡◌, ◌<◌, ◌≤◌, ◌+◌, ◌-◌, ◌*◌, nat_lt, if◌then◌else◌, [], slice_get, true, Some};
 ghost use Rattle.std.specs.List.{AllByRecursion};
 ghost use Rattle.tramp_spec.specs.Values.{values_after};
 ghost use Rattle.frame_walk.specs.Frames.{calls};
 ghost use Rattle.frame_walk.specs.Walks.{walk_of};
 ghost use Rattle.frame_walk.specs.Openings.{entered, holds, of_caller, of_calls, of_pc, open_at, stmts_where};
-ghost use Rattle.frame_walk.specs.Rooms.{HasRoom, IsSmall};
+ghost use Rattle.frame_walk.specs.Rooms.{IsSmall};
 
 use crate::acting::pass_all;
 use crate::frame::{call_before, caller_of, frame_at, is_text};
+use crate::values::Values;
 use crate::walk_start::WalkStart;
 use pn_types::Open;
 use rv_mem::Mem;
@@ -38,10 +39,11 @@ fn find_open(opens: &[Open], at: u64) -> usize
 }
 
 /// A call of a frame acts.
-fn enter_call(opens: &[Open], at: u64, values: &mut [u64])
+fn enter_call(opens: &[Open], at: u64, values: &mut Values)
     requires small { AllByRecursion IsSmall opens.now }
-    requires room { HasRoom 32 values.old }
-    ensures { values.new ≡ values_after (stmts_where (λ o. true) (open_at opens.now at)) [] values.old }
+    requires left { values.old.acts + 32 ≤ 2112 }
+    ensures values { values.new.values ≡ values_after (stmts_where (λ o. true) (open_at opens.now at)) [] values.old.values }
+    ensures acts { values.new.acts ≤ values.old.acts + 32 }
 {
     let i = find_open(opens, at);
     if i < opens.len() {
@@ -50,10 +52,11 @@ fn enter_call(opens: &[Open], at: u64, values: &mut [u64])
 }
 
 /// The pc acts, where it is above the start of its Open.
-fn enter_pc(opens: &[Open], pc: u64, values: &mut [u64])
+fn enter_pc(opens: &[Open], pc: u64, values: &mut Values)
     requires small { AllByRecursion IsSmall opens.now }
-    requires room { HasRoom 32 values.old }
-    ensures { values.new ≡ values_after (of_pc opens.now pc) [] values.old }
+    requires left { values.old.acts + 32 ≤ 2112 }
+    ensures values { values.new.values ≡ values_after (of_pc opens.now pc) [] values.old.values }
+    ensures acts { values.new.acts ≤ values.old.acts + 32 }
 {
     let i = find_open(opens, pc);
     if i < opens.len() && opens[i].start < pc {
@@ -62,10 +65,11 @@ fn enter_pc(opens: &[Open], pc: u64, values: &mut [u64])
 }
 
 /// The caller acts, where its Open isn't that of the pc.
-fn enter_caller(opens: &[Open], pc: u64, caller: Option<u64>, values: &mut [u64])
+fn enter_caller(opens: &[Open], pc: u64, caller: Option<u64>, values: &mut Values)
     requires small { AllByRecursion IsSmall opens.now }
-    requires room { HasRoom 32 values.old }
-    ensures { values.new ≡ values_after (of_caller opens.now pc caller) [] values.old }
+    requires left { values.old.acts + 32 ≤ 2112 }
+    ensures values { values.new.values ≡ values_after (of_caller opens.now pc caller) [] values.old.values }
+    ensures acts { values.new.acts ≤ values.old.acts + 32 }
 {
     if let Some(at) = caller {
         let i = find_open(opens, at);
@@ -84,11 +88,12 @@ fn left_of(n: u32, fp: u64, next: u64) -> u32
 }
 
 /// The calls of at most `n` frames act, the first at `fp`, from the last to the first.
-fn enter_calls(mem: &Mem, opens: &[Open], fp: u64, n: u32, values: &mut [u64])
+fn enter_calls(mem: &Mem, opens: &[Open], fp: u64, n: u32, values: &mut Values)
     requires small { AllByRecursion IsSmall opens.now }
     requires few { n ≤ 64 }
-    requires room { HasRoom (32 * n) values.old }
-    ensures { values.new ≡ values_after (of_calls opens.now (calls n mem.now fp)) [] values.old }
+    requires left { values.old.acts + 32 * n ≤ 2112 }
+    ensures values { values.new.values ≡ values_after (of_calls opens.now (calls n mem.now fp)) [] values.old.values }
+    ensures acts { values.new.acts ≤ values.old.acts + 32 * n }
 {
     if n == 0 {
         return;
@@ -103,10 +108,11 @@ fn enter_calls(mem: &Mem, opens: &[Open], fp: u64, n: u32, values: &mut [u64])
 }
 
 /// The addresses of a walk act: the calls of its frames from the last to the first, then the caller, and then the pc.
-pub fn enter(mem: &Mem, opens: &[Open], start: WalkStart, values: &mut [u64])
+pub fn enter(mem: &Mem, opens: &[Open], start: WalkStart, values: &mut Values)
     requires small { AllByRecursion IsSmall opens.now }
-    requires room { HasRoom (32 * 66) values.old }
-    ensures { values.new ≡ values_after (entered opens.now (Some (walk_of mem.now start))) [] values.old }
+    requires left { values.old.acts + 32 * 66 ≤ 2112 }
+    ensures values { values.new.values ≡ values_after (entered opens.now (Some (walk_of mem.now start))) [] values.old.values }
+    ensures acts { values.new.acts ≤ values.old.acts + 32 * 66 }
 {
     enter_calls(mem, opens, start.fp, MOST_FRAMES, values);
     let caller = caller_of(frame_at(mem, start.fp), start.ra);

@@ -95,7 +95,7 @@ impl Placer {
     pub fn placed(&self, number: InstrumentNo) -> &Placed
         requires { placements.state_of self.now.placements number.n ≡ Gone → ⊥ }
         ensures placed { option_map (λ i. i.placed) (placements.instrument_at self.now.placements number.n) ≡ Some result.now }
-        ensures armable { IsArmable result.now.vars result.now.opens }
+        ensures armable { IsArmable result.now.opens }
     {
         match self.roster.placed(number) {
             Some(placed) => placed,
@@ -225,7 +225,7 @@ impl Placer {
         requires named { (s : Site) → In s plan.now.sites → AreBelow (length plan.now.vars) s.stmts }
         requires words { table.predicted plan.now < 2 ^ 32 }
         requires slots { admission.slot_count plan.now.vars < 2 ^ 32 }
-        requires armable { IsArmable plan.now.vars plan.now.opens }
+        requires armable { IsArmable plan.now.opens }
         ensures number { IfOk result (λ number. number.n ≡ self.old.placements.count) }
         ensures ok { OnOk result (placements.admission self.old.placements plan.now cost ≡ Ok self.new.placements) }
         ensures refused { IfErr result (λ refused. (refused ≡ NoMemory) ⊎ (placements.admission self.old.placements plan.now cost ≡ Err refused)) }

@@ -1,4 +1,4 @@
-ghost use Rattle.std.specs.Prelude.{◌≡◌, ◌↔◌, ◌≤◌, if◌then◌else◌, false, map, IsTrue, length};
+ghost use Rattle.std.specs.Prelude.{◌≡◌, ◌↔◌, if◌then◌else◌, false, map, IsTrue, length};
 ghost use Rattle.std.specs.List.{AllByRecursion, list_all};
 ghost use Rattle.tramp_spec.specs.Codes.{fetched_at};
 ghost use Rattle.frame_walk.specs.Rooms.{IsSmall};
@@ -22,7 +22,6 @@ pub struct Sample {
 
 /// Sets the slots of an instrument on each hart to its opening values.
 fn arm_harts(harts: &mut [HartState], mem: &Mem, instrument: &Placed)
-    requires few { length instrument.now.vars ≤ 3 }
     requires small { AllByRecursion IsSmall instrument.now.opens }
     ensures { harts.new ≡ map (armed_now mem.now instrument.now) harts.old }
 {
@@ -46,7 +45,6 @@ impl Machine {
     /// answers false exactly where a hart is inside a trampoline or a site of the instrument isn't linked; then nothing changes. It
     /// takes no memory.
     pub fn arm(&mut self, instrument: &Placed) -> bool
-        requires few { length instrument.now.vars ≤ 3 }
         requires small { AllByRecursion IsSmall instrument.now.opens }
         ensures may { IsTrue result ↔ May self.old.core (Arm instrument.now) }
         ensures state { self.new ≡ if result then with_core self.old (after self.old.core (Arm instrument.now)) else self.old }
