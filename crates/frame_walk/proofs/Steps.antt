@@ -1,31 +1,13 @@
 -- What the code of a walk does, step by step.
 use Rattle.std.proofs.Common.{◌≡◌, ℕ, zero, suc, ◌+◌, ◌-◌, ◌<◌, List, [], ◌∷◌, length, drop, get_or, Some, None, refl, sym, ap, ◌∙◌, arith}
-use Rattle.std.specs.Prelude.{Bool, true, false, if◌then◌else◌, nat_lt, find, slice_get}
-use Rattle.std.specs.List.{AllByRecursion}
+use Rattle.std.specs.Prelude.{Bool, true, false, if◌then◌else◌, nat_lt}
 use Rattle.std.proofs.lemmas.Bool.{cond-true, cond-false}
-use Rattle.std.proofs.lemmas.List.{at_drop_more, drop_all}
-use Rattle.std.proofs.lemmas.Option.{slice_get-get_or, slice_get_past}
+use Rattle.std.proofs.lemmas.List.{at_drop_more}
 use Rattle.rv_word.specs.Memory.{Memory}
 use Rattle.pn_types.specs.declared.plan.Stmt.{Stmt}
 use Rattle.tramp_spec.specs.Values.{values_behind, values_after}
 use Rattle.frame_walk.specs.declared.frame.Frame.{Frame}
 use Rattle.frame_walk.specs.Frames.{call_before, frame_at, is_text, calls_of, calls}
-
--- ---- the search
-
-pub found_here : {X : Type 0} (p : X → Bool) (xs : List X) (i : ℕ) (x : X) → i < length xs → x ≡ get_or xs i x → p x ≡ true → find p xs ≡ find p (drop i xs) → slice_get xs i ≡ find p xs
-found_here p xs i x l e t h =
-    slice_get-get_or xs i x l ∙ (ap (λ z. Some z) (sym e)
-    ∙ (sym (cond-true (p x) (Some x) (find p (drop (i + 1) xs)) t) ∙ (ap (λ z. find p (z ∷ drop (i + 1) xs)) e ∙ (sym (at_drop_more (find p) xs i x l) ∙ sym h))))
-
-pub found_none : {X : Type 0} (p : X → Bool) (xs : List X) → find p xs ≡ find p (drop (length xs) xs) → slice_get xs (length xs) ≡ find p xs
-found_none p xs h = slice_get_past xs (length xs) (omega arith) ∙ sym (h ∙ ap (find p) (drop_all (length xs) xs (omega arith)))
-
--- an element of a list
-pub one_of : {X : Type 0} (P : X → Type 0) (xs : List X) (i : ℕ) (d : X) → i < length xs → AllByRecursion P xs → P (get_or xs i d)
-one_of P [] i d l a = absurd (omega arith)
-one_of P (x ∷ xs) zero d l a = a.0
-one_of P (x ∷ xs) (suc i) d l a = one_of P xs i d (omega arith) a.1
 
 -- ---- statements
 

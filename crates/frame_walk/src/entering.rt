@@ -1,8 +1,9 @@
 //! The statements of Opens act, from the last address of a walk to the first. A walk has at most 66 addresses, and each lets at
 //! most 32 statements act, so that no number of starts comes near the end of its range.
 
-ghost use Rattle.std.specs.Prelude.{◌≡◌, ◌<◌, ◌≤◌, ◌+◌, ◌-◌, ◌*◌, nat_lt, if◌then◌else◌, [], slice_get, true, Some};
+ghost use Rattle.std.specs.Prelude.{◌≡◌, ◌<◌, ◌≤◌, ◌+◌, ◌-◌, ◌*◌, nat_lt, if◌then◌else◌, [], true, IfSome, Some};
 ghost use Rattle.std.specs.List.{AllByRecursion};
+ghost use Rattle.std.specs.Option.{option_copied};
 ghost use Rattle.tramp_spec.specs.Values.{values_after};
 ghost use Rattle.frame_walk.specs.Frames.{calls};
 ghost use Rattle.frame_walk.specs.Walks.{walk_of};
@@ -26,16 +27,18 @@ fn holds(range: &Open, at: u64) -> bool
     range.start <= at && at - range.start < range.len
 }
 
-/// The place of the first Open in whose range an address lies, or how many Opens there are.
-fn find_open(opens: &[Open], at: u64) -> usize
-    ensures { slice_get opens.now result ≡ open_at opens.now at }
+/// The first Open in whose range an address lies.
+fn find_open(opens: &[Open], at: u64) -> Option<&Open>
+    requires { AllByRecursion IsSmall opens.now }
+    ensures found { option_copied result ≡ open_at opens.now at }
+    ensures small { IfSome result (λ range. IsSmall range.now) }
 {
-    for i in 0..opens.len() {
-        if holds(&opens[i], at) {
-            return i;
+    for range in opens {
+        if holds(range, at) {
+            return Some(range);
         }
     }
-    opens.len()
+    None
 }
 
 /// A call of a frame acts.
@@ -45,9 +48,8 @@ fn enter_call(opens: &[Open], at: u64, values: &mut Values)
     ensures values { values.new.values ≡ values_after (stmts_where (λ o. true) (open_at opens.now at)) [] values.old.values }
     ensures acts { values.new.acts ≤ values.old.acts + 32 }
 {
-    let i = find_open(opens, at);
-    if i < opens.len() {
-        pass_all(opens[i].stmts.as_slice(), values);
+    if let Some(range) = find_open(opens, at) {
+        pass_all(range.stmts.as_slice(), values);
     }
 }
 
@@ -58,9 +60,10 @@ fn enter_pc(opens: &[Open], pc: u64, values: &mut Values)
     ensures values { values.new.values ≡ values_after (of_pc opens.now pc) [] values.old.values }
     ensures acts { values.new.acts ≤ values.old.acts + 32 }
 {
-    let i = find_open(opens, pc);
-    if i < opens.len() && opens[i].start < pc {
-        pass_all(opens[i].stmts.as_slice(), values);
+    if let Some(range) = find_open(opens, pc) {
+        if range.start < pc {
+            pass_all(range.stmts.as_slice(), values);
+        }
     }
 }
 
@@ -72,9 +75,10 @@ fn enter_caller(opens: &[Open], pc: u64, caller: Option<u64>, values: &mut Value
     ensures acts { values.new.acts ≤ values.old.acts + 32 }
 {
     if let Some(at) = caller {
-        let i = find_open(opens, at);
-        if i < opens.len() && !holds(&opens[i], pc) {
-            pass_all(opens[i].stmts.as_slice(), values);
+        if let Some(range) = find_open(opens, at) {
+            if !holds(range, pc) {
+                pass_all(range.stmts.as_slice(), values);
+            }
         }
     }
 }

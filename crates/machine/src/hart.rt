@@ -62,7 +62,7 @@ pub fn home(store: &Store, pc: u64, inside: bool) -> u64
         return pc;
     };
     match store.fetch(pc, true) {
-        Some(word) if word.mark == Mark::Leave => jump_target(word.word, pc).unwrap_or(point),
+        Some((word, Mark::Leave)) => jump_target(word, pc).unwrap_or(point),
         _ => point,
     }
 }

@@ -9,7 +9,7 @@ ghost use Rattle.machine.specs.Links.{armed_now, enters, is_site_linked};
 ghost use Rattle.machine.specs.States.{with_core};
 
 use crate::hart::HartState;
-use crate::machine::Machine;
+use crate::machine::{Machine, none_inside};
 use pn_types::{Placed, PlacedSite, Seq};
 use rv_mem::Mem;
 use tramp_spec::Mark;
@@ -74,8 +74,7 @@ impl Machine {
     fn may_arm(&self, instrument: &Placed) -> bool
         ensures { IsTrue result ↔ MayArm self.now.core instrument.now }
     {
-        let _ = &self.harts;
-        self.quiet() && self.are_linked(instrument.sites.as_slice())
+        none_inside(&self.harts) && self.are_linked(instrument.sites.as_slice())
     }
 
     /// Whether all sites are linked.
@@ -96,9 +95,6 @@ impl Machine {
     fn enters(&self, at: u64) -> bool
         ensures { result ≡ enters (fetched_at self.now.core.program self.now.core.code at false) }
     {
-        match self.store.fetch(at, false) {
-            Some(word) => word.mark == Mark::Enter,
-            None => false,
-        }
+        matches!(self.store.fetch(at, false), Some((_, Mark::Enter)))
     }
 }

@@ -23,15 +23,14 @@ fn mark_name(mark: Mark) -> &'static str {
 }
 
 /// Prints a word with its mark.
-pub fn print_word(rt: &impl Print, marked: MarkedWord) -> io::Result<()> {
-    let word = marked.word;
-    let name = mark_name(marked.mark);
+pub fn print_word(rt: &impl Print, word: u32, mark: Mark) -> io::Result<()> {
+    let name = mark_name(mark);
     println!(rt; "{word:08x} {name}")
 }
 
 fn print_words(rt: &impl Print, words: &[MarkedWord]) -> io::Result<()> {
     for marked in words {
-        print_word(rt, *marked)?;
+        print_word(rt, marked.word, marked.mark)?;
     }
     Ok(())
 }

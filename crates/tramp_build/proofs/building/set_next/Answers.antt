@@ -1,4 +1,4 @@
-use Rattle.std.proofs.Common.{◌≡◌, ◌-◌, ◌+◌, ◌*◌, length, List, ap, sym, ◌∙◌, subst}
+use Rattle.std.proofs.Common.{◌≡◌, ◌-◌, ◌+◌, ◌*◌, length, List, ap, ◌∙◌, subst}
 use Rattle.std.specs.Prelude.{true}
 use Rattle.tramp_spec.specs.Jumps.{reaches}
 use Rattle.tramp_spec.specs.declared.mark.MarkedWord.{MarkedWord as Word}
