@@ -3,7 +3,7 @@
 //! are the tool's. It prints the ticks.
 #![tactic(auto)]
 
-ghost use Rattle.std.specs.Prelude.{◌≡◌, ◌-◌, ◌<◌, ◌≤◌, ◌^◌, IfOk, IfSome, length};
+ghost use Rattle.std.specs.Prelude.{◌≡◌, ◌-◌, ◌<◌, ◌^◌, IfOk, IfSome, length};
 ghost use Rattle.std.specs.List.{AllByRecursion};
 ghost use Rattle.frame_walk.specs.Rooms.{IsSmall};
 ghost use Rattle.machine.specs.Effects.{after};
@@ -83,10 +83,7 @@ const POINT: u64 = 0x10000;
 fn loop_base(alloc: Global) -> Result<Block, NoMemory>
     ensures { IfOk result (λ block. block ≡ example.loop_base) }
 {
-    let moved = Moved {
-        words: [MarkedWord::own(0xff5f_e06f); 4],
-        len: 1,
-    };
+    let moved = Moved::new(&[MarkedWord::own(0xff5f_e06f)]);
     Ok(base_block(POINT, 0x11000, &moved, Vec::with_capacity(alloc, 7)?))
 }
 
@@ -138,7 +135,6 @@ fn link_blocks(machine: &mut Machine, base: &Block, mini: &Block)
 /// Arms a counter that may be armed.
 fn arm(machine: &mut Machine, counter: &Placed)
     requires may { May machine.old.core (Arm counter.now) }
-    requires few { length counter.now.vars ≤ 3 }
     requires small { AllByRecursion IsSmall counter.now.opens }
     ensures { machine.new ≡ with_core machine.old (after machine.old.core (Arm counter.now)) }
 {

@@ -8,7 +8,7 @@ ghost use Rattle.rv_word.specs.Plain.{program_word};
 ghost use Rattle.rv_mem.specs.Start.{program_of};
 ghost use Rattle.tramp_spec.specs.Banks.{first_slot};
 ghost use Rattle.tramp_spec.specs.Codes.{tool_at};
-ghost use Rattle.tramp_spec.specs.MovedWords.{moved_of, words_of};
+ghost use Rattle.tramp_spec.specs.MovedWords.{moved_of};
 ghost use Rattle.block_count.specs.Counters.{end_of};
 ghost use Rattle.block_count.specs.CountedBlocks.{counter_for, counters_in, counted_from, counted_blocks_of};
 
@@ -41,20 +41,10 @@ fn word_at(text_at: u64, words: &[u32], at: u64) -> Option<u32>
 
 /// The words that do at an address what the word at a point does: None where it can't be moved there.
 fn moved(word: u32, point: u64, to: u64) -> Option<Moved>
-    requires point { point < 2 ^ 63 }
-    requires to { to < 2 ^ 63 }
-    ensures words { option_map words_of result ≡ moved_of word point to }
-    ensures few { IfSome result (λ moved. moved.len ≤ 4) }
+    ensures words { result ≡ moved_of word point to }
+    ensures few { IfSome result (λ moved. length moved ≤ 4) }
 {
-    match move_word(word, point, to) {
-        Ok(moved) => {
-            // No word becomes more than four.
-            let words = moved.words;
-            let len = moved.len.min(4);
-            Some(Moved { words, len })
-        }
-        Err(_) => None,
-    }
+    move_word(word, point, to).ok()
 }
 
 /// The counter of a block's first word, on a slot and with its base block at an address: None where the word can't be moved there.

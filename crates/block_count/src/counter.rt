@@ -24,15 +24,14 @@ pub struct Counter {
 }
 
 impl Model for Counter {
-    ghost use Rattle.std.specs.Prelude.{◌≤◌, ◌<◌, ◌^◌};
-    ghost use Rattle.tramp_spec.specs.MovedWords.{words_of};
+    ghost use Rattle.std.specs.Prelude.{◌<◌, ◌^◌};
     ghost use Rattle.block_count.specs.Counters as table;
 
     ghost Value = { table.Counter };
 
-    ghost view = { λ c. record { point = c.point; slot = c.slot; at = c.at; moved = words_of c.moved } };
+    ghost view = { λ c. record { point = c.point; slot = c.slot; at = c.at; moved = c.moved } };
 
-    ghost invariant = { λ c. (c.moved.len ≤ 4) × (c.at < 2 ^ 62) };
+    ghost invariant = { λ c. c.at < 2 ^ 62 };
 }
 
 impl Counter {
@@ -41,7 +40,7 @@ impl Counter {
         ensures words { result.now ≡ self.now.moved }
         ensures few { length result.now ≤ 4 }
     {
-        &self.moved.words[..self.moved.len as usize]
+        self.moved.as_slice()
     }
 
     /// The address of its mini block.

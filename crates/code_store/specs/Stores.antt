@@ -6,6 +6,8 @@ use Rattle.pn_types.specs.declared.limits.TheConstants.{TOOL_TEXT_LEN}
 use Rattle.rv_word.specs.Plain.{Words}
 use Rattle.rv_mem.specs.Start.{program_of}
 use Rattle.tramp_spec.specs.Codes.{Code, text_code, tool_at}
+use Rattle.tramp_spec.specs.declared.mark.Mark.{Mark}
+use Rattle.tramp_spec.specs.declared.mark.MarkedWord.{MarkedWord}
 use Rattle.code_store.specs.Owners.{Owners}
 
 -- The words of a program, which stay; the words of text and tool text that harts fetch; and the points of the blocks to which
@@ -14,6 +16,10 @@ pub record StoredCode : Type 0 where
   pub program : Words
   pub code : Code
   pub owners : Owners
+
+-- a word with its mark
+abbrev pub marked : ℕ × Mark → MarkedWord
+marked w = record { word = w.0; mark = w.1 }
 
 -- the words of an image before anything is put
 abbrev pub first_code : Image → StoredCode

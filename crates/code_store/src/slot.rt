@@ -1,6 +1,7 @@
 ghost use Rattle.std.specs.Prelude.{◌≡◌};
 ghost use Rattle.tramp_spec.specs.Marks.{inside_after, is_jump, is_own};
 ghost use Rattle.code_store.specs.Operations.{IsFlatOf, IsOperationOf};
+ghost use Rattle.code_store.specs.Stores.{marked};
 
 use crate::operation::Operation;
 use rv_exec::Flat;
@@ -68,14 +69,10 @@ impl Slot {
     }
 
     /// The word with its mark.
-    #[inline(always)]
-    pub fn marked(&self) -> MarkedWord
-        ensures { result ≡ self.now }
+    pub(crate) fn word_and_mark(&self) -> (u32, Mark)
+        ensures { marked result ≡ self.now }
     {
-        MarkedWord {
-            word: self.word,
-            mark: self.mark,
-        }
+        (self.word, self.mark)
     }
 
     /// What the word does.

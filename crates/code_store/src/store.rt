@@ -1,13 +1,13 @@
 ghost use Rattle.std.specs.Prelude.{◌≡◌, ℕ, false, ◌+◌, ◌-◌, ◌*◌, ◌/◌, ◌<◌, ◌≤◌, ◌^◌, ◌||◌, IfOk, IsTrue, length};
 ghost use Rattle.std.specs.FinMap.{get, insert, remove};
 ghost use Rattle.std.specs.List.{AllByRecursion};
-ghost use Rattle.std.specs.Option.{option_copied};
+ghost use Rattle.std.specs.Option.{option_copied, option_map};
 ghost use Rattle.pn_types.specs.Images.{IsImage};
 ghost use Rattle.rv_word.specs.Plain.{program_word};
 ghost use Rattle.tramp_spec.specs.Codes.{fetched_at, is_text_word, is_tool_word, put_words, tool_at};
 ghost use Rattle.code_store.specs.Owners.{owners_with, owners_without};
 ghost use Rattle.code_store.specs.Operations.{IsFlatAt};
-ghost use Rattle.code_store.specs.Stores.{first_code, IsInToolText};
+ghost use Rattle.code_store.specs.Stores.{first_code, marked, IsInToolText};
 ghost use Rattle.code_store.specs.Views.{at_place};
 
 use crate::building::{blank_slots, blank_uses, flats_of, have_32_bits, own_slots, words};
@@ -18,7 +18,7 @@ use pn_types::{Image, NoMemory, TOOL_TEXT_LEN};
 use rv_exec::Flat;
 use std::alloc::Global;
 use std::marker::Model;
-use tramp_spec::{Block, MarkedWord};
+use tramp_spec::{Block, Mark, MarkedWord};
 
 /// The words of a program's text and of the tool text behind it, as harts fetch them, and the points of the blocks in the
 /// tool text. Contracts see the program's words, the map of marked words, and the map of owners. Only [`Store::new`] takes
@@ -101,13 +101,13 @@ impl Store {
         })
     }
 
-    /// The word that a hart fetches at the pc: inside a trampoline one of the tool text, which is 0 where nothing was put;
+    /// The word that a hart fetches at the pc, with its mark: inside a trampoline one of the tool text, which is 0 where nothing was put;
     /// outside one of the text; and none where that text has no word there.
-    pub fn fetch(&self, pc: u64, inside: bool) -> Option<MarkedWord>
-        ensures { result ≡ fetched_at self.now.program self.now.code pc inside }
+    pub fn fetch(&self, pc: u64, inside: bool) -> Option<(u32, Mark)>
+        ensures { option_map marked result ≡ fetched_at self.now.program self.now.code pc inside }
     {
         match self.slot(pc, inside) {
-            Some(slot) => Some(slot.marked()),
+            Some(slot) => Some(slot.word_and_mark()),
             None => None,
         }
     }

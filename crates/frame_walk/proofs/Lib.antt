@@ -1,5 +1,6 @@
 pub mod Starts
 pub mod Lengths
 pub mod Rooms
+pub mod Changing
 pub mod Steps
 pub mod Waits

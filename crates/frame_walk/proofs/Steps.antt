@@ -1,50 +1,23 @@
 -- What the code of a walk does, step by step.
-use Rattle.std.proofs.Common.{◌≡◌, ℕ, zero, suc, ◌+◌, ◌-◌, ◌*◌, ◌<◌, ◌≤◌, List, [], ◌∷◌, length, drop, get_or, Some, None, refl, sym, ap, ◌∙◌, subst, arith}
-use Rattle.std.specs.Prelude.{Bool, true, false, if◌then◌else◌, nat_lt, find, slice_get}
-use Rattle.std.specs.List.{AllByRecursion}
+use Rattle.std.proofs.Common.{◌≡◌, ℕ, zero, suc, ◌+◌, ◌-◌, ◌<◌, List, [], ◌∷◌, length, drop, get_or, Some, None, refl, sym, ap, ◌∙◌, arith}
+use Rattle.std.specs.Prelude.{Bool, true, false, if◌then◌else◌, nat_lt}
 use Rattle.std.proofs.lemmas.Bool.{cond-true, cond-false}
-use Rattle.std.proofs.lemmas.List.{at_drop_more, drop_all}
-use Rattle.std.proofs.lemmas.Option.{slice_get-get_or, slice_get_past}
+use Rattle.std.proofs.lemmas.List.{at_drop_more}
 use Rattle.rv_word.specs.Memory.{Memory}
 use Rattle.pn_types.specs.declared.plan.Stmt.{Stmt}
 use Rattle.tramp_spec.specs.Values.{values_behind, values_after}
 use Rattle.frame_walk.specs.declared.frame.Frame.{Frame}
-use Rattle.pn_types.specs.declared.plan.Open.{Open}
 use Rattle.frame_walk.specs.Frames.{call_before, frame_at, is_text, calls_of, calls}
-use Rattle.frame_walk.specs.Openings.{of_calls}
-use Rattle.frame_walk.specs.Rooms.{IsNarrow, IsSmall, HasRoom}
-use Rattle.frame_walk.proofs.Rooms.{less_room, behind_room, few_room, few_called, AreNarrow}
-
--- ---- the search
-
-pub found_here : {X : Type 0} (p : X → Bool) (xs : List X) (i : ℕ) (x : X) → i < length xs → x ≡ get_or xs i x → p x ≡ true → find p xs ≡ find p (drop i xs) → slice_get xs i ≡ find p xs
-found_here p xs i x l e t h =
-    slice_get-get_or xs i x l ∙ (ap (λ z. Some z) (sym e)
-    ∙ (sym (cond-true (p x) (Some x) (find p (drop (i + 1) xs)) t) ∙ (ap (λ z. find p (z ∷ drop (i + 1) xs)) e ∙ (sym (at_drop_more (find p) xs i x l) ∙ sym h))))
-
-pub found_none : {X : Type 0} (p : X → Bool) (xs : List X) → find p xs ≡ find p (drop (length xs) xs) → slice_get xs (length xs) ≡ find p xs
-found_none p xs h = slice_get_past xs (length xs) (omega arith) ∙ sym (h ∙ ap (find p) (drop_all (length xs) xs (omega arith)))
-
--- an element of a list
-pub one_of : {X : Type 0} (P : X → Type 0) (xs : List X) (i : ℕ) (d : X) → i < length xs → AllByRecursion P xs → P (get_or xs i d)
-one_of P [] i d l a = absurd (omega arith)
-one_of P (x ∷ xs) zero d l a = a.0
-one_of P (x ∷ xs) (suc i) d l a = one_of P xs i d (omega arith) a.1
 
 -- ---- statements
 
-pub record Passing (ss : List Stmt) (i : ℕ) (first values : List ℕ) : Type 0 where
-  pub room : HasRoom (32 - i) values
-  pub same : values_after ss [] first ≡ values_after (drop i ss) [] values
+abbrev pub Passing : List Stmt → ℕ → List ℕ → List ℕ → Type 0
+Passing ss i first values = values_after ss [] first ≡ values_after (drop i ss) [] values
 
-pub passes : (ss : List Stmt) (i : ℕ) (s : Stmt) (first values next : List ℕ) → i < length ss → length ss ≤ 32 → s ≡ get_or ss i s → AreNarrow ss
+pub passes : (ss : List Stmt) (i : ℕ) (s : Stmt) (first values next : List ℕ) → i < length ss → s ≡ get_or ss i s
     → Passing ss i first values → next ≡ values_behind s [] values → Passing ss (i + 1) first next
-passes ss i s first values next l few e a k n = record {
-  room = subst (HasRoom (32 - (i + 1))) (sym n) (behind_room s [] values (32 - (i + 1))
-      (subst (λ (z : Stmt). IsNarrow z.act) (sym e) (one_of (λ (z : Stmt). IsNarrow z.act) ss i s l a))
-      (omega arith) (less_room (32 - (i + 1) + 1) (32 - i) values (omega arith) k.room));
-  same = k.same ∙ (at_drop_more (λ z. values_after z [] values) ss i s l ∙ (ap (λ z. values_after (drop (i + 1) ss) [] (values_behind z [] values)) (sym e) ∙ ap (values_after (drop (i + 1) ss) []) (sym n)));
-}
+passes ss i s first values next l e k n =
+    k ∙ (at_drop_more (λ z. values_after z [] values) ss i s l ∙ (ap (λ z. values_after (drop (i + 1) ss) [] (values_behind z [] values)) (sym e) ∙ ap (values_after (drop (i + 1) ss) []) (sym n)))
 
 -- ---- frames
 
@@ -72,8 +45,3 @@ calls_on n k m fp f l e t q =
     by : (b : Bool) → (if b then calls (n - 1) m f.next else []) ≡ calls (if b then n - 1 else 0) m f.next
     by true = refl
     by false = sym (calls_zero 0 m f.next refl)
-
--- room is left behind at most n frames
-pub room_left : (n k r : ℕ) (opens : List Open) (m : Memory) (fp : ℕ) (values : List ℕ) → AllByRecursion IsSmall opens → k ≤ n → n ≤ 64 → r ≤ 64 → HasRoom (32 * n + r) values → HasRoom r (values_after (of_calls opens (calls k m fp)) [] values)
-room_left n k r opens m fp values a l few q h =
-    few_room (32 * k) r (of_calls opens (calls k m fp)) values (few_called k opens m fp a) (omega arith) (less_room (r + 32 * k) (32 * n + r) values (omega arith) h)

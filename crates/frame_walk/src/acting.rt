@@ -1,11 +1,9 @@
 //! What statements make of values where there are no arguments.
 
-ghost use Rattle.std.specs.Prelude.{◌≡◌, ◌≤◌, [], length, slice_index, slice_set};
-ghost use Rattle.std.specs.List.{AllByRecursion};
-ghost use Rattle.pn_types.specs.declared.plan.Stmt.{Stmt};
+ghost use Rattle.std.specs.Prelude.{◌≡◌, ◌<◌, ◌≤◌, ◌+◌, [], length};
 ghost use Rattle.tramp_spec.specs.Values.{acted, all_hold, compares, values_after, values_behind};
-ghost use Rattle.frame_walk.specs.Rooms.{HasRoom, IsNarrow};
 
+use crate::values::Values;
 use pn_types::{Act, Cmp, Cond, Left, Stmt};
 
 /// Whether two numbers compare so, without a sign.
@@ -22,37 +20,15 @@ fn compares(cmp: Cmp, left: u64, right: u64) -> bool
     }
 }
 
-/// The value of a variable, and 0 where there is no such variable.
-fn value_of(values: &[u64], variable: u32) -> u64
-    ensures { result ≡ slice_index values.now variable }
-{
-    let place = variable as usize;
-    if place < values.len() {
-        values[place]
-    } else {
-        0
-    }
-}
-
-/// Puts a value in the place of a variable's, if there is such a variable.
-fn set_value(values: &mut [u64], variable: u32, value: u64)
-    ensures { values.new ≡ slice_set values.old variable value }
-{
-    let place = variable as usize;
-    if place < values.len() {
-        values[place] = value;
-    }
-}
-
 /// Whether all conditions hold.
-fn all_hold(conds: &[Cond], values: &[u64]) -> bool
-    ensures { result ≡ all_hold conds.now [] values.now }
+fn all_hold(conds: &[Cond], values: &Values) -> bool
+    ensures { result ≡ all_hold conds.now [] values.now.values }
 {
     for cond in conds {
         match cond.left {
             Left::Argument(_) => return false,
             Left::Counter(v) => {
-                if !compares(cond.cmp, value_of(values, v), cond.right as u64) {
+                if !compares(cond.cmp, values.get(v as usize), cond.right as u64) {
                     return false;
                 }
             }
@@ -62,23 +38,25 @@ fn all_hold(conds: &[Cond], values: &[u64]) -> bool
 }
 
 /// Does what a statement does that acts.
-fn perform(act: Act, values: &mut [u64])
-    requires { HasRoom 1 values.old }
-    ensures { values.new ≡ acted act values.old }
+fn perform(act: Act, values: &mut Values)
+    requires { values.old.acts < 2112 }
+    ensures values { values.new.values ≡ acted act values.old.values }
+    ensures acts { values.new.acts ≡ values.old.acts + 1 }
 {
     match act {
-        Act::Up(v) => set_value(values, v, value_of(values, v).wrapping_add(1)),
-        Act::Down(v) => set_value(values, v, value_of(values, v).saturating_sub(1)),
-        Act::Put(v, n) => set_value(values, v, n as u64),
-        Act::Start(v) => set_value(values, v, value_of(values, v) + 1),
-        Act::Stop(v) => set_value(values, v, value_of(values, v).saturating_sub(1)),
+        Act::Up(v) => values.set(v as usize, values.get(v as usize).wrapping_add(1)),
+        Act::Down(v) => values.set(v as usize, values.get(v as usize).saturating_sub(1)),
+        Act::Put(v, n) => values.set(v as usize, n as u64),
+        Act::Start(v) => values.set(v as usize, values.get(v as usize) + 1),
+        Act::Stop(v) => values.set(v as usize, values.get(v as usize).saturating_sub(1)),
     }
 }
 
 /// Lets a statement act, where all its conditions hold.
-fn pass(stmt: &Stmt, values: &mut [u64])
-    requires { HasRoom 1 values.old }
-    ensures { values.new ≡ values_behind stmt.now [] values.old }
+fn pass(stmt: &Stmt, values: &mut Values)
+    requires { values.old.acts < 2112 }
+    ensures values { values.new.values ≡ values_behind stmt.now [] values.old.values }
+    ensures acts { values.new.acts ≤ values.old.acts + 1 }
 {
     if all_hold(stmt.conds.as_slice(), values) {
         perform(stmt.act, values);
@@ -86,11 +64,11 @@ fn pass(stmt: &Stmt, values: &mut [u64])
 }
 
 /// Lets statements act, one after another.
-pub fn pass_all(stmts: &[Stmt], values: &mut [u64])
+pub fn pass_all(stmts: &[Stmt], values: &mut Values)
     requires few { length stmts.now ≤ 32 }
-    requires narrow { AllByRecursion (λ (s : Stmt). IsNarrow s.act) stmts.now }
-    requires room { HasRoom 32 values.old }
-    ensures { values.new ≡ values_after stmts.now [] values.old }
+    requires left { values.old.acts + 32 ≤ 2112 }
+    ensures values { values.new.values ≡ values_after stmts.now [] values.old.values }
+    ensures acts { values.new.acts ≤ values.old.acts + 32 }
 {
     for stmt in stmts {
         pass(stmt, values);

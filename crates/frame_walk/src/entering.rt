@@ -1,16 +1,18 @@
 //! The statements of Opens act, from the last address of a walk to the first. A walk has at most 66 addresses, and each lets at
 //! most 32 statements act, so that no number of starts comes near the end of its range.
 
-ghost use Rattle.std.specs.Prelude.{◌≡◌, ◌<◌, ◌≤◌, ◌-◌, ◌*◌, nat_lt, if◌then◌else◌, [], slice_get, true, Some};
+ghost use Rattle.std.specs.Prelude.{◌≡◌, ◌<◌, ◌≤◌, ◌+◌, ◌-◌, ◌*◌, nat_lt, if◌then◌else◌, [], true, IfSome, Some};
 ghost use Rattle.std.specs.List.{AllByRecursion};
+ghost use Rattle.std.specs.Option.{option_copied};
 ghost use Rattle.tramp_spec.specs.Values.{values_after};
 ghost use Rattle.frame_walk.specs.Frames.{calls};
 ghost use Rattle.frame_walk.specs.Walks.{walk_of};
 ghost use Rattle.frame_walk.specs.Openings.{entered, holds, of_caller, of_calls, of_pc, open_at, stmts_where};
-ghost use Rattle.frame_walk.specs.Rooms.{HasRoom, IsSmall};
+ghost use Rattle.frame_walk.specs.Rooms.{IsSmall};
 
 use crate::acting::pass_all;
 use crate::frame::{call_before, caller_of, frame_at, is_text};
+use crate::values::Values;
 use crate::walk_start::WalkStart;
 use pn_types::Open;
 use rv_mem::Mem;
@@ -25,52 +27,58 @@ fn holds(range: &Open, at: u64) -> bool
     range.start <= at && at - range.start < range.len
 }
 
-/// The place of the first Open in whose range an address lies, or how many Opens there are.
-fn find_open(opens: &[Open], at: u64) -> usize
-    ensures { slice_get opens.now result ≡ open_at opens.now at }
+/// The first Open in whose range an address lies.
+fn find_open(opens: &[Open], at: u64) -> Option<&Open>
+    requires { AllByRecursion IsSmall opens.now }
+    ensures found { option_copied result ≡ open_at opens.now at }
+    ensures small { IfSome result (λ range. IsSmall range.now) }
 {
-    for i in 0..opens.len() {
-        if holds(&opens[i], at) {
-            return i;
+    for range in opens {
+        if holds(range, at) {
+            return Some(range);
         }
     }
-    opens.len()
+    None
 }
 
 /// A call of a frame acts.
-fn enter_call(opens: &[Open], at: u64, values: &mut [u64])
+fn enter_call(opens: &[Open], at: u64, values: &mut Values)
     requires small { AllByRecursion IsSmall opens.now }
-    requires room { HasRoom 32 values.old }
-    ensures { values.new ≡ values_after (stmts_where (λ o. true) (open_at opens.now at)) [] values.old }
+    requires left { values.old.acts + 32 ≤ 2112 }
+    ensures values { values.new.values ≡ values_after (stmts_where (λ o. true) (open_at opens.now at)) [] values.old.values }
+    ensures acts { values.new.acts ≤ values.old.acts + 32 }
 {
-    let i = find_open(opens, at);
-    if i < opens.len() {
-        pass_all(opens[i].stmts.as_slice(), values);
+    if let Some(range) = find_open(opens, at) {
+        pass_all(range.stmts.as_slice(), values);
     }
 }
 
 /// The pc acts, where it is above the start of its Open.
-fn enter_pc(opens: &[Open], pc: u64, values: &mut [u64])
+fn enter_pc(opens: &[Open], pc: u64, values: &mut Values)
     requires small { AllByRecursion IsSmall opens.now }
-    requires room { HasRoom 32 values.old }
-    ensures { values.new ≡ values_after (of_pc opens.now pc) [] values.old }
+    requires left { values.old.acts + 32 ≤ 2112 }
+    ensures values { values.new.values ≡ values_after (of_pc opens.now pc) [] values.old.values }
+    ensures acts { values.new.acts ≤ values.old.acts + 32 }
 {
-    let i = find_open(opens, pc);
-    if i < opens.len() && opens[i].start < pc {
-        pass_all(opens[i].stmts.as_slice(), values);
+    if let Some(range) = find_open(opens, pc) {
+        if range.start < pc {
+            pass_all(range.stmts.as_slice(), values);
+        }
     }
 }
 
 /// The caller acts, where its Open isn't that of the pc.
-fn enter_caller(opens: &[Open], pc: u64, caller: Option<u64>, values: &mut [u64])
+fn enter_caller(opens: &[Open], pc: u64, caller: Option<u64>, values: &mut Values)
     requires small { AllByRecursion IsSmall opens.now }
-    requires room { HasRoom 32 values.old }
-    ensures { values.new ≡ values_after (of_caller opens.now pc caller) [] values.old }
+    requires left { values.old.acts + 32 ≤ 2112 }
+    ensures values { values.new.values ≡ values_after (of_caller opens.now pc caller) [] values.old.values }
+    ensures acts { values.new.acts ≤ values.old.acts + 32 }
 {
     if let Some(at) = caller {
-        let i = find_open(opens, at);
-        if i < opens.len() && !holds(&opens[i], pc) {
-            pass_all(opens[i].stmts.as_slice(), values);
+        if let Some(range) = find_open(opens, at) {
+            if !holds(range, pc) {
+                pass_all(range.stmts.as_slice(), values);
+            }
         }
     }
 }
@@ -84,11 +92,12 @@ fn left_of(n: u32, fp: u64, next: u64) -> u32
 }
 
 /// The calls of at most `n` frames act, the first at `fp`, from the last to the first.
-fn enter_calls(mem: &Mem, opens: &[Open], fp: u64, n: u32, values: &mut [u64])
+fn enter_calls(mem: &Mem, opens: &[Open], fp: u64, n: u32, values: &mut Values)
     requires small { AllByRecursion IsSmall opens.now }
     requires few { n ≤ 64 }
-    requires room { HasRoom (32 * n) values.old }
-    ensures { values.new ≡ values_after (of_calls opens.now (calls n mem.now fp)) [] values.old }
+    requires left { values.old.acts + 32 * n ≤ 2112 }
+    ensures values { values.new.values ≡ values_after (of_calls opens.now (calls n mem.now fp)) [] values.old.values }
+    ensures acts { values.new.acts ≤ values.old.acts + 32 * n }
 {
     if n == 0 {
         return;
@@ -103,10 +112,11 @@ fn enter_calls(mem: &Mem, opens: &[Open], fp: u64, n: u32, values: &mut [u64])
 }
 
 /// The addresses of a walk act: the calls of its frames from the last to the first, then the caller, and then the pc.
-pub fn enter(mem: &Mem, opens: &[Open], start: WalkStart, values: &mut [u64])
+pub fn enter(mem: &Mem, opens: &[Open], start: WalkStart, values: &mut Values)
     requires small { AllByRecursion IsSmall opens.now }
-    requires room { HasRoom (32 * 66) values.old }
-    ensures { values.new ≡ values_after (entered opens.now (Some (walk_of mem.now start))) [] values.old }
+    requires left { values.old.acts + 32 * 66 ≤ 2112 }
+    ensures values { values.new.values ≡ values_after (entered opens.now (Some (walk_of mem.now start))) [] values.old.values }
+    ensures acts { values.new.acts ≤ values.old.acts + 32 * 66 }
 {
     enter_calls(mem, opens, start.fp, MOST_FRAMES, values);
     let caller = caller_of(frame_at(mem, start.fp), start.ra);

@@ -10,7 +10,7 @@ use Rattle.instrument.specs.Armable.{IsArmable, AreArmable}
 use Rattle.instrument.specs.declared.instrument.Instrument.{Instrument}
 
 abbrev CanBeArmed : Placed → Type 0
-CanBeArmed p = IsArmable p.vars p.opens
+CanBeArmed p = IsArmable p.opens
 
 -- a state is no matter
 pub armable_map : (f : Instrument → Instrument) (xs : List Instrument) → ((i : Instrument) → (f i).placed ≡ i.placed) → AreArmable xs → AreArmable (map f xs)
@@ -30,6 +30,6 @@ armable_found p xs (Some i) e k = k i (find_gives p xs i (sym e)).0
 
 -- ---- plans that are measured
 
--- a plan that is measured and has at most three variables makes an instrument that can be armed
-pub armable_plan : (plan : Plan) → IsMeasurable plan → length plan.vars ≤ 3 → IsArmable plan.vars plan.opens
-armable_plan plan m few = record { few = few; small = all_small plan m }
+-- a plan that is measured makes an instrument that can be armed
+pub armable_plan : (plan : Plan) → IsMeasurable plan → IsArmable plan.opens
+armable_plan plan m = all_small plan m

@@ -5,7 +5,7 @@ ghost use Rattle.prim_code.specs.Counts.{word_count};
 ghost use Rattle.prim_code.specs.Named.{AreBelow};
 ghost use Rattle.std.specs.Option.{option_map};
 ghost use Rattle.tramp_spec.specs.Blocks.{moved_at};
-ghost use Rattle.tramp_spec.specs.MovedWords.{moved_of, words_of};
+ghost use Rattle.tramp_spec.specs.MovedWords.{moved_of};
 ghost use Rattle.tramp_spec.specs.Statements.{body_of};
 ghost use Rattle.instrument.specs.Admission.{a_base, a_mini};
 
@@ -21,8 +21,7 @@ pub fn build_base(point: u64, at: u64, moved: &Moved, words: Vec<MarkedWord>) ->
     requires empty { words.items ≡ [] }
     requires room { 7 ≤ vec_capacity words }
     requires low { at < 2 ^ 63 }
-    requires few { moved.now.len ≤ 4 }
-    ensures { result ≡ a_base point at (words_of moved.now) }
+    ensures { result ≡ a_base point at moved.now }
 {
     base_block(point, at, moved, words)
 }
@@ -36,16 +35,7 @@ pub fn move_base(point: u64, word: u32, at: u64, words: Vec<MarkedWord>) -> Opti
     ensures { result ≡ option_map (a_base point at) (moved_of word point (moved_at at)) }
 {
     match move_word(word, point, at + 12) {
-        Ok(moved) => {
-            let moved_words = moved.words;
-            // No word becomes more than four.
-            let len = moved.len.min(4);
-            let moved = Moved {
-                words: moved_words,
-                len,
-            };
-            Some(build_base(point, at, &moved, words))
-        }
+        Ok(moved) => Some(build_base(point, at, &moved, words)),
         Err(_) => None,
     }
 }

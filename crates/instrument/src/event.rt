@@ -1,5 +1,5 @@
 ghost use Rattle.std.specs.Prelude.{◌≡◌};
-ghost use Rattle.instrument.specs.Shown.{shown};
+ghost use Rattle.instrument.specs.Shown.{point_of, shown};
 
 use crate::entry::Entry;
 use tramp_spec::Block;
@@ -55,6 +55,20 @@ impl Event {
             Entry::UnlinkMini { point, at } => Event::UnlinkMini { point, at },
             Entry::UnlinkPoint { point, .. } => Event::UnlinkPoint { point },
             Entry::Free { point } => Event::Free { point },
+        }
+    }
+
+    /// The point at which it is done.
+    pub fn point(&self) -> u64
+        ensures { result ≡ point_of self.now }
+    {
+        match self {
+            Event::WriteBase(block) | Event::WriteMini(block) => block.point,
+            Event::LinkMini { point, .. }
+            | Event::LinkPoint { point }
+            | Event::UnlinkMini { point, .. }
+            | Event::UnlinkPoint { point }
+            | Event::Free { point } => *point,
         }
     }
 }

@@ -12,7 +12,8 @@ ghost use Rattle.instrument.specs.Laws.{IsPlaced};
 ghost use Rattle.instrument.specs.Needs.{need_of, without};
 ghost use Rattle.instrument.specs.Placements as placements;
 ghost use Rattle.instrument.specs.Placers.{new_placer};
-ghost use Rattle.instrument.specs.Shown.{shown};
+ghost use Rattle.instrument.specs.Shown.{point_of, shown};
+ghost use Rattle.instrument.specs.declared.event.Event.TheVariants.{Free};
 ghost use Rattle.instrument.specs.declared.instrument.Instrument.{Instrument};
 ghost use Rattle.instrument.specs.declared.number.Refused.TheVariants.{NoMemory};
 ghost use Rattle.instrument.specs.declared.number.State.TheVariants.{Placing, Armed, Gone};
@@ -95,7 +96,7 @@ impl Placer {
     pub fn placed(&self, number: InstrumentNo) -> &Placed
         requires { placements.state_of self.now.placements number.n ≡ Gone → ⊥ }
         ensures placed { option_map (λ i. i.placed) (placements.instrument_at self.now.placements number.n) ≡ Some result.now }
-        ensures armable { IsArmable result.now.vars result.now.opens }
+        ensures armable { IsArmable result.now.opens }
     {
         match self.roster.placed(number) {
             Some(placed) => placed,
@@ -160,13 +161,14 @@ impl Placer {
     }
 
     /// Puts a Free that was refused at the back of the agenda. An entry was taken before, whose place it gets.
-    pub fn put_back(&mut self, point: u64)
-        requires { 0 < self.old.entries }
-        ensures placements { self.new.placements ≡ placements.put_back point self.old.placements }
+    pub fn put_back(&mut self, event: Event)
+        requires free { event ≡ Free (point_of event) }
+        requires entries { 0 < self.old.entries }
+        ensures placements { self.new.placements ≡ placements.put_back (point_of event) self.old.placements }
         ensures entries { self.new.entries + 1 ≡ self.old.entries }
         ensures ready { self.new.ready ≡ self.old.ready }
     {
-        self.text.put_back(point);
+        self.text.put_back(event.point());
     }
 
     /// Gives back the rooms of the point's blocks whose unlinking was handed out. An instrument that was dropped is gone with its
@@ -225,7 +227,7 @@ impl Placer {
         requires named { (s : Site) → In s plan.now.sites → AreBelow (length plan.now.vars) s.stmts }
         requires words { table.predicted plan.now < 2 ^ 32 }
         requires slots { admission.slot_count plan.now.vars < 2 ^ 32 }
-        requires armable { IsArmable plan.now.vars plan.now.opens }
+        requires armable { IsArmable plan.now.opens }
         ensures number { IfOk result (λ number. number.n ≡ self.old.placements.count) }
         ensures ok { OnOk result (placements.admission self.old.placements plan.now cost ≡ Ok self.new.placements) }
         ensures refused { IfErr result (λ refused. (refused ≡ NoMemory) ⊎ (placements.admission self.old.placements plan.now cost ≡ Err refused)) }

@@ -92,7 +92,7 @@ impl Roster {
     /// Where an instrument that isn't gone acts.
     pub fn placed(&self, number: InstrumentNo) -> Option<&Placed>
         ensures placed { option_copied result ≡ option_map (λ i. i.placed) (find (λ i. i.no == number.n) self.now.instruments) }
-        ensures armable { IfSome result (λ placed. IsArmable placed.now.vars placed.now.opens) }
+        ensures armable { IfSome result (λ placed. IsArmable placed.now.opens) }
     {
         match find_instrument(&self.instruments, number) {
             None => None,
@@ -161,7 +161,7 @@ impl Roster {
         requires takes { 0 < self.old.takes }
         requires few { slot_count instrument.placed.vars < 2 ^ 32 }
         requires row { IsRow instrument }
-        requires armable { IsArmable instrument.placed.vars instrument.placed.opens }
+        requires armable { IsArmable instrument.placed.opens }
         requires number { AreNumberedBelow instrument.no self.old.instruments }
         requires free { slots_for (flat_map (λ i. places_of i.placed) self.old.instruments) (slot_count instrument.placed.vars) ≡ Some (slots_of instrument).at }
         ensures instruments { self.new.instruments ≡ self.old.instruments ++ instrument ∷ [] }

@@ -64,7 +64,7 @@ impl InstrumentedMachine {
         requires plan { IsPlanFor self.old.state.core.program plan.now }
         requires words { table.predicted plan.now < 2 ^ 32 }
         requires slots { slot_count plan.now.vars < 2 ^ 32 }
-        requires armable { IsArmable plan.now.vars plan.now.opens }
+        requires armable { IsArmable plan.now.opens }
         requires ready { In (need_of plan.now) self.old.ready }
         ensures number { IfOk result (λ number. number.n ≡ self.old.state.placer.count) }
         ensures ok { OnOk result (admission self.old.state.placer plan.now cost ≡ Ok self.new.state.placer) }

@@ -40,7 +40,7 @@ fn free(machine: &mut Machine, placer: &mut Placer, point: u64)
     if machine.free(point) {
         placer.freed(point);
     } else {
-        placer.put_back(point);
+        placer.put_back(Event::Free { point });
     }
 }
 

@@ -33,6 +33,6 @@ impl InstrumentedMachine {
         ensures quiet { IsQuiet self.new.state.core }
         ensures harts { length self.new.state.core.harts ≡ length self.old.state.core.harts }
     {
-        self.machine.settle()
+        self.machine.take_settling()
     }
 }

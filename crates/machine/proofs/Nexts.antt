@@ -85,7 +85,7 @@ module _ (t : Words) (g : Ground t) (budget : ℕ) (code : Code) (rows : List Ro
   at_first m q e = omega arith
 
   pub safe_first : (m : Piece) → In m ps → Linked m → Safe (length m.body) m.body m.row.at 0 (bench_of x) x.ticks
-  safe_first m hm k = harmless_of t g budget code rows ps clock st h x y p d on m hm k m.row.at x.ticks (bench_of x) (record { aligned = (st.places m hm).aligned; fits = body_fits t g budget code rows ps clock st h x y p d on m hm k; file = d.first; bank = d.bank })
+  safe_first m hm k = (harmless_of t g budget code rows ps clock st h x y p d on m hm k).safe m.row.at x.ticks (bench_of x) (record { aligned = (st.places m hm).aligned; fits = body_fits t g budget code rows ps clock st h x y p d on m hm k; file = d.first; bank = d.bank })
 
   abbrev pub in_first : (b m : Piece) (q : ℕ) → (b.row.status ≡ Written → ⊥) → x.inside ≡ true → y.pc ≡ b.row.point → x.ticks < budget → Saved x y → In m ps → Linked m → HasFamily ps m b → m.row.at ≡ q → InMini budget ps (record x { pc = q }) y
   in_first b m q was i e l sv hm k fm is = record {

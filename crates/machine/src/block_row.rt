@@ -119,7 +119,7 @@ impl BlockRow {
     {
         let at = self.link_at();
         match store.fetch(at, true) {
-            Some(marked) => jump_target(marked.word, at).unwrap_or(0),
+            Some((word, _)) => jump_target(word, at).unwrap_or(0),
             None => 0,
         }
     }

@@ -1,4 +1,4 @@
-ghost use Rattle.std.specs.Prelude.{◌≡◌, ◌<◌, ◌≤◌, ◌+◌, ◌^◌, true, None, Some, IfOk, length};
+ghost use Rattle.std.specs.Prelude.{◌≡◌, ◌<◌, ◌+◌, ◌^◌, true, None, Some, IfOk, length};
 ghost use Rattle.std.specs.List.{AllByRecursion};
 ghost use Rattle.tramp_spec.specs.Banks.{bank_len};
 ghost use Rattle.tramp_spec.specs.Codes.{is_tool_word};
@@ -62,7 +62,7 @@ pub fn home(store: &Store, pc: u64, inside: bool) -> u64
         return pc;
     };
     match store.fetch(pc, true) {
-        Some(word) if word.mark == Mark::Leave => jump_target(word.word, pc).unwrap_or(point),
+        Some((word, Mark::Leave)) => jump_target(word, pc).unwrap_or(point),
         _ => point,
     }
 }
@@ -156,16 +156,13 @@ impl HartState {
 
     /// Sets the slots of an instrument in the hart's bank to its opening values. The hart walks its frames in this memory.
     pub fn arm(&mut self, mem: &Mem, instrument: &Placed)
-        requires few { length instrument.now.vars ≤ 3 }
         requires small { AllByRecursion IsSmall instrument.now.opens }
         ensures { self.new ≡ armed_now mem.now instrument.now self.old }
     {
         let start = self.walk_start();
-        let vars = instrument.vars.as_slice();
-        let mut room = [0u64; 3];
-        let values = &mut room[..vars.len()];
-        open_values(mem, instrument.opens.as_slice(), start, vars, values);
-        set_variables(self.bank.as_mut_slice(), instrument, values, self.ticks);
+        let opens = instrument.opens.as_slice();
+        let values = open_values(mem, opens, start, instrument.vars.as_slice());
+        set_variables(self.bank.as_mut_slice(), instrument, &values, self.ticks);
     }
 
     /// The reading of an instrument.

@@ -1,4 +1,4 @@
-ghost use Rattle.std.specs.Prelude.{◌≡◌, ◌↔◌, ◌≤◌, if◌then◌else◌, false, map, IsTrue, length};
+ghost use Rattle.std.specs.Prelude.{◌≡◌, ◌↔◌, if◌then◌else◌, false, map, IsTrue, length};
 ghost use Rattle.std.specs.List.{AllByRecursion, list_all};
 ghost use Rattle.tramp_spec.specs.Codes.{fetched_at};
 ghost use Rattle.frame_walk.specs.Rooms.{IsSmall};
@@ -9,7 +9,7 @@ ghost use Rattle.machine.specs.Links.{armed_now, enters, is_site_linked};
 ghost use Rattle.machine.specs.States.{with_core};
 
 use crate::hart::HartState;
-use crate::machine::Machine;
+use crate::machine::{Machine, none_inside};
 use pn_types::{Placed, PlacedSite, Seq};
 use rv_mem::Mem;
 use tramp_spec::Mark;
@@ -22,7 +22,6 @@ pub struct Sample {
 
 /// Sets the slots of an instrument on each hart to its opening values.
 fn arm_harts(harts: &mut [HartState], mem: &Mem, instrument: &Placed)
-    requires few { length instrument.now.vars ≤ 3 }
     requires small { AllByRecursion IsSmall instrument.now.opens }
     ensures { harts.new ≡ map (armed_now mem.now instrument.now) harts.old }
 {
@@ -46,7 +45,6 @@ impl Machine {
     /// answers false exactly where a hart is inside a trampoline or a site of the instrument isn't linked; then nothing changes. It
     /// takes no memory.
     pub fn arm(&mut self, instrument: &Placed) -> bool
-        requires few { length instrument.now.vars ≤ 3 }
         requires small { AllByRecursion IsSmall instrument.now.opens }
         ensures may { IsTrue result ↔ May self.old.core (Arm instrument.now) }
         ensures state { self.new ≡ if result then with_core self.old (after self.old.core (Arm instrument.now)) else self.old }
@@ -76,8 +74,7 @@ impl Machine {
     fn may_arm(&self, instrument: &Placed) -> bool
         ensures { IsTrue result ↔ MayArm self.now.core instrument.now }
     {
-        let _ = &self.harts;
-        self.quiet() && self.are_linked(instrument.sites.as_slice())
+        none_inside(&self.harts) && self.are_linked(instrument.sites.as_slice())
     }
 
     /// Whether all sites are linked.
@@ -98,9 +95,6 @@ impl Machine {
     fn enters(&self, at: u64) -> bool
         ensures { result ≡ enters (fetched_at self.now.core.program self.now.core.code at false) }
     {
-        match self.store.fetch(at, false) {
-            Some(word) => word.mark == Mark::Enter,
-            None => false,
-        }
+        matches!(self.store.fetch(at, false), Some((_, Mark::Enter)))
     }
 }

@@ -63,7 +63,7 @@ impl Drop for Machine {
 }
 
 /// Whether no hart is inside a trampoline.
-fn none_inside(harts: &[HartState]) -> bool
+pub(crate) fn none_inside(harts: &[HartState]) -> bool
     ensures { IsTrue result ↔ AreOutside harts.now }
 {
     for hart in harts {

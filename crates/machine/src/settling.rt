@@ -1,4 +1,4 @@
-ghost use Rattle.std.specs.Prelude.{◌≡◌, ◌<◌, ◌≤◌, length};
+ghost use Rattle.std.specs.Prelude.{◌≡◌, ◌-◌, ◌<◌, ◌≤◌, length};
 ghost use Rattle.machine.specs.Events.{IsQuiet};
 ghost use Rattle.machine.specs.Leaving.{is_out};
 ghost use Rattle.machine.specs.Replays.{owns, replay};
@@ -9,10 +9,22 @@ use crate::quantum::Taken;
 use pn_types::HartNo;
 
 impl Machine {
-    /// Each hart that is inside a trampoline, by number, takes turns until it is outside or stopped. It answers how many turns
-    /// these were, and takes no memory. Then no hart is inside.
-    pub fn settle(&mut self) -> Taken
+    /// Each hart that is inside a trampoline, by number, takes turns until it is outside or stopped. It answers how many of these
+    /// turns weren't ticks, and takes no memory. Then no hart is inside.
+    pub fn settle(&mut self) -> u64
         ensures settled { self.new ≡ with_core self.old (replay (settling self.old.core) self.old.core) }
+        ensures idle { result ≡ length (settling self.old.core) - length (owns (settling self.old.core) self.old.core) }
+        ensures quiet { IsQuiet self.new.core }
+        ensures harts { length self.new.core.harts ≡ length self.old.core.harts }
+    {
+        let taken = self.take_settling();
+        u64::from(taken.turns - taken.ticks)
+    }
+
+    /// Settles, and answers how many turns that took and how many of them were ticks.
+    pub fn take_settling(&mut self) -> Taken
+        ensures settled { self.new ≡ with_core self.old (replay (settling self.old.core) self.old.core) }
+        ensures few { result.ticks ≤ result.turns }
         ensures turns { result.turns ≡ length (settling self.old.core) }
         ensures ticks { result.ticks ≡ length (owns (settling self.old.core) self.old.core) }
         ensures quiet { IsQuiet self.new.core }

@@ -3,6 +3,7 @@
 ghost use Rattle.std.specs.Prelude.{◌≡◌, ◌+◌, ◌<◌, ◌^◌, length, slice_index, slice_set};
 ghost use Rattle.tramp_spec.specs.Slots.{places_of, read_place, reading_of, set_place, set_places};
 
+use frame_walk::Values;
 use pn_types::{Placed, Var};
 
 /// Puts a value into a slot, if the bank has it.
@@ -45,14 +46,14 @@ fn set_variable(bank: &mut [u64], timer: bool, slot: u64, value: u64, ticks: u64
 }
 
 /// Sets the slots of all variables of an instrument to these values.
-pub fn set_variables(bank: &mut [u64], instrument: &Placed, values: &[u64], ticks: u64)
-    requires { length values.now ≡ length instrument.now.vars }
-    ensures { bank.new ≡ set_places (places_of instrument.now) values.now ticks bank.old }
+pub fn set_variables(bank: &mut [u64], instrument: &Placed, values: &Values, ticks: u64)
+    requires { length values.now.values ≡ length instrument.now.vars }
+    ensures { bank.new ≡ set_places (places_of instrument.now) values.now.values ticks bank.old }
 {
     let slots = instrument.slots.as_slice();
     let vars = instrument.vars.as_slice();
     for i in 0..slots.len().min(vars.len()) {
-        set_variable(bank, vars[i].timer, slots[i] as u64, values[i], ticks);
+        set_variable(bank, vars[i].timer, slots[i] as u64, values.get(i), ticks);
     }
 }
 

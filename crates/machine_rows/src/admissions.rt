@@ -1,7 +1,8 @@
 //! Admits plans up to the first that is refused, and prints how many were admitted, why the next wasn't, and what Opens an admitted
 //! one has. A row says what plans these are.
 //!
-//! - `timers`: three timers and no site. `no-site`: nothing at all.
+//! - `counters`: 4,095 counters and no site, one more than a bank has slots. `timers`: three timers and no site. `no-site`: nothing
+//!   at all.
 //! - `sites`: a counter at each word of the program. `open`: the same, of which the first Open is printed.
 
 mod plans;
@@ -17,7 +18,7 @@ ghost use Rattle.instrument.specs.Admission.{slot_count};
 ghost use Rattle.instrument.specs.Armable.{IsArmable};
 
 use instrument::{InstrumentNo, Placer, Refused, State};
-use plans::{counted_words, timers};
+use plans::{counted_words, variables};
 use pn_types::{Image, NoMemory, Plan, Segment, Seq};
 use std::alloc::Global;
 use std::io;
@@ -62,7 +63,7 @@ fn fill(alloc: Global, instruments: u32, plan: &Plan, cost: Option<u64>) -> Resu
     requires named { (s : Site) → In s plan.now.sites → AreBelow (length plan.now.vars) s.stmts }
     requires words { predicted plan.now < 2 ^ 32 }
     requires slots { slot_count plan.now.vars < 2 ^ 32 }
-    requires armable { IsArmable plan.now.vars plan.now.opens }
+    requires armable { IsArmable plan.now.opens }
 {
     let image = image(alloc)?;
     let mut placer = Placer::new(alloc, &image, instruments)?;
@@ -106,7 +107,7 @@ fn first_open(alloc: Global, plan: &Plan) -> Result<Option<Opened>, NoMemory>
     requires named { (s : Site) → In s plan.now.sites → AreBelow (length plan.now.vars) s.stmts }
     requires words { predicted plan.now < 2 ^ 32 }
     requires slots { slot_count plan.now.vars < 2 ^ 32 }
-    requires armable { IsArmable plan.now.vars plan.now.opens }
+    requires armable { IsArmable plan.now.opens }
 {
     let image = image(alloc)?;
     let mut placer = Placer::new(alloc, &image, 1)?;
@@ -130,19 +131,24 @@ fn print_filled(
     requires named { (s : Site) → In s plan.now.sites → AreBelow (length plan.now.vars) s.stmts }
     requires words { predicted plan.now < 2 ^ 32 }
     requires slots { slot_count plan.now.vars < 2 ^ 32 }
-    requires armable { IsArmable plan.now.vars plan.now.opens }
+    requires armable { IsArmable plan.now.opens }
 {
     let filled = fill(alloc, instruments, plan, cost)?;
     println!(rt; "{what}: {filled:?}")
 }
 
+fn print_counters(rt: &impl Print, alloc: Global) -> io::Result<()> {
+    let many = variables(alloc, 4095, false)?;
+    print_filled(rt, alloc, "4095 counters", 64, &many, None)
+}
+
 fn print_timers(rt: &impl Print, alloc: Global) -> io::Result<()> {
-    let three = timers(alloc, 3)?;
+    let three = variables(alloc, 3, true)?;
     print_filled(rt, alloc, "3 timers, 1024 allowed", 1024, &three, None)
 }
 
 fn print_no_site(rt: &impl Print, alloc: Global) -> io::Result<()> {
-    let none = timers(alloc, 0)?;
+    let none = variables(alloc, 0, true)?;
     print_filled(rt, alloc, "no site, 64 allowed", 64, &none, None)?;
     print_filled(rt, alloc, "no site, 1024 allowed", 1024, &none, None)
 }
@@ -165,6 +171,7 @@ fn print_first_open(rt: &impl Print, alloc: Global) -> io::Result<()> {
 /// Prints what comes of the plans of a row.
 pub fn answer(rt: &impl Print, alloc: Global, row: &str) -> io::Result<()> {
     match row {
+        "counters" => print_counters(rt, alloc),
         "timers" => print_timers(rt, alloc),
         "no-site" => print_no_site(rt, alloc),
         "sites" => print_everywhere(rt, alloc),

@@ -1,5 +1,5 @@
 -- The body of statements, whole.
-use Rattle.std.proofs.Common.{◌≡◌, ℕ, ◌+◌, ◌^◌, ◌<◌, ◌≤◌, Bool, true, false, List, [], ◌∷◌, length, Option, Some, None, sym, ap, ◌∙◌, subst, arith, inl, inr, ⊎_elim}
+use Rattle.std.proofs.Common.{◌≡◌, ℕ, ◌+◌, ◌^◌, ◌<◌, ◌≤◌, Bool, true, false, List, [], ◌∷◌, length, Option, Some, None, refl, sym, ap, ◌∙◌, subst, arith, inl, inr, ⊎_elim}
 use Rattle.std.specs.Prelude.{slice_get, slice_index, ◌==◌, if◌then◌else◌}
 use Rattle.std.specs.List.{AllByRecursion}
 use Rattle.std.proofs.lemmas.Bool.{cases_lt, cond-true, eq-eqb}
@@ -12,11 +12,13 @@ use Rattle.pn_types.specs.declared.plan.Stmt.{Stmt}
 use Rattle.pn_types.specs.declared.plan.Var.{Var}
 use Rattle.rv_word.specs.Registers.{arguments_of}
 use Rattle.rv_word.specs.Values.{wrap}
+use Rattle.rv_word.specs.declared.instr.Instr.{Instr}
 use Rattle.tramp_spec.specs.Banks.{bank_len}
-use Rattle.tramp_spec.specs.Bodies.{Stands, finished}
+use Rattle.tramp_spec.specs.Bodies.{AreTool, Stands, finished}
+use Rattle.tramp_spec.specs.MovedWords.{tools}
 use Rattle.tramp_spec.specs.Routes.{Does}
 use Rattle.tramp_spec.specs.Slots.{VariableSlot, width, places, ArePlaces, IsSlotOf, running, read_place}
-use Rattle.tramp_spec.specs.Statements.{body_of, slot_of}
+use Rattle.tramp_spec.specs.Statements.{body_of, code_of, slot_of}
 use Rattle.tramp_spec.specs.Values.{values_after}
 use Rattle.tramp_spec.proofs.Routes.{keeps, finish_of, harmless, leaves}
 use Rattle.tramp_spec.specs.Steps.{Bench}
@@ -64,6 +66,14 @@ module _ (slots : List ℕ) (vars : List Var) (same : length slots ≡ length va
 body_does : (slots : List ℕ) (stmts : List Stmt) → AllByRecursion (IsStmtInBank slots) stmts → Does (body_of slots stmts) (stmts_bank slots stmts)
 unfolding body_of
 body_does slots stmts h = code_does slots stmts h
+
+tools_are : (is : List Instr) → AreTool (tools is)
+tools_are [] = tt
+tools_are (i ∷ is) = (refl, tools_are is)
+
+body_is_tool : (slots : List ℕ) (stmts : List Stmt) → AreTool (body_of slots stmts)
+unfolding body_of
+body_is_tool slots stmts = tools_are (code_of slots stmts)
 
 -- what a timer's place reads
 reads_at : Option VariableSlot → ℕ → List ℕ → ℕ
@@ -114,7 +124,7 @@ statements_work slots vars stmts same pl u =
     let body = body_of slots stmts in
     let ps = places slots vars in
     record {
-      harmless = harmless body f d;
+      harmless = harmless body f (body_is_tool slots stmts) d;
       ends = λ at ticks x st.
           let r = d at ticks x st in
           (r.0, r.1, keeps body at ticks 0 (length body) x r.0 r.1, sym (finish_of body at ticks x r.0 r.1));

@@ -18,10 +18,7 @@ const POINT: u64 = 0x10000;
 pub fn loop_base(alloc: Global) -> Result<Block, NoMemory>
     ensures { IfOk result (λ block. block ≡ example.loop_base) }
 {
-    let moved = Moved {
-        words: [MarkedWord::own(0xff5f_e06f); 4],
-        len: 1,
-    };
+    let moved = Moved::new(&[MarkedWord::own(0xff5f_e06f)]);
     Ok(base_block(POINT, 0x11000, &moved, Vec::with_capacity(alloc, 7)?))
 }
 

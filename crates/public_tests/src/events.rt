@@ -1,6 +1,6 @@
 //! Several events of a machine together.
 
-ghost use Rattle.std.specs.Prelude.{◌≡◌, ◌-◌, ◌<◌, ◌≤◌, length};
+ghost use Rattle.std.specs.Prelude.{◌≡◌, ◌-◌, ◌<◌};
 ghost use Rattle.std.specs.List.{AllByRecursion};
 ghost use Rattle.frame_walk.specs.Rooms.{IsSmall};
 ghost use Rattle.machine.specs.Effects.{after};
@@ -39,7 +39,6 @@ pub fn add_mini(machine: &mut Machine, mini: &Block)
 /// Arms a counter that may be armed.
 pub fn arm(machine: &mut Machine, counter: &Placed)
     requires may { May machine.old.core (Arm counter.now) }
-    requires few { length counter.now.vars ≤ 3 }
     requires small { AllByRecursion IsSmall counter.now.opens }
     ensures { machine.new ≡ with_core machine.old (after machine.old.core (Arm counter.now)) }
 {

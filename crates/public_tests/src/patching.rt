@@ -3,17 +3,11 @@
 use crate::blocks::{counter, mini};
 use crate::comparison::compare;
 use crate::unlinking::{Renewal, passed_by, renew};
-use machine::Taken;
 use pn_types::NoMemory;
 use std::alloc::Global;
 
-/// The turns of the hart that is inside until it is outside: its own word is among them.
-const LEFT: Taken = Taken {
-    turns: 12,
-    ticks: 1,
-};
-
-const NONE: Taken = Taken { turns: 0, ticks: 0 };
+/// The turns of the hart that is inside until it is outside, but for its own word, which is a tick.
+const LEFT: u64 = 11;
 
 /// Whether all harts are outside before a renewal and behind it, what the renewal met, and how long the output is.
 fn renew_once(alloc: Global) -> Result<([bool; 2], Renewal, usize), NoMemory> {
@@ -35,8 +29,9 @@ fn unlinked_blocks_are_freed_once_left(rt: HostRuntime) {
     compare(&rt, renew_once(rt.alloc()), Ok(([false, true], renewal, 0)));
 }
 
-/// Whether the third counter is armed under a hart and once all are outside, and the second then; and what settling took, twice.
-fn arm_around(alloc: Global) -> Result<([bool; 3], [Taken; 2]), NoMemory> {
+/// Whether the third counter is armed under a hart and once all are outside, and the second then; and the turns of settling that weren't
+/// ticks, twice.
+fn arm_around(alloc: Global) -> Result<([bool; 3], [u64; 2]), NoMemory> {
     let third = counter(alloc, 4, 0x11038)?;
     let second = counter(alloc, 3, 0x11024)?;
     let mut machine = passed_by(alloc)?;
@@ -51,6 +46,6 @@ fn nothing_is_armed_under_a_hart(rt: HostRuntime) {
     compare(
         &rt,
         arm_around(rt.alloc()),
-        Ok(([false, true, false], [LEFT, NONE])),
+        Ok(([false, true, false], [LEFT, 0])),
     );
 }

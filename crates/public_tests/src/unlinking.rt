@@ -6,7 +6,7 @@ ghost use Rattle.machine_examples.specs.ThreeCounters.{counter_on, mini_on};
 
 use crate::events::{add_mini, arm, take_turns};
 use crate::machines::three_counted;
-use machine::{Machine, Taken};
+use machine::Machine;
 use pn_types::{NoMemory, Placed};
 use std::alloc::Global;
 use tramp_spec::Block;
@@ -22,11 +22,11 @@ pub fn passed_by(alloc: Global) -> Result<Machine, NoMemory>
     Ok(machine)
 }
 
-/// What freeing answered, the turns that settling took, and what freeing answered behind it.
+/// What freeing answered, how many turns of settling weren't ticks, and what freeing answered behind it.
 #[derive(Debug, PartialEq, Drop)]
 pub struct Renewal {
     pub held: bool,
-    pub settled: Taken,
+    pub settled: u64,
     pub freed: bool,
 }
 

@@ -173,14 +173,12 @@ fn starts(alloc: Global, row: &Row) -> Result<u64, NoMemory> {
     let (frame, procedure, start, _) = *row;
     let opens = timed(alloc, procedure)?;
     let mem = stack(alloc, frame)?;
-    let timer = Var {
+    let vars = [Var {
         name: Text::from_vec(Vec::new(alloc)),
         timer: true,
         initially: 0,
-    };
-    let mut values = [7; 1];
-    open_values(&mem, &opens, start, &[timer], &mut values);
-    Ok(values[0])
+    }];
+    Ok(open_values(&mem, &opens, start, &vars).get(0))
 }
 
 /// The place of the first row whose timer has another number of starts.
@@ -196,4 +194,62 @@ fn first_other(alloc: Global) -> Result<Option<usize>, NoMemory> {
 #[test]
 fn opens_what_was_called(rt: HostRuntime) {
     compare(&rt, first_other(rt.alloc()), Ok(None));
+}
+
+/// A statement that acts where a counter is 1, or always.
+fn statement(alloc: Global, counter: Option<u32>, act: Act) -> Result<Stmt, NoMemory> {
+    let mut conds = Vec::new(alloc);
+    if let Some(counter) = counter {
+        conds.push(Cond {
+            left: Left::Counter(counter),
+            cmp: Cmp::Eq,
+            right: 1,
+        })?;
+    }
+    Ok(Stmt {
+        conds: Seq::from_vec(conds),
+        act,
+    })
+}
+
+/// Where f is entered counter 4 goes up, and then counter 2 becomes 7 if counter 4 is 1.
+fn counted(alloc: Global) -> Result<Vec<Open>, NoMemory>
+    ensures { IfOk result (λ opens. AllByRecursion IsSmall opens.items) }
+{
+    let mut stmts = Vec::new(alloc);
+    stmts.push(statement(alloc, None, Act::Up(4))?)?;
+    stmts.push(statement(alloc, Some(4), Act::Put(2, 7))?)?;
+    let mut opens = Vec::new(alloc);
+    opens.push(Open {
+        start: F.start,
+        len: F.len,
+        stmts: Seq::from_vec(stmts),
+    })?;
+    Ok(opens)
+}
+
+/// The values of five counters behind their opening, the last of which is 0 initially and the others 3; and of one more, which
+/// there isn't.
+fn five_counters(alloc: Global) -> Result<[u64; 6], NoMemory> {
+    let mut vars = Vec::new(alloc);
+    for initially in [3, 3, 3, 3, 0] {
+        vars.push(Var {
+            name: Text::from_vec(Vec::new(alloc)),
+            timer: false,
+            initially,
+        })?;
+    }
+    let opens = counted(alloc)?;
+    let mem = stack(alloc, FRAME)?;
+    let values = open_values(&mem, &opens, Some(INSIDE), &vars);
+    let mut found = [0; 6];
+    for i in 0..6 {
+        found[i] = values.get(i);
+    }
+    Ok(found)
+}
+
+#[test]
+fn opens_more_than_three_variables(rt: HostRuntime) {
+    compare(&rt, five_counters(rt.alloc()), Ok([3, 3, 7, 3, 1, 0]));
 }

@@ -1,7 +1,8 @@
 //! The words that do at another place what a word does at its own.
 
-ghost use Rattle.std.specs.Prelude.{◌≡◌, ◌<◌, ◌^◌, ◌+◌, Some};
+ghost use Rattle.std.specs.Prelude.{◌≡◌, ◌+◌, Some};
 ghost use Rattle.rv_word.specs.Table.{decode_of};
+ghost use Rattle.rv_word.specs.Values.{wrap};
 ghost use Rattle.rv_word.specs.declared.instr.Instr.TheVariants as instr;
 ghost use Rattle.rv_word.specs.Words.{word_of};
 ghost use Rattle.tramp_spec.specs.Jumps as jumps;
@@ -26,8 +27,7 @@ fn tool(instr: Instr) -> MarkedWord
 
 /// The address so many bytes behind another.
 fn behind(at: u64, bytes: u64) -> u64
-    requires { bytes < 2 ^ 63 }
-    ensures { at < 2 ^ 63 → result ≡ at + bytes }
+    ensures { result ≡ wrap (at + bytes) }
 {
     at.wrapping_add(bytes)
 }
@@ -68,7 +68,7 @@ fn number_words(rd: u32, number: u64) -> [MarkedWord; 2]
 
 /// An auipc: its value is put into the register by two words.
 fn move_auipc(rd: u32, imm: u64, from: u64, to: u64) -> Result<Moved, Unmovable>
-    ensures { from < 2 ^ 63 → to < 2 ^ 63 → Answers result (table.moved_decoded (Some (instr.Auipc rd imm)) 0 from to) }
+    ensures { Answers result (table.moved_decoded (Some (instr.Auipc rd imm)) 0 from to) }
 {
     let value = from.wrapping_add(imm);
     if !is_signed_word(value) {
@@ -77,10 +77,7 @@ fn move_auipc(rd: u32, imm: u64, from: u64, to: u64) -> Result<Moved, Unmovable>
     let [high, low] = put_number(rd, value);
     let own = MarkedWord::own(encode(&low));
     let back = leave(behind(to, 8), behind(from, 4));
-    Ok(Moved {
-        words: [tool(high), own, back, back],
-        len: 3,
-    })
+    Ok(Moved::new(&[tool(high), own, back]))
 }
 
 /// A jal that keeps no address.
@@ -92,15 +89,12 @@ fn move_jump(offset: u64, from: u64, to: u64) -> Result<Moved, Unmovable>
         return Err(Unmovable);
     }
     let jump = MarkedWord::own(jump_word(to, target));
-    Ok(Moved {
-        words: [jump; 4],
-        len: 1,
-    })
+    Ok(Moved::new(&[jump]))
 }
 
 /// A jal: the address of the next word is put into the register by two words, where it has one.
 fn move_jal(rd: u32, offset: u64, from: u64, to: u64) -> Result<Moved, Unmovable>
-    ensures { from < 2 ^ 63 → to < 2 ^ 63 → Answers result (table.moved_decoded (Some (instr.Jal rd offset)) 0 from to) }
+    ensures { Answers result (table.moved_decoded (Some (instr.Jal rd offset)) 0 from to) }
 {
     if rd == 0 {
         return move_jump(offset, from, to);
@@ -112,21 +106,15 @@ fn move_jal(rd: u32, offset: u64, from: u64, to: u64) -> Result<Moved, Unmovable
     }
     let jump = MarkedWord::own(jump_word(at, target));
     let link = number_words(rd, behind(from, 4));
-    Ok(Moved {
-        words: [link[0], link[1], jump, jump],
-        len: 3,
-    })
+    Ok(Moved::new(&[link[0], link[1], jump]))
 }
 
 /// A jalr. The target is computed first, since the link register may be its base.
 fn move_jalr(word: u32, rd: u32, rs1: u32, offset: u64, from: u64) -> Moved
-    ensures { from < 2 ^ 63 → Some (table.words_of result) ≡ table.moved_decoded (Some (instr.Jalr rd rs1 offset)) word from 0 }
+    ensures { Some result ≡ table.moved_decoded (Some (instr.Jalr rd rs1 offset)) word from 0 }
 {
     if rd == 0 {
-        return Moved {
-            words: [MarkedWord::own(word); 4],
-            len: 1,
-        };
+        return Moved::new(&[MarkedWord::own(word)]);
     }
     let target = tool(Instr::OpImm {
         op: ImmOp::Addi,
@@ -140,10 +128,7 @@ fn move_jalr(word: u32, rd: u32, rs1: u32, offset: u64, from: u64) -> Moved
         rs1: 31,
         offset: 0,
     }));
-    Moved {
-        words: [target, high, low, jump],
-        len: 4,
-    }
+    Moved::new(&[target, high, low, jump])
 }
 
 /// A branch: taken, it goes over the jump to the next word, to the jump to its target.
@@ -155,7 +140,7 @@ fn move_branch(
     from: u64,
     to: u64,
 ) -> Result<Moved, Unmovable>
-    ensures { from < 2 ^ 63 → to < 2 ^ 63 → Answers result (table.moved_decoded (Some (instr.Branch op rs1 rs2 offset)) 0 from to) }
+    ensures { Answers result (table.moved_decoded (Some (instr.Branch op rs1 rs2 offset)) 0 from to) }
 {
     let target = from.wrapping_add(offset);
     if !is_target(behind(to, 8), target) {
@@ -167,29 +152,23 @@ fn move_branch(
         rs2,
         offset: 8,
     }));
+    let back = leave(behind(to, 4), behind(from, 4));
     let there = leave(behind(to, 8), target);
-    Ok(Moved {
-        words: [branch, leave(behind(to, 4), behind(from, 4)), there, there],
-        len: 3,
-    })
+    Ok(Moved::new(&[branch, back, there]))
 }
 
 /// Any other word: itself, and the jump to the next.
 fn move_plain(word: u32, from: u64, to: u64) -> Moved
-    ensures { from < 2 ^ 63 → to < 2 ^ 63 → table.words_of result ≡ table.moved_plain word from to }
+    ensures { result ≡ table.moved_plain word (wrap (from + 4)) (wrap (to + 4)) }
 {
     let back = leave(behind(to, 4), behind(from, 4));
-    Moved {
-        words: [MarkedWord::own(word), back, back, back],
-        len: 2,
-    }
+    Moved::new(&[MarkedWord::own(word), back])
 }
 
-/// The words that do at `to` what the word does at `from`, or that it can't be moved there. They are those of the table where
-/// both addresses are below 2^63.
+/// The words that do at `to` what the word does at `from`, or that it can't be moved there.
 #[tactic(auto, unfolding(tramp_spec::specs::MovedWords::moved_of))]
 pub fn move_word(word: u32, from: u64, to: u64) -> Result<Moved, Unmovable>
-    ensures { from < 2 ^ 63 → to < 2 ^ 63 → Answers result (table.moved_of word from to) }
+    ensures { Answers result (table.moved_of word from to) }
 {
     match decode(word) {
         Some(Instr::Auipc { rd, imm }) => move_auipc(rd, imm, from, to),

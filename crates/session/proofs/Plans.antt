@@ -38,7 +38,7 @@ short_plan i plan g over cost m =
       };
       words = omega arith;
       slots = omega arith;
-      armable = armable_plan plan m over.vars.1;
+      armable = armable_plan plan m;
     }
 
 pub short_started : (i : Inputs) (start : Start) (plan : Plan) → AreGiven i → IsPlanOver i.points plan → predicted plan ≤ most_words → IsMeasurable plan → IsShort i (started start plan)

@@ -17,7 +17,7 @@ pub record IsShort (i : Inputs) (plan : Plan) : Type 0 where
   pub good : IsGood i plan
   pub words : predicted plan < 2 ^ 32
   pub slots : slot_count plan.vars < 2 ^ 32
-  pub armable : IsArmable plan.vars plan.opens
+  pub armable : IsArmable plan.opens
 
 -- the plan of a metric at a focus, or why there is none, by its cause in each case
 abbrev pub IsPlanned : {C : Type 0} → (PlanFault → Option C) → Inputs → ℕ → Focus → Result Plan C → Type 0

@@ -51,7 +51,7 @@ fn admit(alloc: Global, machine: &mut InstrumentedMachine, plan: &Plan, limit: u
     requires plan { IsPlanFor machine.old.state.core.program plan.now }
     requires words { predicted plan.now < 2 ^ 32 }
     requires slots { slot_count plan.now.vars < 2 ^ 32 }
-    requires armable { IsArmable plan.now.vars plan.now.opens }
+    requires armable { IsArmable plan.now.opens }
     requires ready { In (need_of plan.now) machine.old.ready }
     ensures kept { (i : Inputs) (n : ℕ) (node : Node) (k : Kept) → k.machine ≡ machine.old.state → (rules_of i).decl.cost ≡ limit
         → with_test (admission machine.old.state.placer plan.now (Some limit)) i n node plan.now k ≡ kept_as n (metric_of i node) node.focus result machine.new.state k }
@@ -77,7 +77,7 @@ pub(crate) fn take(
     limit: u64,
     force: u64,
 ) -> Taken
-    requires short { IfOk (answer_of refusal plan.now) (λ plan. IsPlanFor machine.old.state.core.program plan × (predicted plan < 2 ^ 32) × (slot_count plan.vars < 2 ^ 32) × IsArmable plan.vars plan.opens) }
+    requires short { IfOk (answer_of refusal plan.now) (λ plan. IsPlanFor machine.old.state.core.program plan × (predicted plan < 2 ^ 32) × (slot_count plan.vars < 2 ^ 32) × IsArmable plan.opens) }
     requires ready { IfOk (answer_of refusal plan.now) (λ plan. In (need_of plan) machine.old.ready) }
     requires force { force < 2 ^ 63 }
     ensures kept { (i : Inputs) (n : ℕ) (node : Node) (k : Kept) → k.machine ≡ machine.old.state → (rules_of i).decl.cost ≡ limit → in_force i k.machine.placer k.shown ≡ force

@@ -80,7 +80,7 @@ fn admit(alloc: Global, machine: &mut InstrumentedMachine, plan: &Plan) -> Outco
     requires plan { IsPlanFor machine.old.state.core.program plan.now }
     requires words { predicted plan.now < 2 ^ 32 }
     requires slots { slot_count plan.now.vars < 2 ^ 32 }
-    requires armable { IsArmable plan.now.vars plan.now.opens }
+    requires armable { IsArmable plan.now.opens }
     requires ready { In (need_of plan.now) machine.old.ready }
     ensures kept { (w : CheckedWish) (k : Kept) → k.machine ≡ machine.old.state → with_answer (admission machine.old.state.placer plan.now None) w plan.now k ≡ kept_by w result machine.new.state k }
     ensures ready { machine.new.ready ≡ without (need_of plan.now) machine.old.ready }
@@ -102,7 +102,7 @@ fn show(
     plan: &Plan,
     refusal: Option<PickCause>,
 ) -> Outcome
-    requires short { IfOk (answer_of refusal plan.now) (λ plan. IsPlanFor machine.old.state.core.program plan × (predicted plan < 2 ^ 32) × (slot_count plan.vars < 2 ^ 32) × IsArmable plan.vars plan.opens) }
+    requires short { IfOk (answer_of refusal plan.now) (λ plan. IsPlanFor machine.old.state.core.program plan × (predicted plan < 2 ^ 32) × (slot_count plan.vars < 2 ^ 32) × IsArmable plan.opens) }
     requires ready { IfOk (answer_of refusal plan.now) (λ plan. In (need_of plan) machine.old.ready) }
     ensures kept { (i : Inputs) (w : CheckedWish) (k : Kept) → k.machine ≡ machine.old.state → IsAnswer i w.metric w.focus (answer_of refusal plan.now) → with_plan (planned i w.metric w.focus) w k ≡ kept_by w result machine.new.state k }
     ensures ok { IfOk (answer_of refusal plan.now) (λ plan. machine.new.ready ≡ without (need_of plan) machine.old.ready) }
@@ -124,7 +124,7 @@ pub(crate) fn look(
     plan: &Plan,
     refusal: Option<PickCause>,
 ) -> Outcome
-    requires short { IfOk (answer_of refusal plan.now) (λ plan. IsPlanFor machine.old.state.core.program plan × (predicted plan < 2 ^ 32) × (slot_count plan.vars < 2 ^ 32) × IsArmable plan.vars plan.opens) }
+    requires short { IfOk (answer_of refusal plan.now) (λ plan. IsPlanFor machine.old.state.core.program plan × (predicted plan < 2 ^ 32) × (slot_count plan.vars < 2 ^ 32) × IsArmable plan.opens) }
     requires ready { IfOk (answer_of refusal plan.now) (λ plan. In (need_of plan) machine.old.ready) }
     ensures kept { (i : Inputs) (k : Kept) → k.machine ≡ machine.old.state → k.shown ≡ map (λ x. x.shown) kits.now → (wish.now.show ≡ true → IsAnswer i wish.now.metric wish.now.focus (answer_of refusal plan.now))
         → with_wish i wish.now k ≡ kept_by wish.now result machine.new.state k }

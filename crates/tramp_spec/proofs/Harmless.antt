@@ -1,8 +1,8 @@
 -- Harmless bodies behind each other, and behind guards.
-use Rattle.std.proofs.Common.{◌≡◌, ℕ, zero, suc, ◌+◌, ◌*◌, List, ◌++◌, length, refl, sym, ap, ◌∙◌, subst, arith, inl, inr, length-append}
+use Rattle.std.proofs.Common.{◌≡◌, ℕ, zero, suc, ◌+◌, ◌*◌, List, [], ◌∷◌, ◌++◌, length, refl, sym, ap, ◌∙◌, subst, arith, inl, inr, length-append}
 use Rattle.std.specs.Prelude.{slice_index, ◌⊎◌}
 use Rattle.tramp_spec.specs.Steps.{Bench}
-use Rattle.tramp_spec.specs.Bodies.{Safe, Stands, Harmless, LeavesSlot, finished}
+use Rattle.tramp_spec.specs.Bodies.{AreTool, Safe, Stands, Harmless, LeavesSlot, finished}
 use Rattle.tramp_spec.specs.Routes.{Route, Guards, BodiesGoOn}
 use Rattle.tramp_spec.specs.declared.mark.MarkedWord.{MarkedWord}
 use Rattle.tramp_spec.proofs.Routes.{keeps, safe_of, finish_of, and_on, left, right}
@@ -14,7 +14,7 @@ route_of body at ticks (suc most) i x (inl e) = (x, (0, (e, refl)))
 route_of body at ticks (suc most) i x (inr s) = let q = route_of body at ticks most s.0 s.1 s.3 in (q.0, (suc q.1.0, (s.0, s.1, s.2, q.1.1)))
 
 pub ends : (body : List MarkedWord) → Harmless body → (at ticks : ℕ) (x : Bench) → Stands body at x → (y : Bench) × Route body at ticks 0 (length body) x y
-ends body h at ticks x s = route_of body at ticks (length body) 0 x (h at ticks x s)
+ends body h at ticks x s = route_of body at ticks (length body) 0 x (h.safe at ticks x s)
 
 stands_left : (a b : List MarkedWord) (at : ℕ) (x : Bench) → Stands (a ++ b) at x → Stands a at x
 stands_left a b at x s =
@@ -49,8 +49,16 @@ first a b h at ticks x s =
     let q = ends a h at ticks x (stands_left a b at x s) in
     (q.0, left a b at ticks 0 (length a) x q.0 q.1, finish_of a at ticks x q.0 q.1)
 
+tools_append : (a b : List MarkedWord) → AreTool a → AreTool b → AreTool (a ++ b)
+tools_append [] b ta tb = tb
+tools_append (w ∷ a) b ta tb = (ta.0, tools_append a b ta.1 tb)
+
 append : (a b : List MarkedWord) → Harmless a → Harmless b → Harmless (a ++ b)
-append a b ha hb at ticks x s = let q = first a b ha at ticks x s in let t = through a b hb at ticks x q.0 s q.1 in safe_of (a ++ b) at ticks x t.y t.route
+append a b ha hb =
+    record {
+      tools = tools_append a b ha.tools hb.tools;
+      safe = λ at ticks x s. let q = first a b ha at ticks x s in let t = through a b hb at ticks x q.0 s q.1 in safe_of (a ++ b) at ticks x t.y t.route;
+    }
 
 append_leaves : (a b : List MarkedWord) (slot : ℕ) → Harmless a → Harmless b → LeavesSlot a slot → LeavesSlot b slot → LeavesSlot (a ++ b) slot
 append_leaves a b slot ha hb la lb at ticks x s =
@@ -69,9 +77,13 @@ guard_ends g rest at ticks x y h s (inl r) = let t = through g rest h at ticks x
 guard_ends g rest at ticks x y h s (inr r) = (y, r)
 
 guard : (g rest : List MarkedWord) → Guards g rest → Harmless rest → Harmless (g ++ rest)
-guard g rest gs h at ticks x s =
-    let w = gs at ticks x s in
-    let e = guard_ends g rest at ticks x w.0 h s w.2 in safe_of (g ++ rest) at ticks x e.0 e.1
+guard g rest gs h =
+    record {
+      tools = tools_append g rest gs.tools h.tools;
+      safe = λ at ticks x s.
+          let w = gs.leads at ticks x s in
+          let e = guard_ends g rest at ticks x w.0 h s w.2 in safe_of (g ++ rest) at ticks x e.0 e.1;
+    }
 
 guard_slot : (g rest : List MarkedWord) (slot at ticks : ℕ) (x y : Bench) → Harmless rest → LeavesSlot rest slot → Stands (g ++ rest) at x → y.bank ≡ x.bank
     → Route (g ++ rest) at ticks 0 (length g) x y ⊎ Route (g ++ rest) at ticks 0 (length (g ++ rest)) x y → slice_index (finished (g ++ rest) at x ticks) slot ≡ slice_index x.bank slot
@@ -84,7 +96,7 @@ guard_slot g rest slot at ticks x y h l s e (inl r) =
 guard_slot g rest slot at ticks x y h l s e (inr r) = ap (λ k. slice_index k slot) (finish_of (g ++ rest) at ticks x y r) ∙ ap (λ k. slice_index k slot) e
 
 guard_leaves : (g rest : List MarkedWord) (slot : ℕ) → Guards g rest → Harmless rest → LeavesSlot rest slot → LeavesSlot (g ++ rest) slot
-guard_leaves g rest slot gs h l at ticks x s = let w = gs at ticks x s in guard_slot g rest slot at ticks x w.0 h l s w.1 w.2
+guard_leaves g rest slot gs h l at ticks x s = let w = gs.leads at ticks x s in guard_slot g rest slot at ticks x w.0 h l s w.1 w.2
 
 pub bodies_go_on : BodiesGoOn
 bodies_go_on = record { append = append; append_leaves = append_leaves; guard = guard; guard_leaves = guard_leaves }

@@ -26,7 +26,7 @@ use Rattle.tramp_spec.proofs.MovedPlaces.{next_point, Leaves, leaves_by, back}
 module _ (point to : ℕ) (pa : point % 4 ≡ 0) (ta : to % 4 ≡ 0) (lo : point < 0x60000000) (be : point < to) (near : to ≤ point + 1048000) where
   module _ (word rd imm : ℕ) (e : decode_of word ≡ Some (Auipc rd imm)) (fits : extended 32 (wrap (point + imm) % 2 ^ 32) ≡ wrap (point + imm)) where
     abbrev auipc_words : List MarkedWord
-    auipc_words = moved_auipc rd (wrap (point + imm)) point to
+    auipc_words = moved_auipc rd (wrap (point + imm)) (point + 4) (to + 8)
 
     abbrev auipc_before : ℕ → List ℕ → List ℕ
     auipc_before zero regs = regs

@@ -27,7 +27,7 @@ module _ (point to : ℕ) (pa : point % 4 ≡ 0) (ta : to % 4 ≡ 0) (lo : point
     goal_of = wrap (point + offset)
 
     abbrev branch_words : List MarkedWord
-    branch_words = moved_branch op rs1 rs2 (wrap (point + offset)) point to
+    branch_words = moved_branch op rs1 rs2 (wrap (point + offset)) (point + 4) (to + 4) (to + 8)
 
     to_target : Hops (to + 4 * 2) (wrap (point + offset)) (jump_word (to + 8) (wrap (point + offset))) × (wrap (point + offset) % 4 ≡ 0)
     to_target = target point to pa ta lo be near 2 (wrap (point + offset)) (omega arith) i

@@ -57,7 +57,7 @@ module _ (point to : ℕ) (pa : point % 4 ≡ 0) (ta : to % 4 ≡ 0) (lo : point
 
     -- which keeps one
     abbrev jal_words : List MarkedWord
-    jal_words = moved_jal rd (wrap (point + offset)) point to
+    jal_words = moved_jal rd (wrap (point + offset)) (point + 4) (to + 8)
 
     abbrev jal_before : ℕ → List ℕ → List ℕ
     jal_before zero regs = regs

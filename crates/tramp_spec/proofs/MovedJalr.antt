@@ -76,7 +76,7 @@ module _ (point to : ℕ) (pa : point % 4 ≡ 0) (ta : to % 4 ≡ 0) (lo : point
 
     -- which keeps one
     abbrev jalr_words : List MarkedWord
-    jalr_words = moved_jalr rd rs1 offset point
+    jalr_words = moved_jalr rd rs1 offset (point + 4)
 
     abbrev jalr_first : List ℕ → List ℕ
     jalr_first regs = with_reg regs 31 (wrap (reg regs rs1 + offset))

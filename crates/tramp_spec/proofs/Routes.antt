@@ -6,7 +6,7 @@ use Rattle.rv_word.specs.Registers.{arguments_of}
 use Rattle.tramp_spec.specs.Banks.{bank_len}
 use Rattle.tramp_spec.specs.Marks.{tool}
 use Rattle.tramp_spec.specs.Steps.{Bench, stand, step_on}
-use Rattle.tramp_spec.specs.Bodies.{Keeps, Leap, Safe, Stands, Harmless, finish, finished, at_word, if_stood}
+use Rattle.tramp_spec.specs.Bodies.{AreTool, Keeps, Leap, Safe, Stands, Harmless, finish, finished, at_word, if_stood}
 use Rattle.tramp_spec.specs.Routes.{Path, Route, Effect, Does}
 use Rattle.tramp_spec.specs.declared.mark.MarkedWord.{MarkedWord}
 
@@ -121,8 +121,8 @@ right_path a b at ticks (suc n) i e x y p =
 pub right : (a b : List MarkedWord) (at ticks i e : ℕ) (x y : Bench) → Route b (at + 4 * length a) ticks i e x y → Route (a ++ b) at ticks (length a + i) (length a + e) x y
 right a b at ticks i e x y r = (r.0, right_path a b at ticks r.0 i e x y r.1)
 
-pub harmless : (body : List MarkedWord) (f : Effect) → Does body f → Harmless body
-harmless body f d at ticks x s = let r = d at ticks x s in safe_of body at ticks x r.0 r.1
+pub harmless : (body : List MarkedWord) (f : Effect) → AreTool body → Does body f → Harmless body
+harmless body f t d = record { tools = t; safe = λ at ticks x s. let r = d at ticks x s in safe_of body at ticks x r.0 r.1 }
 
 pub leaves : (body : List MarkedWord) (f : Effect) → Does body f → (at ticks : ℕ) (x : Bench) → Stands body at x → finished body at x ticks ≡ f ticks (arguments_of x.regs) x.bank
 leaves body f d at ticks x s = let r = d at ticks x s in finish_of body at ticks x r.0 r.1 ∙ r.2

@@ -1,10 +1,12 @@
 -- Harmless bodies of mini blocks, by their runs, and what a body does to the bank.
 use Rattle.std.specs.Prelude.{◌≡◌, ◌≢◌, ℕ, zero, suc, ◌+◌, ◌-◌, ◌*◌, ◌/◌, ◌%◌, ◌^◌, ◌<◌, ◌≤◌, ◌⊎◌, List, length, Option, Some, None, Result, Ok, Err, slice_get, slice_index}
+use Rattle.std.specs.List.{AllByRecursion}
 use Rattle.rv_word.specs.Registers.{reg}
 use Rattle.rv_word.specs.declared.outcome.Cause.{Cause}
 use Rattle.tramp_spec.specs.Marks.{tool}
 use Rattle.tramp_spec.specs.Banks.{bank_len, saved_x5}
 use Rattle.tramp_spec.specs.Steps.{Bench, Stood, stand, step_on}
+use Rattle.tramp_spec.specs.declared.mark.Mark.TheVariants.{Tool}
 use Rattle.tramp_spec.specs.declared.mark.MarkedWord.{MarkedWord}
 
 -- all registers stay but x5 and x31, and so do the saved x5 and the sizes
@@ -35,10 +37,15 @@ pub record Stands (body : List MarkedWord) (at : ℕ) (x : Bench) : Type 0 where
   pub file : length x.regs ≡ 32
   pub bank : length x.bank ≡ bank_len
 
--- Wherever the body stands, whatever the registers, the bank and the ticks are: it stops no hart, reads and writes the bank
--- alone, changes nothing but the pc, x5, x31 and slots, and goes forward only.
-abbrev pub Harmless : List MarkedWord → Type 0
-Harmless body = (at ticks : ℕ) (x : Bench) → Stands body at x → Safe (length body) body at 0 x ticks
+-- all words are the tool's
+abbrev pub AreTool : List MarkedWord → Type 0
+AreTool words = AllByRecursion (λ (w : MarkedWord). w.mark ≡ Tool) words
+
+pub record Harmless (body : List MarkedWord) : Type 0 where
+  pub tools : AreTool body
+  -- wherever the body stands, whatever the registers, the bank and the ticks are: it stops no hart, reads and writes the bank
+  -- alone, changes nothing but the pc, x5, x31 and slots, and goes forward only
+  pub safe : (at ticks : ℕ) (x : Bench) → Stands body at x → Safe (length body) body at 0 x ticks
 
 -- ---- the bank at the end of a body
 

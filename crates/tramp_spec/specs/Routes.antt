@@ -2,7 +2,7 @@
 use Rattle.std.specs.Prelude.{◌≡◌, ℕ, zero, suc, ◌⊎◌, ◌++◌, List, length}
 use Rattle.rv_word.specs.Registers.{arguments_of}
 use Rattle.tramp_spec.specs.Steps.{Bench}
-use Rattle.tramp_spec.specs.Bodies.{Leap, Stands, Harmless, LeavesSlot}
+use Rattle.tramp_spec.specs.Bodies.{AreTool, Leap, Stands, Harmless, LeavesSlot}
 use Rattle.tramp_spec.specs.declared.mark.MarkedWord.{MarkedWord}
 
 -- exactly so many turns lead from word i to word e
@@ -21,11 +21,11 @@ Effect = ℕ → List ℕ → List ℕ → List ℕ
 abbrev pub Does : List MarkedWord → Effect → Type 0
 Does body f = (at ticks : ℕ) (x : Bench) → Stands body at x → (y : Bench) × Route body at ticks 0 (length body) x y × (y.bank ≡ f ticks (arguments_of x.regs) x.bank)
 
--- the words of a guard lead to the rest, or over it, and leave the bank
-abbrev pub Guards : List MarkedWord → List MarkedWord → Type 0
-Guards guard rest =
-    (at ticks : ℕ) (x : Bench) → Stands (guard ++ rest) at x
-    → (y : Bench) × (y.bank ≡ x.bank) × (Route (guard ++ rest) at ticks 0 (length guard) x y ⊎ Route (guard ++ rest) at ticks 0 (length (guard ++ rest)) x y)
+-- the words of a guard are the tool's, lead to the rest, or over it, and leave the bank
+pub record Guards (guard rest : List MarkedWord) : Type 0 where
+  pub tools : AreTool guard
+  pub leads : (at ticks : ℕ) (x : Bench) → Stands (guard ++ rest) at x
+      → (y : Bench) × (y.bank ≡ x.bank) × (Route (guard ++ rest) at ticks 0 (length guard) x y ⊎ Route (guard ++ rest) at ticks 0 (length (guard ++ rest)) x y)
 
 -- bodies may stand behind each other, and behind guards
 pub record BodiesGoOn : Type 0 where

@@ -13,12 +13,3 @@ pub struct Block {
     /// It is a base block, and not a mini block.
     pub base: bool,
 }
-
-/// The words that do at another place what a word of the program does at its own.
-#[derive(Clone, Copy, PartialEq, Eq, Drop)]
-pub struct Moved {
-    /// The first `len` of these.
-    pub words: [MarkedWord; 4],
-    /// How many there are, from 1 to 4.
-    pub len: u32,
-}

@@ -8,10 +8,12 @@ mod block;
 mod jump;
 mod laws;
 mod mark;
+mod moved;
 mod numbers;
 
-pub use block::{Block, Moved};
+pub use block::Block;
 pub use jump::{jump_word, reaches};
 pub use laws::{bodies_go_on, code_rows, moved_rows, words_move};
 pub use mark::{Mark, MarkedWord};
+pub use moved::Moved;
 pub use numbers::{is_signed_word, lower, put_number, rounded, upper};

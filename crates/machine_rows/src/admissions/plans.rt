@@ -1,6 +1,6 @@
 //! Plans that are large in slots, or in sites and the range of an Open.
 
-ghost use Rattle.std.specs.Prelude.{◌≡◌, ◌*◌, ◌<◌, ◌^◌, ◌≤◌, [], ◌∷◌, IfOk, length};
+ghost use Rattle.std.specs.Prelude.{◌≡◌, ◌*◌, ◌<◌, ◌^◌, [], ◌∷◌, if◌then◌else◌, IfOk, length};
 ghost use Rattle.std.specs.List.{AllByRecursion};
 ghost use Rattle.frame_walk.specs.Rooms.{IsSmall};
 ghost use Rattle.machine.specs.Cores.{In};
@@ -25,16 +25,15 @@ fn variable(alloc: Global, timer: bool) -> Var
     }
 }
 
-/// So many timers, and no site.
-pub fn timers(alloc: Global, count: u32) -> Result<Plan, NoMemory>
-    requires { count ≤ 3 }
-    ensures slots { IfOk result (λ plan. slot_count plan.vars ≡ 2 * count) }
+/// So many variables, all timers or all counters, and no site.
+pub fn variables(alloc: Global, count: u32, timers: bool) -> Result<Plan, NoMemory>
+    ensures slots { IfOk result (λ plan. slot_count plan.vars ≡ (if timers then 2 else 1) * count) }
     ensures sites { IfOk result (λ plan. plan.sites ≡ []) }
-    ensures armable { IfOk result (λ plan. IsArmable plan.vars plan.opens) }
+    ensures armable { IfOk result (λ plan. IsArmable plan.opens) }
 {
     let mut vars = Vec::new(alloc);
     for _ in 0..count {
-        vars.push(variable(alloc, true))?;
+        vars.push(variable(alloc, timers))?;
     }
     Ok(Plan {
         vars: Seq::from_vec(vars),
@@ -86,7 +85,7 @@ pub fn counted_words(alloc: Global, at: u64, words: u32) -> Result<Plan, NoMemor
     ensures slots { IfOk result (λ plan. slot_count plan.vars ≡ 1) }
     ensures named { IfOk result (λ plan. (s : Site) → In s plan.sites → AreBelow 1 s.stmts) }
     ensures words { IfOk result (λ plan. predicted plan ≡ 5 * words) }
-    ensures armable { IfOk result (λ plan. IsArmable plan.vars plan.opens) }
+    ensures armable { IfOk result (λ plan. IsArmable plan.opens) }
 {
     let mut vars = Vec::new(alloc);
     vars.push(variable(alloc, false))?;

@@ -10,7 +10,7 @@ use std::io;
 use tramp_build::{base_block, mini_block, set_next};
 use tramp_spec::{Block, Mark, MarkedWord, Moved};
 
-/// Addresses of the calls lie below.
+/// Blocks lie below.
 const TOP: u64 = 1 << 30;
 
 fn mark_name(mark: Mark) -> &'static str {
@@ -23,15 +23,14 @@ fn mark_name(mark: Mark) -> &'static str {
 }
 
 /// Prints a word with its mark.
-pub fn print_word(rt: &impl Print, marked: MarkedWord) -> io::Result<()> {
-    let word = marked.word;
-    let name = mark_name(marked.mark);
+pub fn print_word(rt: &impl Print, word: u32, mark: Mark) -> io::Result<()> {
+    let name = mark_name(mark);
     println!(rt; "{word:08x} {name}")
 }
 
 fn print_words(rt: &impl Print, words: &[MarkedWord]) -> io::Result<()> {
     for marked in words {
-        print_word(rt, *marked)?;
+        print_word(rt, marked.word, marked.mark)?;
     }
     Ok(())
 }
@@ -46,25 +45,14 @@ fn print_block(rt: &impl Print, block: &Block) -> io::Result<()> {
 
 /// A word moved from one address to another.
 fn moved(word: u64, from: u64, to: u64) -> Option<Moved> {
-    if from < TOP && to < TOP {
-        move_word((word % 0x1_0000_0000) as u32, from, to).ok()
-    } else {
-        None
-    }
+    move_word((word % 0x1_0000_0000) as u32, from, to).ok()
 }
 
 pub fn print_moved(rt: &impl Print, numbers: Numbers) -> io::Result<()> {
     let count = moved_len((numbers.first % 0x1_0000_0000) as u32);
     println!(rt; "{count}")?;
     match moved(numbers.first, numbers.second, numbers.third) {
-        Some(words) => {
-            for (place, marked) in words.words.iter().enumerate() {
-                if (place as u32) < words.len {
-                    print_word(rt, *marked)?;
-                }
-            }
-            Ok(())
-        }
+        Some(moved) => print_words(rt, moved.as_slice()),
         None => println!(rt; "unmovable"),
     }
 }
@@ -76,11 +64,11 @@ pub fn print_base(rt: &impl Print, alloc: Global, numbers: Numbers) -> io::Resul
         return println!(rt; "too high");
     }
     match moved(numbers.third, numbers.first, at + 12) {
-        Some(words) if words.len <= 4 => {
+        Some(moved) => {
             let room = Vec::with_capacity(alloc, 7)?;
-            print_block(rt, &base_block(numbers.first, at, &words, room))
+            print_block(rt, &base_block(numbers.first, at, &moved, room))
         }
-        _ => println!(rt; "unmovable"),
+        None => println!(rt; "unmovable"),
     }
 }
 

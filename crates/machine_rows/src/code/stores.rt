@@ -86,7 +86,7 @@ pub fn print_dropped(rt: &impl Print, alloc: Global, numbers: Numbers) -> io::Re
 /// Prints what a hart fetches at an address, inside where the second number isn't 0.
 pub fn print_fetched(rt: &impl Print, alloc: Global, numbers: Numbers) -> io::Result<()> {
     match store(alloc)?.fetch(numbers.first, numbers.second != 0) {
-        Some(marked) => print_word(rt, marked),
+        Some((word, mark)) => print_word(rt, word, mark),
         None => println!(rt; "none"),
     }
 }

@@ -10,4 +10,4 @@ returns c =
     let end = c.min-i-end.ensures in
     let slots = ap (λ (xs : List ℕ). length xs) c.as_slice-slots.ensures in
     let vars = ap (λ (xs : List Var). length xs) c.as_slice-vars.ensures in
-    sym (none_left c.args.instrument.now.slots c.args.instrument.now.vars (drop i c.args.values.now) i c.args.ticks c.loop-i.bank (least (length c.args.instrument.now.slots) (length c.args.instrument.now.vars) i (omega arith))) ∙ c.loop-i.invariant
+    sym (none_left c.args.instrument.now.slots c.args.instrument.now.vars (drop i c.args.values.now.values) i c.args.ticks c.loop-i.bank (least (length c.args.instrument.now.slots) (length c.args.instrument.now.vars) i (omega arith))) ∙ c.loop-i.invariant

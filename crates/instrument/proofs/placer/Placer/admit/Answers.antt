@@ -26,7 +26,7 @@ pub add-requires-clause-row : goal.add-requires-clause-row
 add-requires-clause-row c = subst IsRow (sym c.in_ok-instrument.ensures.instrument) (row_from c.in-Some.first c.args.plan.now.vars)
 
 pub add-requires-clause-armable : goal.add-requires-clause-armable
-add-requires-clause-armable c = subst (λ (i : Instrument). IsArmable i.placed.vars i.placed.opens) (sym c.in_ok-instrument.ensures.instrument) c.requires.armable
+add-requires-clause-armable c = subst (λ (i : Instrument). IsArmable i.placed.opens) (sym c.in_ok-instrument.ensures.instrument) c.requires.armable
 
 pub add-requires-clause-number : goal.add-requires-clause-number
 add-requires-clause-number c =

@@ -7,7 +7,7 @@ use Rattle.machine.specs.States.{Machine, leaving, settling, with_core, words_in
 use Rattle.machine.specs.Views.{core_of}
 use Rattle.machine.proofs.Packing.{few_words}
 use Rattle.machine.proofs.Settled.{settling_first, settling_step, settling_end, settled_quiet}
-use Rattle.machine.proofs.machine.Machine.settle.Goals as goal
+use Rattle.machine.proofs.machine.Machine.take_settling.Goals as goal
 
 pub words-most-requires : goal.words-most-requires
 words-most-requires c =
@@ -86,3 +86,6 @@ returns-clause-quiet c =
 
 pub returns-clause-harts : goal.returns-clause-harts
 returns-clause-harts c = c.loop-hart.invariant.many
+
+pub returns-clause-few : goal.returns-clause-few
+returns-clause-few c = c.loop-hart.invariant.less
