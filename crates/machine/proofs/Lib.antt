@@ -60,4 +60,5 @@ pub mod Calls
 pub mod Inside
 pub mod SlotLists
 pub mod LinkedSites
+pub mod IllegalStops
 pub mod Stretches
