@@ -5,7 +5,7 @@
 ghost use Rattle.std.specs.Prelude.{IfOk};
 ghost use Rattle.pn_types.specs.Images.{IsImage};
 
-use plain_run::{PlainMachine, run_schedule};
+use plain_run::PlainMachine;
 use pn_types::{HartNo, Image, NoMemory, Segment, Seq};
 use std::alloc::Global;
 use std::process::ExitCode;
@@ -33,11 +33,17 @@ fn image(alloc: Global) -> Result<Image, NoMemory>
     })
 }
 
-/// The ticks of one hart that runs the loop to the end of its budget, in quanta of 50 turns.
+/// The ticks of one hart that runs the loop to the end of its budget, by a call for each turn.
 fn run(alloc: Global, budget: u64) -> Result<u64, NoMemory> {
+    let hart = HartNo::first();
     let mut machine = PlainMachine::new(alloc, &image(alloc)?, 1, budget)?;
-    run_schedule(&mut machine, 1, 0, 50, 1_000);
-    Ok(machine.ticks(HartNo::first()))
+    for _ in 0..budget {
+        if !machine.runnable(hart) {
+            break;
+        }
+        machine.step(hart);
+    }
+    Ok(machine.ticks(hart))
 }
 
 fn budget(rt: &HostRuntime) -> Result<Option<u64>, io::Error> {

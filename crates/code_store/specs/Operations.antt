@@ -48,8 +48,8 @@ done_as d bank = stands_as d.next d.regs bank
 
 -- under a mark that reaches n doublewords the instruction does what it does in the program
 pub record RunsAlike (n : ℕ) (i : Option Instr) : Type 0 where
-  pub step : (h ticks pc : ℕ) (x : Bench) (p : Prog) → step_decoded n i ticks pc x ≡ done_as (done (exec_decoded i pc h x.regs p) x.regs p) x.bank
-  pub prog : (h pc : ℕ) (regs : List ℕ) (p : Prog) → (done (exec_decoded i pc h regs p) regs p).prog ≡ p
+  pub step : (h ticks pc : ℕ) (x : Bench) (p : Prog) → step_decoded n i ticks pc x ≡ done_as (done (exec_decoded i pc h x.regs p) x.regs) x.bank
+  pub prog : (h pc : ℕ) (regs : List ℕ) (p : Prog) → (done (exec_decoded i pc h regs p) regs).prog ≡ p
 
 -- a load of the doubleword at an address of the bank
 abbrev pub bank_loaded : ℕ → ℕ → ℕ → ℕ → Bench → Result Stood Cause

@@ -49,7 +49,7 @@ own_keeps (Stop cause) regs w home x = (refl, refl)
 
 marked_keeps : (m : Mark) (w h home : ℕ) (s : Solo) → is_own m ≡ true → ((marked_step m w h home s).hart.bank ≡ s.hart.bank) × ((marked_step m w h home s).hart.ticks ≡ s.hart.ticks + 1)
 marked_keeps Own w h home s e =
-    let d = done (exec_of w s.hart.pc h s.hart.regs s.prog) s.hart.regs s.prog in
+    let d = done (exec_of w s.hart.pc h s.hart.regs s.prog) s.hart.regs in
     let k = own_keeps d.next d.regs w home s.hart in (k.0, ap (λ n. n + 1) k.1)
 marked_keeps Enter w h home s e = absurd (true≢false (sym e))
 marked_keeps Tool w h home s e = absurd (true≢false (sym e))
@@ -130,7 +130,7 @@ module _ (i : Placed) (plan : Plan) (families ages : ℕ → ℕ) (t : Words) (g
       near : (w : ℕ) × (program_word t x.pc ≡ Some w) × (is_text_word t x.pc ≡ true) → Owes (fetched t code x)
       near r = ⊎_elim
           (λ (e : get code x.pc ≡ Some (own r.0)).
-          let n = done (exec_of r.0 x.pc h x.regs p) x.regs p in
+          let n = done (exec_of r.0 x.pc h x.regs p) x.regs in
           ticks (Some (own r.0)) (fetch_text t g budget code rows ps clock st h x y p d on (Some (own r.0)) o.outside r.2 e) refl
           (rest (own_word r.0 (ap (get code) (sym o.pc) ∙ e)) k) (inl (own_outside n.next n.regs r.0 (program_pc code rows x) x o.outside)))
           (λ (e : (b : Piece) × In b ps × IsBase b × (b.row.point ≡ x.pc) × (b.row.status ≡ Live) × Door code b).
@@ -239,7 +239,7 @@ module _ (i : Placed) (plan : Plan) (families ages : ℕ → ℕ) (t : Words) (g
       let w = s.0 in
       let by = nexts.tick_place t g budget code rows ps clock st h x y p d on b ins k.m w (is_jump (k.m).word) (exec_of w x.pc h x.regs p) (exec_of (k.m).word y.pc h y.regs p) s.3 s.5 in
       ticks (Some (own w)) s.1 refl a
-      (subst (λ o. Behind (own_step (done (exec_of w x.pc h x.regs p) x.regs p) w (program_pc code rows x) x).hart (after_done (done (plain.fetched o h y p) y.regs p) y).hart) (sym s.4)
+      (subst (λ o. Behind (own_step (done (exec_of w x.pc h x.regs p) x.regs) w (program_pc code rows x) x).hart (after_done (done (plain.fetched o h y p) y.regs) y).hart) (sym s.4)
       (⊎_elim (λ z. inl z) (λ z. inr (b, hb, bs, was, z.0, z.1)) by))
 
   leave : (b : Piece) → In b ps → IsBase b → x.inside ≡ true → AtLeave t b x y → Stand i budget v x.bank x.ticks → Owes (fetched t code x)

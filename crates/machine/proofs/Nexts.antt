@@ -198,10 +198,10 @@ module _ (t : Words) (g : Ground t) (budget : ℕ) (code : Code) (rows : List Ro
 
   -- behind a tick the hart is outside, or there
   pub tick_place : (b : Piece) → x.inside ≡ true → (m : MovedWord t b) (w : ℕ) (jumped : Bool) (o u : Outcome) → is_jump w ≡ jumped → SameStep jumped (own_place m.word) (moved_at b.row.at) m.moved o u
-      → ((own_step (done o x.regs p) w (program_pc code rows x) x).hart.inside ≡ false)
-      ⊎ (((own_step (done o x.regs p) w (program_pc code rows x) x).hart.inside ≡ true) × AtLeave t b (own_step (done o x.regs p) w (program_pc code rows x) x).hart (after_done (done u y.regs p) y).hart)
-  tick_place b i m w jumped (Stops c) u tj s = inl refl
-  tick_place b i m w jumped (Goes pc a q) (Stops c) tj s = absurd s
+      → ((own_step (done o x.regs) w (program_pc code rows x) x).hart.inside ≡ false)
+      ⊎ (((own_step (done o x.regs) w (program_pc code rows x) x).hart.inside ≡ true) × AtLeave t b (own_step (done o x.regs) w (program_pc code rows x) x).hart (after_done (done u y.regs) y).hart)
+  tick_place b i m w jumped (Stops c q) u tj s = inl refl
+  tick_place b i m w jumped (Goes pc a q) (Stops c r) tj s = absurd s
   tick_place b i m w jumped (Goes pc a q) (Goes qc e r) tj s = ⊎_elim
       (λ (k : (jumped ≡ true) × (pc ≡ qc)). let out : is_jump w ≡ true = tj ∙ k.0 in inl (grind (arith, common_steps, i, out)))
       (λ (k : (jumped ≡ false) × (j : ℕ) × (left : ℕ) × (own_place m.word < j) × (j < length m.moved) × (pc ≡ moved_at b.row.at + 4 * j) × (slice_get m.moved j ≡ Some (leave left)) × (jump_of (decode_of left) (moved_at b.row.at + 4 * j) ≡ Some qc)).

@@ -57,27 +57,27 @@ access_fits w rs1 offset o = access_fits_by w.mark (decode_of w.word) rs1 offset
 
 -- ---- a word that does what it does in the program
 
-left_at_stop : (o : Outcome) (regs : List ℕ) (p : Prog) (stop : Option Cause) (pc : ℕ) (new_regs : List ℕ) (new_p : Prog) → done o regs p ≡ record { next = next_after stop pc; regs = new_regs; prog = new_p } → (stop ≡ None) ⊎ (new_regs ≡ regs)
-left_at_stop (Stops cause) regs p stop pc new_regs new_p e = inr (sym (ap (λ (d : Done). d.regs) e))
-left_at_stop (Goes at others q) regs p None pc new_regs new_p e = inl refl
-left_at_stop (Goes at others q) regs p (Some cause) pc new_regs new_p e = let no = ap (λ (d : Done). d.next) e in absurd cc
+left_at_stop : (o : Outcome) (regs : List ℕ) (stop : Option Cause) (pc : ℕ) (new_regs : List ℕ) (new_p : Prog) → done o regs ≡ record { next = next_after stop pc; regs = new_regs; prog = new_p } → (stop ≡ None) ⊎ (new_regs ≡ regs)
+left_at_stop (Stops cause q) regs stop pc new_regs new_p e = inr (sym (ap (λ (d : Done). d.regs) e))
+left_at_stop (Goes at others q) regs None pc new_regs new_p e = inl refl
+left_at_stop (Goes at others q) regs (Some cause) pc new_regs new_p e = let no = ap (λ (d : Done). d.next) e in absurd cc
 
 stood_is : (stop : Option Cause) (pc : ℕ) (regs bank : List ℕ) → stands_as (next_after stop pc) regs bank ≡ stood_after stop pc (bench_from regs bank)
 stood_is None pc regs bank = refl
 stood_is (Some cause) pc regs bank = refl
 
 runs_other : (n word : ℕ) (flat : Flat) (h ticks pc : ℕ) (regs bank : List ℕ) (p : Prog) (stop : Option Cause) (new_pc : ℕ) (new_regs : List ℕ) (new_p : Prog) → Does n (decode_of word) (Run flat)
-    → done (exec_of word pc h regs p) regs p ≡ record { next = next_after stop new_pc; regs = new_regs; prog = new_p }
+    → done (exec_of word pc h regs p) regs ≡ record { next = next_after stop new_pc; regs = new_regs; prog = new_p }
     → PerformsOther n word ticks pc regs bank p stop new_pc new_regs bank new_p
 runs_other n word flat h ticks pc regs bank p stop new_pc new_regs new_p o e =
     record {
       step = o.2.step h ticks pc (bench_from regs bank) p ∙ (ap (λ (d : Done). done_as d bank) e ∙ stood_is stop new_pc new_regs bank);
       shares = sym (ap (λ (d : Done). d.prog) e) ∙ o.2.prog h pc regs p;
-      stays = ⊎_elim inl (λ same. inr (same, refl)) (left_at_stop (exec_of word pc h regs p) regs p stop new_pc new_regs new_p e);
+      stays = ⊎_elim inl (λ same. inr (same, refl)) (left_at_stop (exec_of word pc h regs p) regs stop new_pc new_regs new_p e);
     }
 
 runs_by : (m : Mark) (word : ℕ) (flat : Flat) (h ticks pc : ℕ) (regs bank : List ℕ) (p : Prog) (stop : Option Cause) (new_pc : ℕ) (new_regs : List ℕ) (new_p : Prog) → IsOperationBy m (decode_of word) (Run flat)
-    → done (exec_of word pc h regs p) regs p ≡ record { next = next_after stop new_pc; regs = new_regs; prog = new_p }
+    → done (exec_of word pc h regs p) regs ≡ record { next = next_after stop new_pc; regs = new_regs; prog = new_p }
     → PerformsBy m word h ticks pc regs bank p stop new_pc new_regs bank new_p
 runs_by Own word flat h ticks pc regs bank p stop new_pc new_regs new_p o e = record { does = e; keeps = refl }
 runs_by Enter word flat h ticks pc regs bank p stop new_pc new_regs new_p o e = runs_other 0 word flat h ticks pc regs bank p stop new_pc new_regs new_p o e
@@ -85,8 +85,8 @@ runs_by Tool word flat h ticks pc regs bank p stop new_pc new_regs new_p o e = r
 runs_by Leave word flat h ticks pc regs bank p stop new_pc new_regs new_p o e = runs_other 0 word flat h ticks pc regs bank p stop new_pc new_regs new_p o e
 
 pub runs : (w : MarkedWord) (flat : Flat) (h ticks pc : ℕ) (regs bank : List ℕ) (p : Prog) (stop : Option Cause) (new_pc : ℕ) (new_regs : List ℕ) (new_p : Prog) → IsOperationOf w (Run flat)
-    → done (exec_decoded (instr_of flat) pc h regs p) regs p ≡ record { next = next_after stop new_pc; regs = new_regs; prog = new_p }
+    → done (exec_decoded (instr_of flat) pc h regs p) regs ≡ record { next = next_after stop new_pc; regs = new_regs; prog = new_p }
     → Performs w h ticks pc regs bank p stop new_pc new_regs bank new_p
 runs w flat h ticks pc regs bank p stop new_pc new_regs new_p o e =
     let i = (run_fits_by w.mark (decode_of w.word) flat o).0 in
-    runs_by w.mark w.word flat h ticks pc regs bank p stop new_pc new_regs new_p o (ap (λ j. done (exec_decoded j pc h regs p) regs p) (sym i) ∙ e)
+    runs_by w.mark w.word flat h ticks pc regs bank p stop new_pc new_regs new_p o (ap (λ j. done (exec_decoded j pc h regs p) regs) (sym i) ∙ e)

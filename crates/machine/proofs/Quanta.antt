@@ -60,7 +60,7 @@ other_ticks (Ok s) m word home x = refl
 other_ticks (Err cause) m word home x = refl
 
 marked_ticks : (m : Mark) (word h home : ℕ) (s : Solo) → (marked_step m word h home s).hart.ticks ≡ cond (is_own m) (s.hart.ticks + 1) s.hart.ticks
-marked_ticks Own word h home s = let d = done (exec_of word s.hart.pc h s.hart.regs s.prog) s.hart.regs s.prog in ap (λ n. n + 1) (own_ticks d.next d.regs word home s.hart)
+marked_ticks Own word h home s = let d = done (exec_of word s.hart.pc h s.hart.regs s.prog) s.hart.regs in ap (λ n. n + 1) (own_ticks d.next d.regs word home s.hart)
 marked_ticks Enter word h home s = other_ticks (step_on (reach_of Enter) word s.hart.ticks s.hart.pc (bench_of s.hart)) Enter word home s.hart
 marked_ticks Tool word h home s = other_ticks (step_on (reach_of Tool) word s.hart.ticks s.hart.pc (bench_of s.hart)) Tool word home s.hart
 marked_ticks Leave word h home s = other_ticks (step_on (reach_of Leave) word s.hart.ticks s.hart.pc (bench_of s.hart)) Leave word home s.hart

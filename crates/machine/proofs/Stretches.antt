@@ -21,6 +21,7 @@ use Rattle.code_store.specs.Stores.{StoredCode}
 use Rattle.machine.specs.Alone.{alone_of, may_alone, turned_alone, Leads}
 use Rattle.machine.specs.declared.turning.Progress.{Progress}
 use Rattle.machine.proofs.Alone.{alone_may}
+use Rattle.machine.proofs.IllegalStops.{KeepsIfIllegal, decoded_keeps}
 use Rattle.machine.specs.Stretches.{Left, left_as, ran, HasOwn, AreRun}
 
 -- where a hart is
@@ -29,7 +30,7 @@ left pc stop regs p = record { pc = pc; stop = stop; regs = regs; prog = p }
 
 -- what the instruction at an address left
 abbrev Leaves : ℕ → Option Instr → ℕ → List ℕ → Prog → Option Cause → ℕ → List ℕ → Prog → Type 0
-Leaves h i at regs p stop pc new_regs new_p = done (exec_decoded i at h regs p) regs p ≡ record { next = next_after stop pc; regs = new_regs; prog = new_p }
+Leaves h i at regs p stop pc new_regs new_p = done (exec_decoded i at h regs p) regs ≡ record { next = next_after stop pc; regs = new_regs; prog = new_p }
 
 -- ---- one word
 
@@ -41,16 +42,17 @@ pub stops : (h : ℕ) (i : Option Instr) (at : ℕ) (regs : List ℕ) (p : Prog)
 stops h i at regs p None pc new_regs new_p e none = absurd cc
 stops h i at regs p (Some cause) pc new_regs new_p e none = sym (ap (λ d. left_as d at) e)
 
--- a stop left registers and program as they were
-stopped_by : (o : Outcome) (regs : List ℕ) (p : Prog) (cause : Cause) (pc : ℕ) (new_regs : List ℕ) (new_p : Prog) → done o regs p ≡ record { next = next_after (Some cause) pc; regs = new_regs; prog = new_p } → (new_regs ≡ regs) × (new_p ≡ p)
-stopped_by (Stops why) regs p cause pc new_regs new_p e = (sym (ap (λ (d : Done). d.regs) e), sym (ap (λ (d : Done). d.prog) e))
-stopped_by (Goes at others q) regs p cause pc new_regs new_p e = let no = ap (λ (d : Done). d.next) e in absurd cc
+stopped_by : (o : Outcome) (regs : List ℕ) (p : Prog) (pc : ℕ) (new_regs : List ℕ) (new_p : Prog) → KeepsIfIllegal p o → done o regs ≡ record { next = next_after (Some Illegal) pc; regs = new_regs; prog = new_p } → (new_regs ≡ regs) × (new_p ≡ p)
+stopped_by (Stops why q) regs p pc new_regs new_p keeps e =
+    let illegal : why ≡ Illegal = let stop = ap (λ (d : Done). d.next) e in cc in
+    (sym (ap (λ (d : Done). d.regs) e), sym (ap (λ (d : Done). d.prog) e) ∙ keeps illegal)
+stopped_by (Goes at others q) regs p pc new_regs new_p keeps e = let no = ap (λ (d : Done). d.next) e in absurd cc
 
--- so a stop that is taken back left nothing
-pub taken_back : (h : ℕ) (i : Option Instr) (at : ℕ) (regs : List ℕ) (p : Prog) (stop : Option Cause) (pc : ℕ) (new_regs : List ℕ) (new_p : Prog) → Leaves h i at regs p stop pc new_regs new_p → is_none stop ≡ false → left at None new_regs new_p ≡ left at None regs p
-taken_back h i at regs p None pc new_regs new_p e some = absurd cc
-taken_back h i at regs p (Some cause) pc new_regs new_p e some =
-    let same = stopped_by (exec_decoded i at h regs p) regs p cause pc new_regs new_p e in
+-- so a stop as illegal that is taken back left nothing
+pub taken_back : (h : ℕ) (i : Option Instr) (at : ℕ) (regs : List ℕ) (p : Prog) (stop : Option Cause) (pc : ℕ) (new_regs : List ℕ) (new_p : Prog) → Leaves h i at regs p stop pc new_regs new_p → stop ≡ Some Illegal → left at None new_regs new_p ≡ left at None regs p
+taken_back h i at regs p stop pc new_regs new_p e illegal =
+    let stops_so = subst (λ o. Leaves h i at regs p o pc new_regs new_p) illegal e in
+    let same = stopped_by (exec_decoded i at h regs p) regs p pc new_regs new_p (decoded_keeps h i at regs p) stops_so in
     ap (λ r. left at None r new_p) same.0 ∙ ap (left at None regs) same.1
 
 -- ---- a word of the list of flats
@@ -110,8 +112,8 @@ standing pc regs ticks bank p = record { hart = record { pc = pc; regs = regs; t
 abbrev pub left_standing : ℕ → List ℕ → Left → Solo
 left_standing ticks bank z = record { hart = record { pc = z.pc; regs = z.regs; ticks = ticks; stop = z.stop; inside = false; bank = bank }; prog = z.prog }
 
-own_leaves : (o : Outcome) (word pc : ℕ) (regs : List ℕ) (ticks : ℕ) (bank : List ℕ) (p : Prog) → own_step (done o regs p) word pc (standing pc regs ticks bank p).hart ≡ left_standing (ticks + 1) bank (left_as (done o regs p) pc)
-own_leaves (Stops cause) word pc regs ticks bank p = refl
+own_leaves : (o : Outcome) (word pc : ℕ) (regs : List ℕ) (ticks : ℕ) (bank : List ℕ) (p : Prog) → own_step (done o regs) word pc (standing pc regs ticks bank p).hart ≡ left_standing (ticks + 1) bank (left_as (done o regs) pc)
+own_leaves (Stops cause q) word pc regs ticks bank p = refl
 own_leaves (Goes at others q) word pc regs ticks bank p = refl
 
 marked_leaves : (h : ℕ) (m : Mark) (word : ℕ) (i : Option Instr) (pc : ℕ) (regs : List ℕ) (ticks : ℕ) (bank : List ℕ) (p : Prog) → m ≡ Own → decode_of word ≡ i → marked_step m word h pc (standing pc regs ticks bank p) ≡ left_standing (ticks + 1) bank (ran h i pc regs p)

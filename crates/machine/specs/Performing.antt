@@ -24,7 +24,7 @@ bench_from regs bank = record { regs = regs; bank = bank }
 
 -- what a word of the program leaves
 pub record PerformsOwn (word h pc : ℕ) (regs bank : List ℕ) (p : Prog) (stop : Option Cause) (new_pc : ℕ) (new_regs new_bank : List ℕ) (new_p : Prog) : Type 0 where
-  pub does : done (exec_of word pc h regs p) regs p ≡ record { next = next_after stop new_pc; regs = new_regs; prog = new_p }
+  pub does : done (exec_of word pc h regs p) regs ≡ record { next = next_after stop new_pc; regs = new_regs; prog = new_p }
   pub keeps : new_bank ≡ bank
 
 -- what another word leaves that reaches n doublewords

@@ -27,7 +27,7 @@ left_as d at = left_by d.next at d.regs d.prog
 
 -- hart h runs an instruction; where it stops, it stands where it stood
 abbrev pub ran : ℕ → Option Instr → ℕ → List ℕ → Prog → Left
-ran h i pc regs p = left_as (done (exec_decoded i pc h regs p) regs p) pc
+ran h i pc regs p = left_as (done (exec_decoded i pc h regs p) regs) pc
 
 -- the instruction of a word of the program
 abbrev pub HasOwn : Option MarkedWord → (Option Instr → Type 0) → Type 0

@@ -54,7 +54,7 @@ pub record State : Type 0 where
   pub prog : Prog
 
 abbrev pub gone : Outcome → Option State
-gone (Stops cause) = None
+gone (Stops cause prog) = None
 gone (Goes pc regs prog) = Some (record { pc = pc; regs = regs; prog = prog })
 
 -- the load that reserves what an atomic instruction accesses

@@ -1,9 +1,8 @@
 -- The harts in a list, as the definitions have them.
-use Rattle.std.proofs.Common.{◌≡◌, ℕ, zero, suc, ◌+◌, ◌-◌, ◌<◌, List, [], ◌∷◌, ◌++◌, length, get_or, set, Some, refl, ap, sym, ◌∙◌, arith, Option}
-use Rattle.std.specs.Prelude.{slice_get, slice_set, IsTrue, Bool, ◌&&◌}
-use Rattle.std.proofs.lemmas.Bool.{ltb-true}
+use Rattle.std.proofs.Common.{◌≡◌, ℕ, zero, suc, ◌+◌, ◌-◌, ◌<◌, List, [], ◌∷◌, ◌++◌, length, get_or, set, Some, refl, ap, sym, ◌∙◌, arith}
+use Rattle.std.specs.Prelude.{slice_get, slice_set}
 use Rattle.pn_types.specs.declared.image.Image.{Image}
-use Rattle.rv_word.specs.Plain.{PlainHart, may_go}
+use Rattle.rv_word.specs.Plain.{PlainHart}
 use Rattle.rv_exec.specs.Start.{start_hart, harts_from}
 use Rattle.plain_run.specs.declared.hart.HartState.{HartState}
 use Rattle.plain_run.specs.Views.{hart_of, harts_of}
@@ -34,10 +33,3 @@ hart_step hs new y image n h l e is =
     ∙ harts_of-push hs y (harts_from (n - (h + 1)) (h + 1) image n)
     ∙ ap (λ z. harts_of hs ++ z ∷ harts_from (n - (h + 1)) (h + 1) image n) is
     ∙ ap (λ j. harts_of hs ++ harts_from j h image n) k
-
-both : (a b : Bool) → IsTrue (a && b) → IsTrue b
-both a b h = grind arith
-
--- a hart that may go on has fewer ticks than the budget
-pub ticks_below : (o : Option PlainHart) (x : PlainHart) (budget : ℕ) → o ≡ Some x → IsTrue (may_go o budget) → x.ticks < budget
-ticks_below o x budget e h = ltb-true x.ticks budget (grind arith)

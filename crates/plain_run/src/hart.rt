@@ -1,7 +1,6 @@
-ghost use Rattle.std.specs.Prelude.{◌≡◌, ◌*◌, ◌<◌, ◌^◌, ◌+◌, Some, length};
-ghost use Rattle.rv_word.specs.Plain.{may_go};
+ghost use Rattle.std.specs.Prelude.{◌≡◌, ◌*◌, ◌<◌, ◌^◌, ◌+◌, None, Some, length};
+ghost use Rattle.rv_word.specs.Plain.{may_go, turn_alone};
 ghost use Rattle.plain_run.specs.Views.{hart_of, alone_of};
-ghost use Rattle.plain_run.specs.Alone.{TakesAlone};
 
 use crate::program::{place_of, word_at};
 use pn_types::HartNo;
@@ -25,56 +24,43 @@ impl HartState {
     {
         self.stop.is_none() && self.ticks < budget
     }
-}
 
-/// Turns of a hart by itself, at most `most`, until it is stopped or has the budget's ticks. It answers how many.
-pub fn take_turns(
-    hart: &mut HartState,
-    number: HartNo,
-    words: &[Decoded],
-    text_at: u64,
-    budget: u64,
-    most: u32,
-    mem: &mut Mem,
-    resv: &mut Reservations,
-    out: &mut Output,
-) -> u32
-    requires hart { number < length resv.old }
-    requires ends { text_at + 4 * length words.now < 2 ^ 64 }
-    ensures taken { TakesAlone (record { at = text_at; words = words.now }) number budget most (alone_of hart.old mem.old resv.old out.old) (alone_of hart.new mem.new resv.new out.new) result }
-    ensures harts { length resv.new ≡ length resv.old }
-{
-    if !hart.may_go(budget) {
-        return 0;
-    }
-    let ticks = hart.ticks;
-    let limit = (budget - ticks).min(most as u64);
-    let mut pc = hart.pc;
-    for turns in 0..limit as u32 {
-        let at = pc;
-        let i = place_of(text_at, at);
-        if i >= words.len() as u64 {
-            hart.pc = at;
-            hart.ticks = ticks + turns as u64 + 1;
-            hart.stop = Some(Cause::FetchOutside);
-            return turns + 1;
+    /// One turn of the hart by itself, which isn't stopped: its word is executed, or it stops where no word is.
+    pub fn turn(
+        &mut self,
+        number: HartNo,
+        words: &[Decoded],
+        text_at: u64,
+        mem: &mut Mem,
+        resv: &mut Reservations,
+        out: &mut Output,
+    )
+        requires hart { number < length resv.old }
+        requires stop { self.old.stop ≡ None }
+        requires ticks { self.old.ticks + 1 < 2 ^ 64 }
+        requires ends { text_at + 4 * length words.now < 2 ^ 64 }
+        ensures turn { alone_of self.new mem.new resv.new out.new ≡ turn_alone (record { at = text_at; words = words.now }) number (alone_of self.old mem.old resv.old out.old) }
+        ensures harts { length resv.new ≡ length resv.old }
+    {
+        self.ticks += 1;
+        let at = self.pc;
+        let place = place_of(text_at, at);
+        if place >= words.len() as u64 {
+            self.stop = Some(Cause::FetchOutside);
+            return;
         }
-        let word = word_at(words, i, text_at, at);
-        if !word.run(
+        let word = word_at(words, place, text_at, at);
+        let goes = word.run(
             number,
-            &mut pc,
-            &mut hart.stop,
-            &mut hart.regs,
+            &mut self.pc,
+            &mut self.stop,
+            &mut self.regs,
             mem,
             resv,
             out,
-        ) {
-            hart.pc = at;
-            hart.ticks = ticks + turns as u64 + 1;
-            return turns + 1;
+        );
+        if !goes {
+            self.pc = at;
         }
     }
-    hart.pc = pc;
-    hart.ticks = ticks + limit;
-    limit as u32
 }

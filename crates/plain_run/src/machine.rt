@@ -1,16 +1,13 @@
-ghost use Rattle.std.specs.Prelude.{◌≡◌, ◌<◌, ◌≤◌, ◌==◌, not, if◌then◌else◌, IfOk, IsTrue, Some, length, slice_get};
-ghost use Rattle.std.specs.List.{filter};
+ghost use Rattle.std.specs.Prelude.{◌≡◌, ◌<◌, ◌≤◌, IfOk, IsTrue, Some, length, slice_get};
 ghost use Rattle.std.specs.Option.{option_map};
 ghost use Rattle.pn_types.specs.Images.{IsImage};
-ghost use Rattle.rv_word.specs.Plain.{can, may_go};
+ghost use Rattle.rv_word.specs.Plain.{can};
 ghost use Rattle.rv_mem.specs.Start.{program_of};
 ghost use Rattle.rv_exec.specs.Start.{start, harts_from};
-ghost use Rattle.turn_order.specs.Orders.{ready_of};
-ghost use Rattle.plain_run.specs.Views.{hart_of, harts_of, ready_harts};
+ghost use Rattle.plain_run.specs.Views.{harts_of};
 ghost use Rattle.plain_run.specs.Machines.{turned};
-ghost use Rattle.plain_run.specs.Scheduled.{TakesQuantum};
 
-use crate::hart::{HartState, take_turns};
+use crate::hart::HartState;
 use crate::program::words;
 use pn_types::{HartNo, Image, MAX_HARTS, NoMemory};
 use rv_exec::{Decoded, Output, Regs, Reservations};
@@ -18,7 +15,6 @@ use rv_mem::Mem;
 use rv_word::Cause;
 use std::alloc::Global;
 use std::marker::Model;
-use turn_order::Ready;
 
 /// A program on its harts, each of which has a budget of ticks. Contracts see the program's words, the budget and the
 /// state of the unpatched machine.
@@ -30,8 +26,6 @@ pub struct PlainMachine {
     text_at: u64,
     words: Vec<Decoded>,
     budget: u64,
-    /// The harts that can take a turn.
-    ready: Ready,
 }
 
 impl Model for PlainMachine {
@@ -39,7 +33,7 @@ impl Model for PlainMachine {
     ghost use Rattle.rv_word.specs.Exec.{prog_of};
     ghost use Rattle.plain_run.specs.Machines.{Machine};
     ghost use Rattle.plain_run.specs.Codes.{machine_code};
-    ghost use Rattle.plain_run.specs.Views.{harts_of, ready_harts};
+    ghost use Rattle.plain_run.specs.Views.{harts_of};
 
     ghost Value = { Machine };
 
@@ -47,7 +41,7 @@ impl Model for PlainMachine {
 
     ghost view = { λ m. record { program = record { at = m.text_at; words = m.words.items }; budget = m.budget; state = record { harts = harts_of m.harts.items; prog = prog_of m.mem m.resv m.out } } };
 
-    ghost invariant = { λ m. (length m.resv ≡ length m.harts.items) × (m.text_at + 4 * length m.words.items < 2 ^ 64) × (m.ready ≡ ready_harts m.budget m.harts.items) };
+    ghost invariant = { λ m. (length m.resv ≡ length m.harts.items) × (m.text_at + 4 * length m.words.items < 2 ^ 64) };
 }
 
 // By a call of its own: what drops it need not prove the drops of all its parts.
@@ -61,7 +55,6 @@ impl Drop for PlainMachine {
             text_at: _,
             words: _,
             budget: _,
-            ready: _,
         } = self;
     }
 }
@@ -84,30 +77,6 @@ fn first_harts(alloc: Global, image: &Image, harts: u32) -> Result<Vec<HartState
     Ok(states)
 }
 
-/// The harts that can take a turn.
-fn ready(alloc: Global, harts: &Vec<HartState>, budget: u64) -> Result<Ready, NoMemory>
-    requires { length harts.now.items ≤ MAX_HARTS }
-    ensures { IfOk result (λ ready. ready ≡ ready_harts budget harts.now.items) }
-{
-    let mut ready = Ready::new(alloc);
-    for number in 0..harts.len() {
-        if !harts[number].may_go(budget) {
-            continue;
-        }
-        ready.push(HartNo::numbered(number as u32))?;
-    }
-    Ok(ready)
-}
-
-/// Takes out a hart that can take no more turns.
-fn keep_ready(ready: &mut Ready, hart: HartNo, state: &HartState, budget: u64)
-    ensures { ready.new ≡ (if may_go (Some (hart_of state.now)) budget then ready.old else filter (λ h. not (h == hart)) ready.old) }
-{
-    if !state.may_go(budget) {
-        ready.remove(hart);
-    }
-}
-
 impl PlainMachine {
     /// The machine in which an image starts, on so many harts and with so many ticks for each.
     pub fn new(
@@ -122,7 +91,6 @@ impl PlainMachine {
     {
         let words = words(alloc, image.text_bytes())?;
         let states = first_harts(alloc, image, harts)?;
-        let ready = ready(alloc, &states, budget)?;
         Ok(PlainMachine {
             harts: states,
             mem: Mem::new(alloc, image, harts)?,
@@ -131,7 +99,6 @@ impl PlainMachine {
             text_at: image.text_at,
             words,
             budget,
-            ready,
         })
     }
 
@@ -147,38 +114,17 @@ impl PlainMachine {
     pub fn step(&mut self, hart: HartNo)
         requires hart { hart < length self.old.state.harts }
         requires runnable { IsTrue (can self.old.budget self.old.state hart) }
-        ensures { self.new ≡ turned self.old hart }
-    {
-        self.take_turns(hart, 1);
-    }
-
-    /// The harts that can take a turn.
-    pub(crate) fn ready(&self) -> &Ready
-        ensures { result.now ≡ ready_of (can self.now.budget self.now.state) (length self.now.state.harts) }
-    {
-        &self.ready
-    }
-
-    /// Turns of the hart, at most `most`, until it can take no more. It answers how many.
-    pub(crate) fn take_turns(&mut self, hart: HartNo, most: u32) -> u32
-        requires { hart < length self.old.state.harts }
-        ensures taken { TakesQuantum self.old self.new hart most result }
+        ensures turn { self.new ≡ turned self.old hart }
         ensures harts { length self.new.state.harts ≡ length self.old.state.harts }
     {
-        let state = &mut self.harts[hart.get() as usize];
-        let turns = take_turns(
-            state,
+        self.harts[hart.get() as usize].turn(
             hart,
             &self.words,
             self.text_at,
-            self.budget,
-            most,
             &mut self.mem,
             &mut self.resv,
             &mut self.out,
         );
-        keep_ready(&mut self.ready, hart, state, self.budget);
-        turns
     }
 
     /// How many words the hart executed.

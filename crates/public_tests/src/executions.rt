@@ -9,19 +9,25 @@ use std::alloc::Global;
 /// The data of the image.
 const DATA: u64 = 0x1_0010;
 
-/// `lr.w a0, (a1)`, `sc.w a2, a0, (a1)`, `ld a3, 0(a1)` and `jalr a4, 2(x0)`.
-const WORDS: [u32; 4] = [0x1005_a52f, 0x18a5_a62f, 0x0005_b683, 0x0020_0767];
+/// `lr.w a0, (a1)`, `sc.w a2, a0, (a1)`, `ld a3, 0(a1)`, `jalr a4, 2(x0)` and `sc.d a2, a0, (a1)`.
+const WORDS: [u32; 5] = [
+    0x1005_a52f,
+    0x18a5_a62f,
+    0x0005_b683,
+    0x0020_0767,
+    0x18a5_b62f,
+];
 
-/// What the words lead to, one behind the other; whether the hart has the reservation of the data behind each of the first two; and
-/// the registers that they name first.
-fn execute_words(alloc: Global) -> Result<([Next; 4], [bool; 2], [u64; 4]), NoMemory> {
+/// What the words lead to, one behind the other; whether the hart has the reservation of the data behind each of the first two, and
+/// behind the last, which finds it, but an address that is no multiple of 8; and the registers that the first four name first.
+fn execute_words(alloc: Global) -> Result<([Next; 5], [bool; 3], [u64; 4]), NoMemory> {
     let hart = HartNo::first();
     let mut mem = Mem::new(alloc, &image(alloc)?, 1)?;
     let mut resv = Reservations::new(alloc, 1)?;
     let mut out = Output::new(alloc)?;
     let mut regs = Regs::new();
     regs.set(11, DATA);
-    let [first, second, third, fourth] = WORDS;
+    let [first, second, third, fourth, fifth] = WORDS;
     let first = exec(
         first, 0x1_0000, hart, &mut regs, &mut mem, &mut resv, &mut out,
     );
@@ -36,9 +42,15 @@ fn execute_words(alloc: Global) -> Result<([Next; 4], [bool; 2], [u64; 4]), NoMe
     let fourth = exec(
         fourth, 0x1_000c, hart, &mut regs, &mut mem, &mut resv, &mut out,
     );
+    resv.set(hart, Some(DATA / 8));
+    regs.set(11, DATA + 4);
+    let fifth = exec(
+        fifth, 0x1_0010, hart, &mut regs, &mut mem, &mut resv, &mut out,
+    );
+    let behind_fifth = resv.has(hart, DATA / 8);
     Ok((
-        [first, second, third, fourth],
-        [behind_first, behind_second],
+        [first, second, third, fourth, fifth],
+        [behind_first, behind_second, behind_fifth],
         [regs.get(10), regs.get(12), regs.get(13), regs.get(14)],
     ))
 }
@@ -50,12 +62,13 @@ fn executes_words_in_turn(rt: HostRuntime) {
         Next::Go(0x1_0008),
         Next::Go(0x1_000c),
         Next::Stop(Cause::Misaligned),
+        Next::Stop(Cause::Misaligned),
     ];
     let registers = [0x0403_0201, 0, 0x0807_0605_0403_0201, 0];
     compare(
         &rt,
         execute_words(rt.alloc()),
-        Ok((next, [true, false], registers)),
+        Ok((next, [true, false, false], registers)),
     );
 }
 

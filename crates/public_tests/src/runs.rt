@@ -1,30 +1,53 @@
+ghost use Rattle.std.specs.Prelude.{◌≡◌, ◌<◌, length};
+
 use crate::comparison::compare;
 use crate::images::image;
-use plain_run::{PlainMachine, run_schedule};
+use plain_run::PlainMachine;
 use pn_types::{HartNo, NoMemory};
 use rv_word::Cause;
 use std::alloc::Global;
 use turn_order::{Order, Ready, generated};
 
-/// Whether the second of two harts may go before a run and behind it; the run's samples; and the hart's ticks, its stop and where it
-/// stands, and the bytes of the output, at the end.
-fn run_two(alloc: Global) -> Result<([bool; 2], u64, u64, Option<Cause>, u64, usize), NoMemory> {
+/// One turn of the hart, if it can take one. It answers whether it could.
+fn take_turn(machine: &mut PlainMachine, hart: HartNo) -> bool
+    requires { hart < length machine.old.state.harts }
+    ensures { length machine.new.state.harts ≡ length machine.old.state.harts }
+{
+    let may = machine.runnable(hart);
+    if may {
+        machine.step(hart);
+    }
+    may
+}
+
+/// Which of four turns the second of two harts can take; and its ticks, its stop and where it stands, and the bytes of the output,
+/// at the end.
+fn run_second(alloc: Global) -> Result<([bool; 4], u64, Option<Cause>, u64, usize), NoMemory> {
     let mut machine = PlainMachine::new(alloc, &image(alloc)?, 2, 100)?;
     let last = HartNo::numbered(1);
-    let before = machine.runnable(last);
-    let samples = run_schedule(&mut machine, 2, 0, 2, 4);
-    let behind = machine.runnable(last);
+    let taken = [
+        take_turn(&mut machine, last),
+        take_turn(&mut machine, last),
+        take_turn(&mut machine, last),
+        take_turn(&mut machine, last),
+    ];
     let (ticks, stop, at) = (machine.ticks(last), machine.stop(last), machine.at(last));
     let len = machine.output().len();
-    Ok(([before, behind], samples, ticks, stop, at, len))
+    Ok((taken, ticks, stop, at, len))
 }
 
 #[test]
 fn runs_to_the_exit(rt: HostRuntime) {
     compare(
         &rt,
-        run_two(rt.alloc()),
-        Ok(([true, false], 2, 3, Some(Cause::Exit(7)), 0x1_0008, 0)),
+        run_second(rt.alloc()),
+        Ok((
+            [true, true, true, false],
+            3,
+            Some(Cause::Exit(7)),
+            0x1_0008,
+            0,
+        )),
     );
 }
 

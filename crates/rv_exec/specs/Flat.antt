@@ -1,4 +1,4 @@
--- For proofs alone: the instruction of a variant for each operation.
+-- The instruction of a variant for each operation.
 use Rattle.std.specs.Prelude.{Option, Some, None}
 use Rattle.rv_word.specs.declared.instr.BranchOp.TheVariants as branch
 use Rattle.rv_word.specs.declared.instr.LoadOp.TheVariants as load
@@ -82,9 +82,3 @@ instr_of flat.Ebreak = Some Ebreak
 instr_of (flat.Lr width rd rs1 order) = Some (Lr width rd rs1 order)
 instr_of (flat.Sc width rd rs1 rs2 order) = Some (Sc width rd rs1 rs2 order)
 instr_of (flat.Amo op width rd rs1 rs2 order) = Some (Amo op width rd rs1 rs2 order)
-
-abbrev pub IsAtomicAccess : Flat → Type 0
-IsAtomicAccess (flat.Lr width rd rs1 order) = Unit {0}
-IsAtomicAccess (flat.Sc width rd rs1 rs2 order) = Unit {0}
-IsAtomicAccess (flat.Amo op width rd rs1 rs2 order) = Unit {0}
-IsAtomicAccess f = ⊥

@@ -9,7 +9,7 @@ use Rattle.rv_word.specs.declared.outcome.Next.TheVariants.{Go, Stop}
 -- The outcome of a word that a hart with these registers executes leaves these other ones, and what all share, and says
 -- how the hart goes on. Each hart keeps its place among the reservations.
 pub record Gives (outcome : Outcome) (regs : List ℕ) (prog : Prog) (next : Next) (new_regs : List ℕ) (new_prog : Prog) : Type 0 where
-  pub state : done outcome regs prog ≡ record { next = next; regs = new_regs; prog = new_prog }
+  pub state : done outcome regs ≡ record { next = next; regs = new_regs; prog = new_prog }
   pub harts : length new_prog.resv ≡ length prog.resv
 
 -- how a hart goes on, from the cause of its stop and its pc

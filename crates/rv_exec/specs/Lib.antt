@@ -4,3 +4,4 @@ pub mod Gives
 pub mod Unreserved
 pub mod Flat
 pub mod Codes
+pub mod AtomicAccesses

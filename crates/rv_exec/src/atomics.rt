@@ -6,7 +6,8 @@ ghost use Rattle.rv_word.specs.Memory.{load};
 ghost use Rattle.rv_word.specs.Values.{atomic_len, answered, less_signed, less_unsigned, left_by};
 ghost use Rattle.rv_word.specs.Words.{HasWord};
 ghost use Rattle.rv_word.specs.declared.action.Action.TheVariants.{LoadReserved, StoreConditional, AtomicAccess};
-ghost use Rattle.rv_exec.specs.Flat.{instr_of, IsAtomicAccess};
+ghost use Rattle.rv_exec.specs.AtomicAccesses.{IsAtomicAccess};
+ghost use Rattle.rv_exec.specs.Flat.{instr_of};
 ghost use Rattle.rv_exec.specs.Gives.{Gives, answering, next_after};
 
 use crate::flat::Flat;
@@ -86,7 +87,7 @@ fn read(width: AtomicWidth, at: u64, mem: &Mem) -> Result<u64, Cause>
     ensures aligned { IfOk result (λ n. at % atomic_len width ≡ 0) }
     ensures value { IfOk result (λ n. load (atomic_len width) mem.now at ≡ Ok n) }
     ensures bound { IfOk result (λ n. n < 256 ^ atomic_len width) }
-    ensures refused { IfErr result (λ cause. (resv : List (Option ℕ)) (out : List ℕ) (f : ℕ → Outcome) → atomic width at (prog_of mem.now resv out) f ≡ Stops cause) }
+    ensures refused { IfErr result (λ cause. (resv : List (Option ℕ)) (out : List ℕ) (f : ℕ → Outcome) → atomic width at (prog_of mem.now resv out) f ≡ Stops cause (prog_of mem.now resv out)) }
 {
     let n = atomic_width(width);
     if at % n as u64 != 0 {
@@ -109,14 +110,14 @@ fn load_reserved(
 ) -> Result<u64, Cause>
     requires { hart < length resv.old }
     ensures harts { length resv.new ≡ length resv.old }
-    ensures value { (rd pc : ℕ) (regs out : List ℕ) → done (perform hart (LoadReserved width rd at) pc regs (prog_of mem.now resv.old out)) regs (prog_of mem.now resv.old out) ≡ answering result rd pc regs (prog_of mem.now resv.new out) }
+    ensures value { (rd pc : ℕ) (regs out : List ℕ) → done (perform hart (LoadReserved width rd at) pc regs (prog_of mem.now resv.old out)) regs ≡ answering result rd pc regs (prog_of mem.now resv.new out) }
 {
     let old = read(width, at, mem)?;
     resv.set(hart, Some(at / 8));
     Ok(answer(width, old))
 }
 
-/// An SC. It answers 0 where it stored, and 1 where the hart had no reservation.
+/// An SC. It clears the hart's reservation, also where it stops. It answers 0 where it stored, and 1 where the hart had no reservation.
 #[tactic(auto, unfolding(rv_word::specs::Exec::perform))]
 fn store_conditional(
     width: AtomicWidth,
@@ -128,17 +129,17 @@ fn store_conditional(
 ) -> Result<u64, Cause>
     requires { hart < length resv.old }
     ensures harts { length resv.new ≡ length resv.old }
-    ensures value { (rd pc : ℕ) (regs out : List ℕ) → done (perform hart (StoreConditional width rd at value) pc regs (prog_of mem.old resv.old out)) regs (prog_of mem.old resv.old out) ≡ answering result rd pc regs (prog_of mem.new resv.new out) }
+    ensures value { (rd pc : ℕ) (regs out : List ℕ) → done (perform hart (StoreConditional width rd at value) pc regs (prog_of mem.old resv.old out)) regs ≡ answering result rd pc regs (prog_of mem.new resv.new out) }
 {
+    let has_reserved = resv.has(hart, at / 8);
+    resv.set(hart, None);
     read(width, at, mem)?;
-    if !resv.has(hart, at / 8) {
-        resv.set(hart, None);
+    if !has_reserved {
         return Ok(1);
     }
     match mem.store(at, atomic_width(width), value) {
         Ok(()) => {
             resv.break_others(hart, at / 8, at / 8);
-            resv.set(hart, None);
             Ok(0)
         }
         Err(e) => Err(cause_of(e)),
@@ -158,7 +159,7 @@ fn amo(
 ) -> Result<u64, Cause>
     requires { hart < length resv.old }
     ensures harts { length resv.new ≡ length resv.old }
-    ensures value { (rd pc : ℕ) (regs out : List ℕ) → done (perform hart (AtomicAccess op width rd at value) pc regs (prog_of mem.old resv.old out)) regs (prog_of mem.old resv.old out) ≡ answering result rd pc regs (prog_of mem.new resv.new out) }
+    ensures value { (rd pc : ℕ) (regs out : List ℕ) → done (perform hart (AtomicAccess op width rd at value) pc regs (prog_of mem.old resv.old out)) regs ≡ answering result rd pc regs (prog_of mem.new resv.new out) }
 {
     let old = read(width, at, mem)?;
     match mem.store(at, atomic_width(width), amo_result(op, width, old, value)) {

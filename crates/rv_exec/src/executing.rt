@@ -10,8 +10,8 @@ use pn_types::HartNo;
 use rv_mem::Mem;
 use rv_word::Next;
 
-/// Executes one word at pc, by a hart. A word outside the table of instructions stops it as illegal; a stop changes
-/// nothing. It takes no memory.
+/// Executes one word at pc, by a hart. A word outside the table of instructions stops it as illegal. A stop changes nothing, but
+/// that an SC clears the hart's reservation also where it stops. It takes no memory.
 pub fn exec(
     word: u32,
     pc: u64,

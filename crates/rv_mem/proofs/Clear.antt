@@ -42,16 +42,6 @@ range_in text_at text_len rs ws a n i place r h w is e =
       first = λ j d q lt g l. k.first j d q lt (omega arith) (omega arith);
     }
 
--- a region that has the bytes of a window begins at or before them
-pub begins_in : (text_at text_len : ℕ) (rs : List Region) (ws : List Window) (a n i : ℕ) (d : Region) → AreClear text_at text_len rs ws → HasWindow ws a n i → (get_or rs i d).at ≤ a
-begins_in text_at text_len rs ws a n i d h w =
-    let some : 0 < n = w.some in
-    let ends : a + n ≤ w.window.to = w.ends in
-    (h i w.window w.is).begins d a w.begins (omega arith)
-
-pub listed_in : (text_at text_len : ℕ) (rs : List Region) (ws : List Window) (a n i : ℕ) → AreClear text_at text_len rs ws → HasWindow ws a n i → i < length rs
-listed_in text_at text_len rs ws a n i h w = (h i w.window w.is).listed
-
 pub apart_in : (text_at text_len : ℕ) (rs : List Region) (ws : List Window) (a n i : ℕ) → AreClear text_at text_len rs ws → HasWindow ws a n i → (q : ℕ) → a ≤ q → q < a + n → in_range text_at text_len q ≡ false
 apart_in text_at text_len rs ws a n i h w q g l =
     let begins : w.window.from ≤ a = w.begins in

@@ -5,8 +5,8 @@ use Rattle.rv_mem.specs.declared.region.Region.{Region}
 use Rattle.pn_types.specs.declared.image.Segment.{Segment}
 use Rattle.std.specs.List.{AllByRecursion}
 use Rattle.pn_types.specs.Images.{IsSegment}
-use Rattle.rv_mem.specs.Regions.{entries_of, parts_of}
-use Rattle.rv_mem.specs.Start.{region_part, segment_part, segment_parts, heap_part, stack_part, stack_parts}
+use Rattle.rv_mem.specs.Regions.{entries_of, parts_of, region_part}
+use Rattle.rv_mem.specs.Start.{segment_part, segment_parts, heap_part, stack_part, stack_parts}
 
 pub entries_of-flat : (rs : List Region) → entries_of rs ≡ flat (parts_of rs)
 entries_of-flat [] = refl

@@ -1,4 +1,4 @@
--- What regions of bytes hold. Where several have an address, the first counts.
+-- For proofs alone: what regions of bytes hold. Where several have an address, the first counts.
 use Rattle.std.specs.Prelude.{ℕ, zero, suc, ◌≡◌, ◌<◌, ◌≤◌, ◌+◌, ◌*◌, ◌-◌, ◌/◌, ◌%◌, nat_eq, nat_lt, nat_le, if◌then◌else◌, List, [], ◌∷◌, ◌++◌, length, slice_index, slice_index_or, slice_set, Option, Some, None}
 use Rattle.rv_word.specs.Memory.{numbered}
 use Rattle.rv_mem.specs.declared.region.Region.{Region}
@@ -27,10 +27,13 @@ abbrev pub entries_of : List Region → List (ℕ × ℕ)
 entries_of [] = []
 entries_of (r ∷ rs) = numbered r.at r.bytes.items ++ entries_of rs
 
--- the regions as parts of memory, an address and the bytes from there
+-- a region as a part of memory, an address and the bytes from there
+abbrev pub region_part : Region → ℕ × List ℕ
+region_part r = (r.at, r.bytes.items)
+
 abbrev pub parts_of : List Region → List (ℕ × List ℕ)
 parts_of [] = []
-parts_of (r ∷ rs) = (r.at, r.bytes.items) ∷ parts_of rs
+parts_of (r ∷ rs) = region_part r ∷ parts_of rs
 
 -- the number in n bytes of a list from place i, the lowest first
 abbrev pub little_endian : ℕ → List ℕ → ℕ → ℕ

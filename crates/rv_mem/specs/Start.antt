@@ -2,8 +2,6 @@
 use Rattle.std.specs.Prelude.{ℕ, zero, suc, ◌+◌, ◌-◌, ◌*◌, List, [], ◌∷◌, ◌++◌, length, replicate}
 use Rattle.rv_word.specs.Memory.{Memory, memory_of}
 use Rattle.rv_word.specs.Plain.{Words, words_from}
-use Rattle.rv_mem.specs.declared.start.TheConstants.{HEAP_AT, HEAP_LEN, FIRST_STACK_AT, STACK_DISTANCE, STACK_LEN}
-use Rattle.rv_mem.specs.declared.region.Region.{Region}
 use Rattle.pn_types.specs.declared.image.Segment.{Segment}
 use Rattle.pn_types.specs.declared.image.Image.{Image}
 use Rattle.pn_types.specs.Images.{text_of}
@@ -14,25 +12,21 @@ program_of image = words_from image.text_at (text_of image)
 
 -- the first address of the heap
 abbrev pub heap_at : ℕ
-heap_at = HEAP_AT
+heap_at = 0x60000000
 
 -- the length of the heap in bytes; no proof counts up to it
 unfoldable pub heap_len : ℕ
-heap_len = HEAP_LEN
+heap_len = 1048576
 
 -- the first address of the stack of hart h
 abbrev pub stack_at : ℕ → ℕ
-stack_at h = FIRST_STACK_AT + h * STACK_DISTANCE
+stack_at h = 0x70000000 + h * 0x20000
 
 -- the length of a stack in bytes; no proof counts up to it
 unfoldable pub stack_len : ℕ
-stack_len = STACK_LEN
+stack_len = 65536
 
--- a region as a part of memory, an address and the bytes from there
-abbrev pub region_part : Region → ℕ × List ℕ
-region_part r = (r.at, r.bytes.items)
-
--- a segment as a part of memory: its bytes, then zeros to its size
+-- a segment as a part of memory, its address and the bytes from there: its own, then zeros to its size
 abbrev pub segment_part : Segment → ℕ × List ℕ
 segment_part s = (s.at, s.bytes ++ replicate (s.size - length s.bytes) 0)
 

@@ -1,4 +1,4 @@
--- Windows: parts of regions in which an access needs one test alone.
+-- For proofs alone: windows, which are parts of regions in which an access needs one test alone.
 use Rattle.std.specs.Prelude.{ℕ, ◌≡◌, ◌<◌, ◌≤◌, ◌+◌, ◌^◌, List, length, slice_get, slice_index_or, Some, None, false}
 use Rattle.rv_word.specs.Memory.{in_range}
 use Rattle.rv_mem.specs.Regions.{place_of}

@@ -1,6 +1,7 @@
 ghost use Rattle.std.specs.Prelude.{◌≡◌, ◌≤◌, IfOk, length, replicate};
 ghost use Rattle.pn_types.specs.Images.{IsImage};
-ghost use Rattle.rv_mem.specs.Start.{region_part, segment_part, start_memory, heap_len, stack_len};
+ghost use Rattle.rv_mem.specs.Regions.{region_part};
+ghost use Rattle.rv_mem.specs.Start.{segment_part, start_memory, heap_len, stack_len};
 
 use crate::mem::Mem;
 use crate::region::Region;

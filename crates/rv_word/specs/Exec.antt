@@ -23,9 +23,9 @@ pub record Prog : Type 0 where
   pub resv : List (Option ℕ)
   pub out : List ℕ
 
--- what a word leads to; a stop changes nothing
+-- what a word leads to; a stop leaves the registers as they are
 pub data Outcome : Type 0 where
-  Stops : (cause : Cause) → Outcome
+  Stops : (cause : Cause) (prog : Prog) → Outcome
   Goes : (pc : ℕ) (regs : List ℕ) (prog : Prog) → Outcome
 
 -- ---- what an instruction asks
@@ -107,9 +107,9 @@ abbrev pub stop_of : MemStop → Cause
 stop_of (Unmapped a) = Access a
 stop_of (InText a) = TextAccess a
 
-abbrev pub or_stop : {A : Type 0} → Result A MemStop → (A → Outcome) → Outcome
-or_stop (Ok x) f = f x
-or_stop (Err e) f = Stops (stop_of e)
+abbrev pub or_stop : {A : Type 0} → Result A MemStop → Prog → (A → Outcome) → Outcome
+or_stop (Ok x) p f = f x
+or_stop (Err e) p f = Stops (stop_of e) p
 
 -- the address behind the word
 abbrev pub next : ℕ → ℕ
@@ -117,7 +117,7 @@ next pc = wrap (pc + 4)
 
 -- a jump with the registers that it leaves, where its target is that of a word
 abbrev pub jump_to : ℕ → List ℕ → Prog → Outcome
-jump_to target regs p = if target % 4 == 0 then Goes target regs p else Stops Misaligned
+jump_to target regs p = if target % 4 == 0 then Goes target regs p else Stops Misaligned p
 
 -- ---- reservations: each is the number of an aligned doubleword
 
@@ -147,26 +147,30 @@ has resv h d = is_that (slice_get resv h) d
 abbrev pub set_mem : Prog → Memory → List (Option ℕ) → Prog
 set_mem p mem resv = record { mem = mem; resv = resv; out = p.out }
 
+-- hart h has no reservation any more
+abbrev pub without_reservation : ℕ → Prog → Prog
+without_reservation h p = set_mem p p.mem (slice_set p.resv h None)
+
 -- ---- atomic accesses
 
 -- what follows the reading of the number at the address: the alignment is checked first, then the bytes
 abbrev pub atomic : AtomicWidth → ℕ → Prog → (ℕ → Outcome) → Outcome
-atomic width at p f = if at % atomic_len width == 0 then or_stop (load (atomic_len width) p.mem at) f else Stops Misaligned
+atomic width at p f = if at % atomic_len width == 0 then or_stop (load (atomic_len width) p.mem at) p f else Stops Misaligned p
 
 -- an LR, where the number n was read: it answers it, and takes the reservation
 abbrev pub reserve : AtomicWidth → ℕ → ℕ → ℕ → ℕ → ℕ → List ℕ → Prog → Outcome
 reserve width n h rd at pc regs p = Goes (next pc) (with_reg regs rd (answered width n)) (set_mem p p.mem (slice_set p.resv h (Some (at / 8))))
 
--- an SC, with or without its hart's reservation: it clears that reservation, and answers 0 where it stored and 1 where not
+-- an SC, with or without its hart's reservation, which is cleared by now: it answers 0 where it stored and 1 where not
 abbrev pub conditional : Bool → ℕ → ℕ → ℕ → ℕ → ℕ → ℕ → List ℕ → Prog → Outcome
-conditional false h n rd at v pc regs p = Goes (next pc) (with_reg regs rd 1) (set_mem p p.mem (slice_set p.resv h None))
+conditional false h n rd at v pc regs p = Goes (next pc) (with_reg regs rd 1) p
 conditional true h n rd at v pc regs p =
-    or_stop (store n p.mem at v) (λ m. Goes (next pc) (with_reg regs rd 0) (set_mem p m (slice_set (broken 0 h (at / 8) (at / 8) p.resv) h None)))
+    or_stop (store n p.mem at v) p (λ m. Goes (next pc) (with_reg regs rd 0) (set_mem p m (broken 0 h (at / 8) (at / 8) p.resv)))
 
 -- an AMO, where the number `old` was read: it answers it, and leaves the operation's
 abbrev pub amo : AmoOp → AtomicWidth → ℕ → ℕ → ℕ → ℕ → ℕ → ℕ → List ℕ → Prog → Outcome
 amo op width old h rd at v pc regs p =
-    or_stop (store (atomic_len width) p.mem at (left_by op width old v)) (λ m. Goes (next pc) (with_reg regs rd (answered width old)) (set_mem p m (broken 0 h (at / 8) (at / 8) p.resv)))
+    or_stop (store (atomic_len width) p.mem at (left_by op width old v)) p (λ m. Goes (next pc) (with_reg regs rd (answered width old)) (set_mem p m (broken 0 h (at / 8) (at / 8) p.resv)))
 
 -- ---- system calls, by their number in a7: 93 and 94 exit, 64 writes
 
@@ -187,12 +191,12 @@ written_is (Ok bs) out = if nat_lt 1048576 (length out + length bs) then (Ok (mi
 
 abbrev pub written : Result ℕ ℕ × List ℕ → ℕ → List ℕ → Prog → Outcome
 written (Ok answer, out) pc regs p = answers answer pc regs (record { mem = p.mem; resv = p.resv; out = out })
-written (Err a, out) pc regs p = Stops (TextAccess a)
+written (Err a, out) pc regs p = Stops (TextAccess a) p
 
 -- a write is of at most 4,096 bytes; it answers -9 where a0 is neither 1 nor 2. Any other call answers -38.
 abbrev pub system_call : ℕ → List ℕ → Prog → Outcome
 system_call pc regs p =
-    if (reg regs 17 == 93) || (reg regs 17 == 94) then Stops (Exit (reg regs 10 % 256))
+    if (reg regs 17 == 93) || (reg regs 17 == 94) then Stops (Exit (reg regs 10 % 256)) p
     else if reg regs 17 == 64 then
     (if (reg regs 10 == 1) || (reg regs 10 == 2) then written (written_is (bytes_at (min (reg regs 12) 4096) p.mem (reg regs 11)) p.out) pc regs p
     else answers (minus 9) pc regs p)
@@ -200,43 +204,44 @@ system_call pc regs p =
 
 -- ---- what the machine does
 
--- hart h, at pc, does what was asked
+-- hart h, at pc, does what was asked; an SC clears its hart's reservation, also where it stops
 unfoldable pub perform : ℕ → Action → ℕ → List ℕ → Prog → Outcome
 perform h (Compute rd v) pc regs p = Goes (next pc) (with_reg regs rd v) p
 perform h (Jump rd target) pc regs p = jump_to target (with_reg regs rd (next pc)) p
 perform h (BranchTo taken target) pc regs p = if taken then jump_to target regs p else Goes (next pc) regs p
-perform h (ReadMemory op rd at) pc regs p = or_stop (load (load_len op) p.mem at) (λ n. Goes (next pc) (with_reg regs rd (loaded op n)) p)
+perform h (ReadMemory op rd at) pc regs p = or_stop (load (load_len op) p.mem at) p (λ n. Goes (next pc) (with_reg regs rd (loaded op n)) p)
 perform h (WriteMemory len at v) pc regs p =
-    or_stop (store len p.mem at v) (λ m. Goes (next pc) regs (set_mem p m (broken 0 h (at / 8) (wrap (at + (len - 1)) / 8) p.resv)))
+    or_stop (store len p.mem at v) p (λ m. Goes (next pc) regs (set_mem p m (broken 0 h (at / 8) (wrap (at + (len - 1)) / 8) p.resv)))
 perform h (LoadReserved width rd at) pc regs p = atomic width at p (λ n. reserve width n h rd at pc regs p)
-perform h (StoreConditional width rd at v) pc regs p = atomic width at p (λ n. conditional (has p.resv h (at / 8)) h (atomic_len width) rd at v pc regs p)
+perform h (StoreConditional width rd at v) pc regs p =
+    atomic width at (without_reservation h p) (λ n. conditional (has p.resv h (at / 8)) h (atomic_len width) rd at v pc regs (without_reservation h p))
 perform h (AtomicAccess op width rd at v) pc regs p = atomic width at p (λ n. amo op width n h rd at v pc regs p)
 perform h SystemCall pc regs p = system_call pc regs p
 perform h Proceed pc regs p = Goes (next pc) regs p
-perform h (Halt c) pc regs p = Stops c
+perform h (Halt c) pc regs p = Stops c p
 
 -- an instruction at pc, by hart h
 abbrev pub exec_instr : Instr → ℕ → ℕ → List ℕ → Prog → Outcome
 exec_instr i pc h regs p = perform h (asked i pc regs) pc regs p
 
 abbrev pub exec_decoded : Option Instr → ℕ → ℕ → List ℕ → Prog → Outcome
-exec_decoded None pc h regs p = Stops Illegal
+exec_decoded None pc h regs p = Stops Illegal p
 exec_decoded (Some i) pc h regs p = exec_instr i pc h regs p
 
 -- The meaning of one word at pc, executed by hart h. A word outside the table is illegal.
 abbrev pub exec_of : ℕ → ℕ → ℕ → List ℕ → Prog → Outcome
 exec_of word pc h regs p = exec_decoded (decode_of word) pc h regs p
 
--- ---- the same with the state that stays at a stop
+-- ---- the same with the registers that stay at a stop
 
 pub record Done : Type 0 where
   pub next : Next
   pub regs : List ℕ
   pub prog : Prog
 
-abbrev pub done : Outcome → List ℕ → Prog → Done
-done (Stops c) regs p = record { next = Stop c; regs = regs; prog = p }
-done (Goes pc new q) regs p = record { next = Go pc; regs = new; prog = q }
+abbrev pub done : Outcome → List ℕ → Done
+done (Stops c p) regs = record { next = Stop c; regs = regs; prog = p }
+done (Goes pc new p) regs = record { next = Go pc; regs = new; prog = p }
 
 abbrev pub prog_of : Memory → List (Option ℕ) → List ℕ → Prog
 prog_of mem resv out = record { mem = mem; resv = resv; out = out }

@@ -34,7 +34,7 @@ pub record Plain : Type 0 where
 
 -- what follows the fetch of a word, or of none
 abbrev pub fetched : Option ℕ → ℕ → PlainHart → Prog → Outcome
-fetched None h x p = Stops FetchOutside
+fetched None h x p = Stops FetchOutside p
 fetched (Some word) h x p = exec_of word x.pc h x.regs p
 
 -- a hart after its word, with one tick more
@@ -52,7 +52,7 @@ after_done d x = record { hart = hart_after d.next d.regs x; prog = d.prog }
 
 -- one turn of hart h by itself
 abbrev pub turn_alone : Words → ℕ → Alone → Alone
-turn_alone t h s = after_done (done (fetched (program_word t s.hart.pc) h s.hart s.prog) s.hart.regs s.prog) s.hart
+turn_alone t h s = after_done (done (fetched (program_word t s.hart.pc) h s.hart s.prog) s.hart.regs) s.hart
 
 abbrev pub put_back : Plain → ℕ → Alone → Plain
 put_back s h a = record { harts = slice_set s.harts h a.hart; prog = a.prog }

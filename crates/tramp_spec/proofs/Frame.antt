@@ -8,7 +8,7 @@ use Rattle.rv_word.specs.Registers.{reg, with_reg}
 use Rattle.rv_word.specs.Names.{names, has_scratch}
 use Rattle.rv_word.specs.Table.{decode_of}
 use Rattle.rv_word.specs.Values.{load_len, loaded, atomic_len, left_by, answered}
-use Rattle.rv_word.specs.Exec.{Prog, Outcome, Stops, Goes, first_operand, second_operand, action, asked, or_stop, next, jump_to, conditional, atomic, perform, written, written_is, system_call, exec_instr, exec_decoded, exec_of, answers, minus}
+use Rattle.rv_word.specs.Exec.{Prog, Outcome, Stops, Goes, first_operand, second_operand, action, asked, or_stop, next, jump_to, without_reservation, conditional, atomic, perform, written, written_is, system_call, exec_instr, exec_decoded, exec_of, answers, minus}
 use Rattle.rv_word.specs.declared.outcome.MemStop.{MemStop}
 use Rattle.rv_word.specs.declared.outcome.Cause.TheVariants.{Exit, Misaligned}
 use Rattle.rv_word.specs.declared.instr.AtomicWidth.{AtomicWidth}
@@ -22,9 +22,9 @@ pub alike_with : (a b : List ℕ) (r v : ℕ) → Alike a b → Alike (with_reg 
 alike_with a b r v h = record { agree = agree_with a b r v (h.first ∙ sym h.second) h.agree; first = length_with a r v ∙ h.first; second = length_with b r v ∙ h.second }
 
 abbrev pub SameOutcome : (ℕ → ℕ → Type 0) → Outcome → Outcome → Type 0
-SameOutcome R (Stops c) (Stops d) = c ≡ d
-SameOutcome R (Stops c) (Goes pc a p) = ⊥
-SameOutcome R (Goes pc a p) (Stops d) = ⊥
+SameOutcome R (Stops c p) (Stops d q) = (c ≡ d) × (p ≡ q)
+SameOutcome R (Stops c p) (Goes qc b q) = ⊥
+SameOutcome R (Goes pc a p) (Stops d q) = ⊥
 SameOutcome R (Goes pc a p) (Goes qc b q) = R pc qc × Alike a b × (p ≡ q)
 
 abbrev pub Same : Outcome → Outcome → Type 0
@@ -49,36 +49,36 @@ module _ (R : ℕ → ℕ → Type 0) (pc qc : ℕ) (n : R (next pc) (next qc)) 
   goes_with : (rd v : ℕ) (a b : List ℕ) (p : Prog) → Alike a b → SameOutcome R (Goes (next pc) (with_reg a rd v) p) (Goes (next qc) (with_reg b rd v) p)
   goes_with rd v a b p h = (n, alike_with a b rd v h, refl)
 
-  or_stops : {A : Type 0} (r : Result A MemStop) (f g : A → Outcome) → ((x : A) → SameOutcome R (f x) (g x)) → SameOutcome R (or_stop r f) (or_stop r g)
-  or_stops (Ok x) f g h = h x
-  or_stops (Err e) f g h = refl
+  or_stops : {A : Type 0} (r : Result A MemStop) (p : Prog) (f g : A → Outcome) → ((x : A) → SameOutcome R (f x) (g x)) → SameOutcome R (or_stop r p f) (or_stop r p g)
+  or_stops (Ok x) p f g h = h x
+  or_stops (Err e) p f g h = (refl, refl)
 
   either : (t : Bool) (a b c d : Outcome) → SameOutcome R a c → SameOutcome R b d → SameOutcome R (cond t a b) (cond t c d)
   either true a b c d h k = h
   either false a b c d h k = k
 
   atomics : (width : AtomicWidth) (at : ℕ) (p : Prog) (f g : ℕ → Outcome) → ((n : ℕ) → SameOutcome R (f n) (g n)) → SameOutcome R (atomic width at p f) (atomic width at p g)
-  atomics width at p f g h = either (at % atomic_len width == 0) _ _ _ _ (or_stops (load (atomic_len width) p.mem at) f g h) refl
+  atomics width at p f g h = either (at % atomic_len width == 0) _ _ _ _ (or_stops (load (atomic_len width) p.mem at) p f g h) (refl, refl)
 
   conditionals : (t : Bool) (h n rd at v : ℕ) (a b : List ℕ) (p : Prog) → Alike a b → SameOutcome R (conditional t h n rd at v pc a p) (conditional t h n rd at v qc b p)
   conditionals false h n rd at v a b p s = goes_with rd 1 a b _ s
-  conditionals true h n rd at v a b p s = or_stops (store n p.mem at v) _ _ (λ m. goes_with rd 0 a b _ s)
+  conditionals true h n rd at v a b p s = or_stops (store n p.mem at v) p _ _ (λ m. goes_with rd 0 a b _ s)
 
   writes : (r : Result ℕ ℕ) (out : List ℕ) (a b : List ℕ) (p : Prog) → Alike a b → SameOutcome R (written (r, out) pc a p) (written (r, out) qc b p)
   writes (Ok answer) out a b p s = goes_with 10 answer a b _ s
-  writes (Err e) out a b p s = refl
+  writes (Err e) out a b p s = (refl, refl)
 
   -- a call by its number, and by what it reads of the registers
   abbrev call_by : (n fd from len at : ℕ) → List ℕ → Prog → Outcome
   call_by n fd from len at regs p =
-      cond ((n == 93) || (n == 94)) (Stops (Exit (fd % 256)))
+      cond ((n == 93) || (n == 94)) (Stops (Exit (fd % 256)) p)
       (cond (n == 64)
       (cond ((fd == 1) || (fd == 2)) (written (written_is (bytes_at (min len 4096) p.mem from) p.out) at regs p) (answers (minus 9) at regs p))
       (answers (minus 38) at regs p))
 
   calls_by : (n fd from len : ℕ) (a b : List ℕ) (p : Prog) → Alike a b → SameOutcome R (call_by n fd from len pc a p) (call_by n fd from len qc b p)
   calls_by n fd from len a b p s =
-      either ((n == 93) || (n == 94)) _ _ _ _ refl
+      either ((n == 93) || (n == 94)) _ _ _ _ (refl, refl)
       (either (n == 64) _ _ _ _
       (either ((fd == 1) || (fd == 2)) _ _ _ _ (writes (written_is (bytes_at (min len 4096) p.mem from) p.out).0 (written_is (bytes_at (min len 4096) p.mem from) p.out).1 a b p s) (goes_with 10 (minus 9) a b _ s))
       (goes_with 10 (minus 38) a b _ s))
@@ -100,18 +100,18 @@ module _ (R : ℕ → ℕ → Type 0) (pc qc : ℕ) (n : R (next pc) (next qc)) 
   straight h (Compute rd v) a b p e s = goes_with rd v a b p s
   straight h (Jump rd target) a b p e s = absurd cc
   straight h (BranchTo taken target) a b p e s = absurd cc
-  straight h (ReadMemory op rd at) a b p e s = or_stops (load (load_len op) p.mem at) _ _ (λ n. goes_with rd (loaded op n) a b p s)
-  straight h (WriteMemory len at v) a b p e s = or_stops (store len p.mem at v) _ _ (λ m. (n, s, refl))
+  straight h (ReadMemory op rd at) a b p e s = or_stops (load (load_len op) p.mem at) p _ _ (λ n. goes_with rd (loaded op n) a b p s)
+  straight h (WriteMemory len at v) a b p e s = or_stops (store len p.mem at v) p _ _ (λ m. (n, s, refl))
   straight h (LoadReserved width rd at) a b p e s = atomics width at p _ _ (λ n. goes_with rd (answered width n) a b _ s)
-  straight h (StoreConditional width rd at v) a b p e s = atomics width at p _ _ (λ n. conditionals _ h (atomic_len width) rd at v a b p s)
+  straight h (StoreConditional width rd at v) a b p e s = atomics width at (without_reservation h p) _ _ (λ n. conditionals _ h (atomic_len width) rd at v a b (without_reservation h p) s)
   straight h (AtomicAccess op width rd at v) a b p e s =
-      atomics width at p _ _ (λ n. or_stops (store (atomic_len width) p.mem at (left_by op width n v)) _ _ (λ m. goes_with rd (answered width n) a b _ s))
+      atomics width at p _ _ (λ n. or_stops (store (atomic_len width) p.mem at (left_by op width n v)) p _ _ (λ m. goes_with rd (answered width n) a b _ s))
   straight h SystemCall a b p e s = calls a b p s
   straight h Proceed a b p e s = (n, s, refl)
-  straight h (Halt c) a b p e s = refl
+  straight h (Halt c) a b p e s = (refl, refl)
 
 jumps_to : (t : ℕ) (x y : List ℕ) (p : Prog) → Alike x y → Same (jump_to t x p) (jump_to t y p)
-jumps_to t x y p h = either (λ s t. s ≡ t) 0 0 refl (t % 4 == 0) (Goes t x p) (Stops Misaligned) (Goes t y p) (Stops Misaligned) (refl, h, refl) refl
+jumps_to t x y p h = either (λ s t. s ≡ t) 0 0 refl (t % 4 == 0) (Goes t x p) (Stops Misaligned p) (Goes t y p) (Stops Misaligned p) (refl, h, refl) (refl, refl)
 
 pub performs : (h : ℕ) (x : Action) (pc : ℕ) (a b : List ℕ) (p : Prog) → Alike a b → Same (perform h x pc a p) (perform h x pc b p)
 unfolding perform
@@ -151,7 +151,7 @@ execs_instr i pc h a b p n s =
     subst (λ x. Same (perform h x pc a p) (perform h (asked i pc b) pc b p)) (sym (asks_same i pc a b n s)) (performs h (asked i pc b) pc a b p s)
 
 execs_decoded : (o : Option Instr) (pc h : ℕ) (a b : List ℕ) (p : Prog) → option_map_or (names 31) o false ≡ false → Alike a b → Same (exec_decoded o pc h a p) (exec_decoded o pc h b p)
-execs_decoded None pc h a b p n s = refl
+execs_decoded None pc h a b p n s = (refl, refl)
 execs_decoded (Some i) pc h a b p n s = execs_instr i pc h a b p n s
 
 pub execs : (w pc h : ℕ) (a b : List ℕ) (p : Prog) → has_scratch w ≡ false → Alike a b → Same (exec_of w pc h a p) (exec_of w pc h b p)

@@ -43,9 +43,9 @@ module _ (point to : ℕ) (pa : point % 4 ≡ 0) (ta : to % 4 ≡ 0) (lo : point
     lands : (place : ℕ) (moved : List MarkedWord) (t : ℕ) (a b : List ℕ) (p : Prog) → Alike a b → SameStep true place to moved (jump_to t a p) (jump_to t b p)
     lands place moved t a b p s = by (t % 4 == 0)
       where
-        by : (x : Bool) → SameStep true place to moved (cond x (Goes t a p) (Stops Misaligned)) (cond x (Goes t b p) (Stops Misaligned))
+        by : (x : Bool) → SameStep true place to moved (cond x (Goes t a p) (Stops Misaligned p)) (cond x (Goes t b p) (Stops Misaligned p))
         by true = (refl, s, inl (refl, refl))
-        by false = refl
+        by false = (refl, refl)
 
     -- which keeps no address
     pub return_moves : rd ≡ 0 → (r : ℕ → Option ℕ) → MovesBy 0 r true word point to (own word ∷ [])

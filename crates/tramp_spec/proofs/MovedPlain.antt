@@ -57,4 +57,4 @@ module _ (point to : ℕ) (pa : point % 4 ≡ 0) (ta : to % 4 ≡ 0) (lo : point
     -- a word that is no instruction
     pub plain_none : decode_of word ≡ None → MovesBy 0 (rebuilt_decoded None) false word point to (moved_plain word (point + 4) (to + 4))
     plain_none e = plain_by (rebuilt_decoded None) (ap jumps e) (λ regs others h p s.
-        subst (λ o. SameOutcome (LeadsHome false 0 to (moved_plain word (point + 4) (to + 4))) (exec_decoded o (to + 4 * 0) h regs p) (exec_decoded o point h others p)) (sym e) refl)
+        subst (λ o. SameOutcome (LeadsHome false 0 to (moved_plain word (point + 4) (to + 4))) (exec_decoded o (to + 4 * 0) h regs p) (exec_decoded o point h others p)) (sym e) (refl, refl))

@@ -18,9 +18,9 @@ use Rattle.tramp_spec.proofs.Hops.{Hops}
 use Rattle.tramp_spec.proofs.Registers.{length_with, read_back, read_but, with_zero}
 
 pub to_step : (jumped : Bool) (place to : ℕ) (moved : List MarkedWord) (a b : Outcome) → SameOutcome (LeadsHome jumped place to moved) a b → SameStep jumped place to moved a b
-to_step jumped place to moved (Stops c) (Stops d) s = s
-to_step jumped place to moved (Stops c) (Goes home others q) s = s
-to_step jumped place to moved (Goes pc regs p) (Stops d) s = s
+to_step jumped place to moved (Stops c p) (Stops d q) s = s
+to_step jumped place to moved (Stops c p) (Goes home others q) s = s
+to_step jumped place to moved (Goes pc regs p) (Stops d q) s = s
 to_step jumped place to moved (Goes pc regs p) (Goes home others q) s = (s.2, s.1, s.0)
 
 pub jump_lands : (t : ℕ) (regs : List ℕ) (p : Prog) → t % 4 ≡ 0 → jump_to t regs p ≡ Goes t regs p

@@ -53,7 +53,7 @@ abbrev pub other_step : Mark → ℕ → ℕ → Solo → Solo
 other_step mark word home s = record { hart = other_hart (step_on (reach_of mark) word s.hart.ticks s.hart.pc (bench_of s.hart)) mark word home s.hart; prog = s.prog }
 
 abbrev pub marked_step : Mark → ℕ → ℕ → ℕ → Solo → Solo
-marked_step Own word h home s = own_step (done (exec_of word s.hart.pc h s.hart.regs s.prog) s.hart.regs s.prog) word home s.hart
+marked_step Own word h home s = own_step (done (exec_of word s.hart.pc h s.hart.regs s.prog) s.hart.regs) word home s.hart
 marked_step Enter word h home s = other_step Enter word home s
 marked_step Tool word h home s = other_step Tool word home s
 marked_step Leave word h home s = other_step Leave word home s

@@ -28,10 +28,10 @@ LeadsHome jumped place to moved pc home =
 
 -- the tick at its place, and the program's word at its own, lead to the same
 abbrev pub SameStep : Bool → ℕ → ℕ → List MarkedWord → Outcome → Outcome → Type 0
-SameStep jumped place to moved (Stops c) (Stops d) = c ≡ d
+SameStep jumped place to moved (Stops c p) (Stops d q) = (c ≡ d) × (p ≡ q)
 SameStep jumped place to moved (Goes pc regs p) (Goes home others q) = (p ≡ q) × Alike regs others × LeadsHome jumped place to moved pc home
-SameStep jumped place to moved (Stops c) (Goes home others q) = ⊥
-SameStep jumped place to moved (Goes pc regs p) (Stops d) = ⊥
+SameStep jumped place to moved (Stops c p) (Goes home others q) = ⊥
+SameStep jumped place to moved (Goes pc regs p) (Stops d q) = ⊥
 
 abbrev pub bench : List ℕ → List ℕ → Bench
 bench regs bank = record { regs = regs; bank = bank }

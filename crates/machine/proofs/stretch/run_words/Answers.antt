@@ -7,9 +7,21 @@ use Rattle.rv_word.specs.declared.outcome.Cause.TheVariants.{Illegal}
 use Rattle.rv_exec.specs.Flat.{instr_of}
 use Rattle.tramp_spec.specs.Codes.{fetched_at}
 use Rattle.code_store.specs.Operations.{IsFlatAt}
+use Rattle.machine.specs.Stretches.{AreRun}
 use Rattle.machine.proofs.Alone.{none_is}
-use Rattle.machine.proofs.Stretches.{left, goes, stops, own_word, run_more}
+use Rattle.machine.proofs.Stretches.{left, goes, stops, taken_back, own_word, run_more}
 use Rattle.machine.proofs.stretch.run_words.Goals as goal
+
+pub returns-then-is_illegal-clause-ran : goal.returns-then-is_illegal-clause-ran
+returns-then-is_illegal-clause-ran c =
+    let l = c.loop-turns in
+    let t = c.run.new in
+    let p = prog_of l.mem l.resv l.out in
+    let q = prog_of t.mem t.resv t.out in
+    let first = left c.args.pc.now None c.args.regs.now (prog_of c.args.mem.now c.args.resv.now c.args.out.now) in
+    let same = taken_back c.args.number (instr_of c.in-Some.flat.now) l.pc l.regs p t.stop t.pc t.regs q c.run.ensures.state.state (c.is_illegal.ensures.0 c.if-is_illegal.true) in
+    subst (AreRun c.args.store.now c.args.number l.turns first) (sym same)
+    (subst (λ o. AreRun c.args.store.now c.args.number l.turns first (left l.pc o l.regs p)) l.invariant.goes l.invariant.ran)
 
 pub returns-then-not-run-clause-ran : goal.returns-then-not-run-clause-ran
 returns-then-not-run-clause-ran c =

@@ -8,5 +8,4 @@ pub invariant_of-result : goal.invariant_of-result
 invariant_of-result c = (
   ap length c.in_ok-new-2.ensures ∙ length-replicate {A = Option ℕ} c.args.harts _ ∙ sym c.in_ok-states.ensures.len,
   subst (λ ws. c.args.image.now.text_at + 4 * length ws < 2 ^ 64) (sym (c.in_ok-words.ensures ∙ ap words_of c.text_bytes.ensures)) (words_end c.args.image.now c.requires.image),
-  c.in_ok-ready.ensures,
 )
