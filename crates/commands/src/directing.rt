@@ -122,7 +122,7 @@ fn direct_inputs(
     match record_run(alloc, inputs, &course) {
         Ok(recorded) => Ok(Texts::output(alloc, recorded.report)),
         Err(StartFault::NoMemory) => Err(Refusal::NoMemory),
-        Err(StartFault::BadPick(refused)) => Err(bad_pick(refused)),
+        Err(StartFault::BadPick(metric, focus, cause)) => Err(bad_pick(metric, focus, cause)),
     }
 }
 

@@ -60,7 +60,7 @@ fn live_inputs<R: Threads + Wait + Sync, G: Gate + Sync>(
     match record_live(rt, alloc, inputs, &course, gate) {
         Ok(recorded) => Ok(texts_of(recorded)),
         Err(StartFault::NoMemory) => Err(Refusal::NoMemory),
-        Err(StartFault::BadPick(refused)) => Err(bad_pick(refused)),
+        Err(StartFault::BadPick(metric, focus, cause)) => Err(bad_pick(metric, focus, cause)),
     }
 }
 

@@ -51,13 +51,6 @@ fn select(found: &Found, text: &str) -> Result<Focus, Refusal>
     }
 }
 
-/// The refusal of a metric at a focus.
-fn bad_pick(metric: Text, focus: Text, cause: PickCause) -> Refusal
-    ensures { result ≡ Refusal.Fault (Fault.BadPick metric focus cause) }
-{
-    Refusal::Fault(Fault::BadPick(metric, focus, cause))
-}
-
 /// The plan of a metric, which has this name and number, at a focus.
 fn plan_at(
     alloc: Global,

@@ -39,7 +39,7 @@ fn replay_inputs(alloc: Global, log: &Log, inputs: session::Inputs) -> Result<Te
     match replay_run(alloc, inputs, log.quanta.as_slice(), skipped) {
         Ok(report) => Ok(Texts::output(alloc, report)),
         Err(ReplayFault::NoMemory) => Err(Refusal::NoMemory),
-        Err(ReplayFault::BadPick(refused)) => Err(bad_pick(refused)),
+        Err(ReplayFault::BadPick(metric, focus, cause)) => Err(bad_pick(metric, focus, cause)),
         Err(ReplayFault::Misfit(misfit)) => Err(Refusal::Fault(misfit_fault(log, misfit))),
     }
 }

@@ -15,9 +15,8 @@ use crate::texts::Texts;
 use code_points::procedures;
 use command_words::RunRequest;
 use outside::Files;
-use pn_types::{Image, MAX_QUANTUM, NoMemory, Seq};
+use pn_types::{Image, MAX_QUANTUM, NoMemory, PickCause, Seq, Text};
 use refusals::{Fault, Refusal};
-use report::RefusedPart;
 use session::{Inputs, StartFault};
 use std::alloc::Global;
 use whole_run::{Course, Recorded, record_run};
@@ -46,11 +45,11 @@ pub fn texts_of(recorded: Recorded) -> Texts
     }
 }
 
-/// The refusal of a wish at tick 0.
-pub fn bad_pick(refused: RefusedPart) -> Refusal
-    ensures { result ≡ Refusal.Fault (Fault.BadPick refused.metric refused.focus refused.cause) }
+/// The refusal of a metric at a focus.
+pub fn bad_pick(metric: Text, focus: Text, cause: PickCause) -> Refusal
+    ensures { result ≡ Refusal.Fault (Fault.BadPick metric focus cause) }
 {
-    Refusal::Fault(Fault::BadPick(refused.metric, refused.focus, refused.cause))
+    Refusal::Fault(Fault::BadPick(metric, focus, cause))
 }
 
 /// What is due of a run with these inputs.
@@ -63,7 +62,7 @@ fn run_inputs(alloc: Global, request: &RunRequest<'_>, inputs: Inputs) -> Result
     match record_run(alloc, inputs, &course) {
         Ok(recorded) => Ok(texts_of(recorded)),
         Err(StartFault::NoMemory) => Err(Refusal::NoMemory),
-        Err(StartFault::BadPick(refused)) => Err(bad_pick(refused)),
+        Err(StartFault::BadPick(metric, focus, cause)) => Err(bad_pick(metric, focus, cause)),
     }
 }
 

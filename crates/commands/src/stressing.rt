@@ -71,7 +71,7 @@ fn sum_up(alloc: Global, request: StressRequest, inputs: Inputs) -> Result<Texts
             Ok(Texts::output(alloc, line))
         }
         Err(StartFault::NoMemory) => Err(Refusal::NoMemory),
-        Err(StartFault::BadPick(refused)) => Err(bad_pick(refused)),
+        Err(StartFault::BadPick(metric, focus, cause)) => Err(bad_pick(metric, focus, cause)),
     }
 }
 

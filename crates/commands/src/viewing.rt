@@ -41,7 +41,7 @@ fn view_inputs<R: Threads + Wait + Sync>(
     match view_run(rt, alloc, inputs, &course) {
         Ok(text) => Ok(Texts::output(alloc, text)),
         Err(StartFault::NoMemory) => Err(Refusal::NoMemory),
-        Err(StartFault::BadPick(refused)) => Err(bad_pick(refused)),
+        Err(StartFault::BadPick(metric, focus, cause)) => Err(bad_pick(metric, focus, cause)),
     }
 }
 

@@ -1,12 +1,14 @@
 -- The state of a session behind its quanta, and its end.
-use Rattle.std.specs.Prelude.{◌≡◌, if◌then◌else◌, Bool, false, Some, List, []}
+use Rattle.std.specs.Prelude.{◌≡◌, ℕ, if◌then◌else◌, Bool, false, Some, List, []}
 use Rattle.quanta_log.specs.declared.quantum.Quantum.{Quantum}
+use Rattle.pn_types.specs.declared.pick.PickCause.{PickCause}
+use Rattle.resource_tree.specs.Foci.{canonical}
 use Rattle.session_spec.specs.declared.data.RefusedWish.{RefusedWish}
 use Rattle.session_spec.specs.Inputs.{Inputs}
 use Rattle.session_spec.specs.Opening.{bad_pick}
 use Rattle.session_spec.specs.States.{State}
 use Rattle.session_spec.specs.Work.{closed, work}
-use Rattle.session.specs.Parts.{refused_part}
+use Rattle.session.specs.Parts.{metric_of, name_of}
 use Rattle.session.specs.declared.fault.StartFault.{StartFault}
 use Rattle.session.specs.declared.fault.StartFault.TheVariants.{NoMemory, BadPick}
 
@@ -20,10 +22,14 @@ pub record SessionData : Type 0 where
 abbrev pub begun : Inputs → SessionData
 begun i = record { inputs = i; quanta = []; closed = false }
 
+-- a refused wish is told by the name of its metric, its focus, and why
+abbrev pub IsToldAs : Inputs → RefusedWish → List ℕ → List ℕ → PickCause → Type 0
+IsToldAs i wish metric focus cause = (metric ≡ name_of (metric_of i wish.metric)) × (focus ≡ canonical i.tree wish.focus) × (cause ≡ wish.cause)
+
 -- why one doesn't begin, where it isn't for want of memory: a wish of the opening is refused
 abbrev pub IsStartFault : Inputs → StartFault → Type 0
 IsStartFault i NoMemory = Unit {0}
-IsStartFault i (BadPick refused) = (wish : RefusedWish) × (bad_pick i ≡ Some wish) × (refused ≡ refused_part i wish)
+IsStartFault i (BadPick metric focus cause) = (wish : RefusedWish) × (bad_pick i ≡ Some wish) × IsToldAs i wish metric focus cause
 
 -- its state, which is in its closed form where it was closed
 abbrev pub state_of : SessionData → State

@@ -1,13 +1,12 @@
-use pn_types::NoMemory;
-use report::RefusedPart;
+use pn_types::{NoMemory, PickCause, Text};
 
 /// Why a session doesn't begin.
 #[derive(Drop)]
 pub enum StartFault {
     /// Memory is wanting.
     NoMemory,
-    /// A wish of the opening is refused, the first such. It is told as a report tells it.
-    BadPick(RefusedPart),
+    /// A wish of the opening is refused, the first such: the name of its metric, its focus, and why.
+    BadPick(Text, Text, PickCause),
 }
 
 impl From<NoMemory> for StartFault {

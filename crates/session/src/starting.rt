@@ -52,7 +52,10 @@ fn pick(alloc: Global, inputs: &Inputs, refused: &[RefusedWish]) -> Result<(), S
 {
     match first_refused(refused) {
         None => Ok(()),
-        Some(refused) => Err(StartFault::BadPick(refused_part(alloc, inputs, refused)?)),
+        Some(refused) => {
+            let wish = refused_part(alloc, inputs, refused)?;
+            Err(StartFault::BadPick(wish.metric, wish.focus, wish.cause))
+        }
     }
 }
 

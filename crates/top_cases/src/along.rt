@@ -55,9 +55,8 @@ fn report_of(
     let mut session = match Session::new(alloc, inputs) {
         Ok(session) => session,
         Err(StartFault::NoMemory) => return Err(Refusal::NoMemory),
-        Err(StartFault::BadPick(refused)) => {
-            let wish = Fault::BadPick(refused.metric, refused.focus, refused.cause);
-            return Err(Refusal::Fault(wish));
+        Err(StartFault::BadPick(metric, focus, cause)) => {
+            return Err(Refusal::Fault(Fault::BadPick(metric, focus, cause)));
         }
     };
     follow(&mut session, quanta)?;

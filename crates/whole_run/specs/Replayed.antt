@@ -10,7 +10,7 @@ use Rattle.session_spec.specs.Opening.{bad_pick}
 use Rattle.session_spec.specs.States.{Kept, State}
 use Rattle.session_spec.specs.Work.{IsWhole, first_state, quantum_of, tend, work}
 use Rattle.session_spec.specs.declared.data.RefusedWish.{RefusedWish}
-use Rattle.session.specs.Parts.{refused_part}
+use Rattle.session.specs.Sessions.{IsToldAs}
 use Rattle.whole_run.specs.declared.misfit.Misfit.{Misfit}
 use Rattle.whole_run.specs.declared.misfit.Misfit.TheVariants.{NotRunnable, OtherOwns, Unfinished}
 use Rattle.whole_run.specs.declared.misfit.ReplayFault.{ReplayFault}
@@ -60,11 +60,11 @@ IsWithin count Unfinished = Unit {0}
 -- they are none for this reason, where it isn't want of memory
 abbrev pub IsMisfit : Inputs → List Quantum → ReplayFault → Type 0
 IsMisfit i quanta fault.NoMemory = Unit {0}
-IsMisfit i quanta (fault.BadPick refused) = ⊥
+IsMisfit i quanta (fault.BadPick metric focus cause) = ⊥
 IsMisfit i quanta (fault.Misfit misfit) = (misfit_of i quanta ≡ Some misfit) × IsWithin (length quanta) misfit
 
 -- why there is no report, where it isn't for want of memory
 abbrev pub IsReplayFault : Inputs → List Quantum → ReplayFault → Type 0
 IsReplayFault i quanta fault.NoMemory = Unit {0}
-IsReplayFault i quanta (fault.BadPick refused) = (wish : RefusedWish) × (bad_pick i ≡ Some wish) × (refused ≡ refused_part i wish)
+IsReplayFault i quanta (fault.BadPick metric focus cause) = (wish : RefusedWish) × (bad_pick i ≡ Some wish) × IsToldAs i wish metric focus cause
 IsReplayFault i quanta (fault.Misfit misfit) = (bad_pick i ≡ None) × (misfit_of i quanta ≡ Some misfit) × IsWithin (length quanta) misfit

@@ -1,5 +1,4 @@
-use pn_types::NoMemory;
-use report::RefusedPart;
+use pn_types::{NoMemory, PickCause, Text};
 use session::StartFault;
 
 /// Why quanta that are told are no whole run. Quanta are numbered from 0.
@@ -18,8 +17,8 @@ pub enum Misfit {
 pub enum ReplayFault {
     /// Memory is wanting.
     NoMemory,
-    /// A wish of the opening is refused, the first such. It is told as a report tells it.
-    BadPick(RefusedPart),
+    /// A wish of the opening is refused, the first such: the name of its metric, its focus, and why.
+    BadPick(Text, Text, PickCause),
     /// The quanta are no whole run.
     Misfit(Misfit),
 }

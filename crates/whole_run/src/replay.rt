@@ -93,7 +93,9 @@ pub fn replay_run(
     let mut session = match Session::new(alloc, inputs) {
         Ok(session) => session,
         Err(StartFault::NoMemory) => return Err(ReplayFault::NoMemory),
-        Err(StartFault::BadPick(refused)) => return Err(ReplayFault::BadPick(refused)),
+        Err(StartFault::BadPick(metric, focus, cause)) => {
+            return Err(ReplayFault::BadPick(metric, focus, cause));
+        }
     };
     run_along(alloc, &mut session, quanta, skipped)
 }

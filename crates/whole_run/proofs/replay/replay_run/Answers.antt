@@ -15,7 +15,7 @@ use Rattle.whole_run.proofs.replay.replay_run.Goals as goal
 refused : (i : Inputs) (quanta : List Quantum) (r : Result (Vec ℕ) ReplayFault) → bad_pick i ≡ None → IfErr r (IsMisfit i quanta) → IfErr r (IsReplayFault i quanta)
 refused i quanta (Ok report) none h = h
 refused i quanta (Err fault.NoMemory) none h = tt
-refused i quanta (Err (fault.BadPick wish)) none h = absurd h
+refused i quanta (Err (fault.BadPick metric focus cause)) none h = absurd h
 refused i quanta (Err (fault.Misfit misfit)) none h = (none, h.0, h.1)
 
 pub returns-clause-report : goal.returns-clause-report
