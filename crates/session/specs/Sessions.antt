@@ -1,6 +1,6 @@
 -- The state of a session behind its quanta, and its end.
 use Rattle.std.specs.Prelude.{◌≡◌, if◌then◌else◌, Bool, false, Some, List, []}
-use Rattle.quanta_log.specs.declared.quantum.Quantum.{Quantum}
+use Rattle.pn_types.specs.declared.quantum.Quantum.{Quantum}
 use Rattle.session_spec.specs.declared.data.RefusedWish.{RefusedWish}
 use Rattle.session_spec.specs.Inputs.{Inputs}
 use Rattle.session_spec.specs.Opening.{bad_pick}
