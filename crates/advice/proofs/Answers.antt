@@ -5,9 +5,8 @@ use Rattle.std.proofs.Math.Nat.{le-div_iff_mul-le, mul-le-mul_right}
 use Rattle.std.proofs.lemmas.List.Elements.{All-head, All-tail, All-weaker}
 use Rattle.std.proofs.lemmas.Slice.Eq.{bytes_eq-Decides}
 use Rattle.w3_axes.specs.Testing.{Holds, holds}
-use Rattle.advice.specs.Advice.{rate, is_true_of, threshold_of}
+use Rattle.advice.specs.Advice.{most_threshold, rate, is_true_of, threshold_of}
 use Rattle.advice.specs.Laws.{IsAnswerAt, AnswersStay}
-use Rattle.advice.specs.declared.hypothesis.TheConstants.{MAX_THRESHOLD}
 use Rattle.advice.specs.declared.verdict.Verdict.{Verdict}
 
 -- ---- the test
@@ -32,7 +31,7 @@ refused_above value ticks g n h refused true is =
 -- ---- rates
 
 -- where the test is true at a threshold, the rate isn't below it
-rate_above : (v : Verdict) (g : ℕ) → g ≤ MAX_THRESHOLD → Holds v.value v.ticks g → g ≤ rate v
+rate_above : (v : Verdict) (g : ℕ) → g ≤ most_threshold → Holds v.value v.ticks g → g ≤ rate v
 rate_above v g small h =
     let most : g ≤ v.value * 1000 / v.ticks = (le-div_iff_mul-le h.some_ticks).1 h.enough in
     omega (arith, most, small)
@@ -53,15 +52,15 @@ module _ (name : List ℕ) where
   least_below a [] = omega arith
   least_below a (n ∷ ns) = let more = least_below (min a n) ns in omega (arith, more)
 
-  capped : (n : ℕ) (ns : List ℕ) → n ≤ MAX_THRESHOLD → fold min n ns ≡ fold min (min MAX_THRESHOLD n) ns
+  capped : (n : ℕ) (ns : List ℕ) → n ≤ most_threshold → fold min n ns ≡ fold min (min most_threshold n) ns
   capped n ns h = ap (λ (m : ℕ). fold min m ns) (omega arith)
 
   -- the threshold is the least of the rates and of the greatest threshold
-  is_least : (vs : List Verdict) (n : ℕ) → threshold_of vs name ≡ Some n → n ≡ least MAX_THRESHOLD vs
+  is_least : (vs : List Verdict) (n : ℕ) → threshold_of vs name ≡ Some n → n ≡ least most_threshold vs
   is_least [] n e = cc
   is_least (v ∷ vs) n e = by (is_true_of name v) (is_least vs n) e
     where
-      by : (b : Bool) → (threshold_of vs name ≡ Some n → n ≡ least MAX_THRESHOLD vs) → reduce min (map rate (cond b (v ∷ filter (is_true_of name) vs) (filter (is_true_of name) vs))) ≡ Some n → n ≡ fold min MAX_THRESHOLD (map rate (cond b (v ∷ filter (is_true_of name) vs) (filter (is_true_of name) vs)))
+      by : (b : Bool) → (threshold_of vs name ≡ Some n → n ≡ least most_threshold vs) → reduce min (map rate (cond b (v ∷ filter (is_true_of name) vs) (filter (is_true_of name) vs))) ≡ Some n → n ≡ fold min most_threshold (map rate (cond b (v ∷ filter (is_true_of name) vs) (filter (is_true_of name) vs)))
       by false more k = more k
       by true more k =
           let same : fold min (rate v) (map rate (filter (is_true_of name) vs)) ≡ n = cc in
@@ -90,7 +89,7 @@ module _ (name : List ℕ) where
 -- ---- the law
 
 -- a true verdict at a given threshold has a rate that isn't below it
-given_below : (given : List ℕ → ℕ) (name : List ℕ) → ((n : List ℕ) → given n ≤ MAX_THRESHOLD) → (v : Verdict) → IsAnswerAt (given v.hypothesis) v → is_true_of name v ≡ true → given name ≤ rate v
+given_below : (given : List ℕ → ℕ) (name : List ℕ) → ((n : List ℕ) → given n ≤ most_threshold) → (v : Verdict) → IsAnswerAt (given v.hypothesis) v → is_true_of name v ≡ true → given name ≤ rate v
 given_below given name small v answer true_one = by v.holds (bytes_eq name v.hypothesis) refl refl true_one
   where
     by : (b c : Bool) → v.holds ≡ b → bytes_eq name v.hypothesis ≡ c → (b && c) ≡ true → given name ≤ rate v
@@ -100,17 +99,17 @@ given_below given name small v answer true_one = by v.holds (bytes_eq name v.hyp
     by true false p q e = cc
     by false c p q e = cc
 
-stays : (vs : List Verdict) (given : List ℕ → ℕ) → ((name : List ℕ) → given name ≤ MAX_THRESHOLD) → All (λ v. IsAnswerAt (given v.hypothesis) v) vs → (n k : ℕ) (d : Verdict) → k < length vs → threshold_of vs (get_or vs k d).hypothesis ≡ Some n → (b : Bool) → (get_or vs k d).holds ≡ b → b ≡ holds (get_or vs k d).value (get_or vs k d).ticks n
+stays : (vs : List Verdict) (given : List ℕ → ℕ) → ((name : List ℕ) → given name ≤ most_threshold) → All (λ v. IsAnswerAt (given v.hypothesis) v) vs → (n k : ℕ) (d : Verdict) → k < length vs → threshold_of vs (get_or vs k d).hypothesis ≡ Some n → (b : Bool) → (get_or vs k d).holds ≡ b → b ≡ holds (get_or vs k d).value (get_or vs k d).ticks n
 stays vs given small answers n k d h e true holding =
     let v = get_or vs k d in
     let was = holds_tells v.value v.ticks (given v.hypothesis) (sym (answers k d h) ∙ holding) in
     let of : is_true_of v.hypothesis v ≡ true = rw holding ((bytes_eq-Decides v.hypothesis v.hypothesis).1 refl) in
-    let below : least v.hypothesis MAX_THRESHOLD vs ≤ rate v = least_at v.hypothesis vs MAX_THRESHOLD k d h of in
+    let below : least v.hypothesis most_threshold vs ≤ rate v = least_at v.hypothesis vs most_threshold k d h of in
     sym (tells_holds v.value v.ticks n (true_below v n (rw (is_least v.hypothesis vs n e) below) was.some_ticks))
 stays vs given small answers n k d h e false refused =
     let v = get_or vs k d in
-    let above : given v.hypothesis ≤ least v.hypothesis MAX_THRESHOLD vs =
-    least_above v.hypothesis (given v.hypothesis) vs MAX_THRESHOLD (small v.hypothesis)
+    let above : given v.hypothesis ≤ least v.hypothesis most_threshold vs =
+    least_above v.hypothesis (given v.hypothesis) vs most_threshold (small v.hypothesis)
     (All-weaker (λ u. IsAnswerAt (given u.hypothesis) u) (λ u. is_true_of v.hypothesis u ≡ true → given v.hypothesis ≤ rate u) (given_below given v.hypothesis small) vs answers) in
     sym (refused_above v.value v.ticks (given v.hypothesis) n (rw (is_least v.hypothesis vs n e) above) (sym (answers k d h) ∙ refused) (holds v.value v.ticks n) refl)
 

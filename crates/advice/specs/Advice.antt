@@ -3,16 +3,19 @@ use Rattle.std.specs.Prelude.{ℕ, ◌≡◌, ◌<◌, ◌*◌, ◌/◌, ◌&&�
 use Rattle.std.specs.List.{reduce}
 use Rattle.first_places.specs.Places.{first_place}
 use Rattle.advice.specs.declared.hypothesis.Hypothesis.{Hypothesis}
-use Rattle.advice.specs.declared.hypothesis.TheConstants.{MAX_THRESHOLD}
 use Rattle.advice.specs.declared.verdict.Verdict.{Verdict}
 
 -- a true verdict is of some ticks
 abbrev pub HasTicks : Verdict → Type 0
 HasTicks v = v.holds ≡ true → 0 < v.ticks
 
+-- the greatest threshold that there is
+abbrev pub most_threshold : ℕ
+most_threshold = 2147483647
+
 -- the greatest threshold at which a true verdict is true: the value per 1,000 ticks, rounded down, and at most the greatest that there is
 abbrev pub rate : Verdict → ℕ
-rate v = min (v.value * 1000 / v.ticks) MAX_THRESHOLD
+rate v = min (v.value * 1000 / v.ticks) most_threshold
 
 -- a true verdict on the hypothesis of this name
 abbrev pub is_true_of : List ℕ → Verdict → Bool

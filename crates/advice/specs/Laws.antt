@@ -2,8 +2,7 @@
 use Rattle.std.specs.Prelude.{ℕ, ◌≡◌, ◌≤◌, Some, List}
 use Rattle.std.specs.List.{All}
 use Rattle.w3_axes.specs.Testing.{holds}
-use Rattle.advice.specs.Advice.{threshold_of}
-use Rattle.advice.specs.declared.hypothesis.TheConstants.{MAX_THRESHOLD}
+use Rattle.advice.specs.Advice.{most_threshold, threshold_of}
 use Rattle.advice.specs.declared.verdict.Verdict.{Verdict}
 
 -- the verdict is the answer of the test at a threshold
@@ -14,6 +13,6 @@ IsAnswerAt threshold v = v.holds ≡ holds v.value v.ticks threshold
 -- are the answers at that threshold too.
 abbrev pub AnswersStay : Type 0
 AnswersStay =
-    (vs : List Verdict) (given : List ℕ → ℕ) → ((name : List ℕ) → given name ≤ MAX_THRESHOLD)
+    (vs : List Verdict) (given : List ℕ → ℕ) → ((name : List ℕ) → given name ≤ most_threshold)
     → All (λ v. IsAnswerAt (given v.hypothesis) v) vs
     → (n : ℕ) → All (λ v. threshold_of vs v.hypothesis ≡ Some n → IsAnswerAt n v) vs

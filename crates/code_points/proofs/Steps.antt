@@ -25,11 +25,3 @@ plain_step test f place done new k n m e t h =
     ap (λ z. z ++ rest) h
     ∙ sym (ap (λ b. done ++ cond b (f (place k) ∷ rest) rest) t)
     ∙ sym (ap (λ j. done ++ filter test (map f (map place (range_with_len k j)))) e)
-
--- one procedure more
-pub proc_step : (t : Words) (procs : List Proc) (done new : List Point) (k : ℕ) (p : Proc) → k < length procs → p ≡ get_or procs k p → new ≡ done ++ points_in t k p → new ++ points_from t (k + 1) (drop (k + 1) procs) ≡ done ++ points_from t k (drop k procs)
-proc_step t procs done new k p l is e =
-    ap (λ z. z ++ points_from t (k + 1) (drop (k + 1) procs)) e
-    ∙ append_assoc done (points_in t k p) (points_from t (k + 1) (drop (k + 1) procs))
-    ∙ ap (λ x. done ++ (points_in t k x ++ points_from t (k + 1) (drop (k + 1) procs))) is
-    ∙ sym (ap (λ z. done ++ z) (at_drop_more (points_from t k) procs k p l))

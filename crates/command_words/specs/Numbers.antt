@@ -4,7 +4,6 @@ use Rattle.std.specs.Option.{option_and_then, option_map_or}
 use Rattle.pn_types.specs.declared.limits.TheConstants.{MAX_HARTS, MAX_WORKERS, MAX_BUDGET, MAX_QUANTUM, MIN_BINS, MAX_BINS, MAX_WIDTH, MAX_INSTRUMENTS}
 use Rattle.pn_text.specs.Numbers.{number_of}
 use Rattle.command_words.specs.Grammar.{Text, Given}
-use Rattle.command_words.specs.declared.numbers.TheConstants.{MAX_VIEWS}
 
 -- a number of 1 to 10 digits from `least` to `most`
 abbrev pub number_between : ℕ → ℕ → Text → Option ℕ
@@ -41,7 +40,7 @@ width_option = record { name = codes "width"; least = 1; most = MAX_WIDTH; defau
 
 -- the threads that view a run
 abbrev pub views_option : NumberOption
-views_option = record { name = codes "views"; least = 1; most = MAX_VIEWS; default = 2 }
+views_option = record { name = codes "views"; least = 1; most = 8; default = 2 }
 
 abbrev pub instruments_option : NumberOption
 instruments_option = record { name = codes "instruments"; least = 1; most = MAX_INSTRUMENTS; default = 64 }

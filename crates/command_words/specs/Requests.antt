@@ -10,7 +10,6 @@ use Rattle.pn_types.specs.declared.settings.Start.TheVariants.{Cold, Warm}
 use Rattle.command_words.specs.Grammar.{Text, Given, given_in, taken_of}
 use Rattle.command_words.specs.Commands.{form_of, command_named}
 use Rattle.command_words.specs.Numbers.{number_between, number_given, harts_option, workers_option, seed_option, quantum_option, budget_option, bins_option, width_option, instruments_option, views_option}
-use Rattle.command_words.specs.declared.numbers.TheConstants.{MAX_VIEWS}
 use Rattle.command_words.specs.declared.commands.CommandName.{CommandName}
 use Rattle.command_words.specs.declared.commands.CommandName.TheVariants.{Run, Live, Replay, Asm, Points, Plan, Stress, Relog, Blocks, Visi, Advise, Direct}
 
@@ -224,6 +223,6 @@ HasRanges (list_points program) = Unit {0}
 HasRanges (relog log) = Unit {0}
 HasRanges (stress r) = ((1 ≤ r.procs) × (r.procs ≤ 200)) × (r.seed < 2 ^ 32)
 HasRanges (count_blocks r) = ((1 ≤ r.harts) × (r.harts ≤ MAX_HARTS)) × ((1 ≤ r.budget) × (r.budget ≤ MAX_BUDGET)) × ((r.seed < 2 ^ 32) × ((1 ≤ r.quantum) × (r.quantum ≤ MAX_QUANTUM)))
-HasRanges (visi r) = AreInRange r.settings × ((1 ≤ r.quantum) × (r.quantum ≤ MAX_QUANTUM)) × ((1 ≤ r.views) × (r.views ≤ MAX_VIEWS))
+HasRanges (visi r) = AreInRange r.settings × ((1 ≤ r.quantum) × (r.quantum ≤ MAX_QUANTUM)) × ((1 ≤ r.views) × (r.views ≤ 8))
 HasRanges (advise report) = Unit {0}
 HasRanges (direct r) = AreInRange r.settings × (1 ≤ r.quantum) × (r.quantum ≤ MAX_QUANTUM)

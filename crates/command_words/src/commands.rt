@@ -160,7 +160,7 @@ fn first_named(commands: &[CommandName], word: &str) -> Option<CommandName>
 
 impl CommandName {
     /// The words that it takes.
-    pub fn form(self) -> Form
+    pub(crate) fn form(self) -> Form
         ensures { form_seen result ≡ form_of self }
     {
         FORMS[self as usize]

@@ -25,7 +25,7 @@ use Rattle.pn_types.specs.declared.plan.Plan.{Plan}
 use Rattle.pn_types.specs.declared.settings.Settings.{Settings}
 use Rattle.pn_types.specs.declared.code.Point.{Point}
 use Rattle.quanta_log.specs.Meaning.{meaning_of}
-use Rattle.quanta_log.specs.declared.quantum.Quantum.{Quantum}
+use Rattle.pn_types.specs.declared.quantum.Quantum.{Quantum}
 use Rattle.refusals.proofs.Steps.{IsOne, one_then, related_then}
 use Rattle.refusals.specs.Kinds.{fault_at, syntax_kind, check_kind}
 use Rattle.refusals.specs.Refusals.{Step, Then}

@@ -10,7 +10,6 @@ use Rattle.refusals.specs.declared.fault.Fault.{Fault}
 use Rattle.refusals.specs.declared.fault.Fault.TheVariants.{BadReport}
 use Rattle.commands.specs.Output.{output}
 use Rattle.commands.specs.Sights.{Sight, IsContent}
-use Rattle.commands.specs.declared.advising.TheConstants.{REPORT_LIMIT}
 use Rattle.commands.specs.declared.texts.Texts.{Texts}
 
 -- what the verdicts of a report advise, or its first fault; no bytes mean want of memory
@@ -19,9 +18,9 @@ advised (Ok verdicts) = Ok (output (advice verdicts))
 advised (Err (fault.BadReport place)) = Err (BadReport place)
 advised (Err fault.NoMemory) = Err (BadReport 0)
 
--- what a report's file has
+-- what a report's file has, at most 33,554,432 bytes
 abbrev pub IsReportContent : Sight → List ℕ → Step (List ℕ)
-IsReportContent sees = IsContent sees REPORT_LIMIT (BadReport REPORT_LIMIT)
+IsReportContent sees = IsContent sees 33554432 (BadReport 33554432)
 
 -- what the report of a name advises
 abbrev pub IsAdviceDue : List ℕ → Sight → Step Texts

@@ -11,7 +11,7 @@ use Rattle.mdl_ast.specs.declared.items.Conf.{Conf}
 use Rattle.mdl_ast.specs.declared.items.Item.{Item}
 use Rattle.mdl_shipped.specs.Shipped.{shipped_conf}
 use Rattle.pn_types.specs.declared.image.Image.{Image}
-use Rattle.quanta_log.specs.declared.quantum.Quantum.{Quantum}
+use Rattle.pn_types.specs.declared.quantum.Quantum.{Quantum}
 use Rattle.refusals.specs.Kinds.{fault_at, directive_kind}
 use Rattle.refusals.specs.Refusals.{Step, Then}
 use Rattle.refusals.specs.declared.configuration.ConfKind.TheVariants.{TooLong}
@@ -27,7 +27,6 @@ use Rattle.commands.specs.Given.{inputs_with}
 use Rattle.commands.specs.Inputs.{AreInputs}
 use Rattle.commands.specs.Runs.{IsOpened}
 use Rattle.commands.specs.Sights.{Sight, IsContent}
-use Rattle.commands.specs.declared.directing.TheConstants.{DIRECTIVES_LIMIT}
 use Rattle.commands.specs.declared.inputs.Inputs.{Inputs as Read}
 use Rattle.commands.specs.declared.texts.Texts.{Texts}
 
@@ -42,9 +41,9 @@ abbrev pub or_bad_directives : {A : Type 0} → Result A DirectiveFault → Resu
 or_bad_directives (Ok a) = Ok a
 or_bad_directives (Err fault) = Err (directive_fault fault)
 
--- what a file of directives has
+-- what a file of directives has, at most 1,048,576 bytes
 abbrev pub IsDirectivesContent : Sight → List ℕ → Step (List ℕ)
-IsDirectivesContent sees = IsContent sees DIRECTIVES_LIMIT (BadDirectives (fault_at 0 0 TooLong))
+IsDirectivesContent sees = IsContent sees 1048576 (BadDirectives (fault_at 0 0 TooLong))
 
 -- the directives of a name
 abbrev pub AreDirectives : Sight → List ℕ → Step (List Directive)

@@ -4,7 +4,6 @@ use Rattle.std.specs.Str.{bytes_eq}
 use Rattle.asm_file.specs.Made.{elf_of}
 use Rattle.elf_form.specs.Meaning.{meaning_of}
 use Rattle.elf_form.specs.declared.fault.ElfFault.{ElfFault}
-use Rattle.elf_form.specs.declared.limits.TheConstants.{MAX_PROGRAM_LEN}
 use Rattle.mdl_ast.specs.declared.items.Conf.{Conf}
 use Rattle.mdl_parse.specs.Meaning.{IsConf, IsFault}
 use Rattle.mdl_parse.specs.declared.fault.SyntaxKind.{SyntaxKind}
@@ -18,7 +17,6 @@ use Rattle.refusals.specs.declared.program.ProgramFault.TheVariants.{Elf, Asm, T
 use Rattle.rv_asm.specs.Assembly.{assembled}
 use Rattle.rv_asm.specs.declared.fault.AsmFault.{AsmFault}
 use Rattle.commands.specs.Sights.{Sight, IsContent}
-use Rattle.commands.specs.declared.configuration.TheConstants.{CONFIGURATION_LIMIT}
 use Rattle.commands.specs.declared.inputs.Inputs.{Inputs}
 
 -- ---- programs
@@ -53,9 +51,9 @@ MeansConf text (Err fault) =
 
 -- ---- what commands read
 
--- what a program's file has
+-- what a program's file has, at most 33,554,432 bytes
 abbrev pub IsProgramContent : Sight → List ℕ → Step (List ℕ)
-IsProgramContent sees = IsContent sees MAX_PROGRAM_LEN (BadProgram TooLong)
+IsProgramContent sees = IsContent sees 33554432 (BadProgram TooLong)
 
 -- the program of a name
 abbrev pub IsProgram : Sight → List ℕ → Step Image
@@ -65,9 +63,9 @@ IsProgram sees name = Then (IsProgramContent sees name) (λ bytes image. image �
 abbrev pub IsElfFile : Sight → List ℕ → Step (List ℕ)
 IsElfFile sees name = Then (IsProgramContent sees name) (λ bytes file. file ≡ file_of bytes)
 
--- what a configuration's file has
+-- what a configuration's file has, at most 1,048,576 bytes
 abbrev pub IsConfContent : Sight → List ℕ → Step (List ℕ)
-IsConfContent sees = IsContent sees CONFIGURATION_LIMIT (BadConf (fault_at 0 0 TooLongConf))
+IsConfContent sees = IsContent sees 1048576 (BadConf (fault_at 0 0 TooLongConf))
 
 -- the configuration of a name
 abbrev pub IsConfiguration : Sight → List ℕ → Step Conf

@@ -4,7 +4,7 @@ use Rattle.pn_types.specs.declared.settings.Settings.{Settings}
 use Rattle.quanta_log.specs.Fields.{log_len}
 use Rattle.quanta_log.specs.Meaning.{begins_as, meaning_of}
 use Rattle.quanta_log.specs.declared.fault.LogFault.{LogFault}
-use Rattle.quanta_log.specs.declared.quantum.Quantum.{Quantum}
+use Rattle.pn_types.specs.declared.quantum.Quantum.{Quantum}
 use Rattle.quanta_log.specs.declared.version.Version.{Version}
 use Rattle.quanta_log.specs.declared.version.Version.TheVariants.{One, Two}
 use Rattle.refusals.specs.Logs.{log_fault_at}
@@ -16,7 +16,6 @@ use Rattle.whole_run.specs.declared.misfit.Misfit.{Misfit}
 use Rattle.whole_run.specs.declared.misfit.Misfit.TheVariants as misfit
 use Rattle.commands.specs.Sights.{Sight, IsContent}
 use Rattle.commands.specs.declared.logs.Log.{Log}
-use Rattle.commands.specs.declared.logs.TheConstants.{LOG_LIMIT}
 
 -- the version of a log's bytes
 abbrev pub version_in : List ℕ → Version
@@ -34,9 +33,9 @@ or_bad_log bytes (Err fault) = Err (log_fault_at fault)
 abbrev pub MeansLog : List ℕ → Step Log
 MeansLog bytes log = log ≡ or_bad_log bytes (meaning_of bytes)
 
--- what a log's file has
+-- what a log's file has, at most 268,435,496 bytes
 abbrev pub IsLogContent : Sight → List ℕ → Step (List ℕ)
-IsLogContent sees = IsContent sees LOG_LIMIT (BadLog LOG_LIMIT TooLong)
+IsLogContent sees = IsContent sees 268435496 (BadLog 268435496 TooLong)
 
 -- the log of a name
 abbrev pub IsLog : Sight → List ℕ → Step Log

@@ -6,7 +6,7 @@ use Rattle.command_words.specs.Requests.{RunRequest, LiveRequest, VisiRequest, S
 use Rattle.live_run.specs.ByWorkers.{IsShared}
 use Rattle.pn_types.specs.declared.settings.Settings.{Settings}
 use Rattle.pn_types.specs.declared.settings.Start.TheVariants.{Warm}
-use Rattle.quanta_log.specs.declared.quantum.Quantum.{Quantum}
+use Rattle.pn_types.specs.declared.quantum.Quantum.{Quantum}
 use Rattle.refusals.specs.Refusals.{Step, Then}
 use Rattle.session.specs.Parts.{parts_of}
 use Rattle.session_spec.specs.Inputs.{Inputs}

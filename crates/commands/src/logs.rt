@@ -13,8 +13,8 @@ ghost use Rattle.whole_run.specs.Replayed.{IsWithin};
 
 use crate::files::read_file;
 use outside::Files;
-use pn_types::{Seq, Settings};
-use quanta_log::{Quantum, Version, read};
+use pn_types::{Quantum, Seq, Settings};
+use quanta_log::{Version, read};
 use refusals::{Fault, LogCause, Refusal, bad_log};
 use std::alloc::Global;
 use whole_run::Misfit;

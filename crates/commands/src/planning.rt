@@ -54,32 +54,21 @@ fn select(found: &Found, text: &str) -> Result<Focus, Refusal>
 /// The plan of a metric, which has this name and number, at a focus.
 fn plan_at(
     alloc: Global,
-    found: &Found,
+    found: Found,
     name: &str,
     number: u32,
     focus: &Focus,
 ) -> Result<Texts, Refusal>
-    requires procs { length found.now.procs < 2 ^ 32 }
-    requires points { length found.now.points < 2 ^ 32 }
-    requires number { number < length found.now.checked.metrics }
-    requires sound { IsSound found.now.checked }
-    ensures { (m : Metric) → slice_get found.now.checked.metrics number ≡ Some m → Comes result (IsPlanAt name.now found.now m focus.now) }
+    requires procs { length found.procs < 2 ^ 32 }
+    requires points { length found.points < 2 ^ 32 }
+    requires number { number < length found.checked.metrics }
+    requires sound { IsSound found.checked }
+    ensures { (m : Metric) → slice_get found.checked.metrics number ≡ Some m → Comes result (IsPlanAt name.now found m focus.now) }
 {
     let text = found.tree.focus_text(alloc, focus)?;
     let metric = text_of(alloc, name)?;
-    let procs = found.procs.as_slice();
-    let points = found.points.as_slice();
-    let index = PlanIndex::new(alloc, procs, points)?;
-    match plan(
-        alloc,
-        &found.checked,
-        number,
-        focus,
-        &found.tree,
-        procs,
-        points,
-        &index,
-    ) {
+    let index = PlanIndex::new(alloc, found.procs, found.points)?;
+    match plan(alloc, &found.checked, number, focus, &found.tree, &index) {
         Ok(plan) => {
             let words = predicted(&plan);
             let shown = plan_text(alloc, metric.bytes(), text.bytes(), words, &plan)?;
@@ -99,18 +88,18 @@ fn plan_at(
 }
 
 /// The plan of the named metric at the focus of the text. First the name is looked for, and then what the text selects.
-fn plan_found(alloc: Global, request: &PlanRequest<'_>, found: &Found) -> Result<Texts, Refusal>
-    requires procs { length found.now.procs < 2 ^ 32 }
-    requires points { length found.now.points < 2 ^ 32 }
-    requires metrics { length found.now.checked.metrics < 2 ^ 32 }
-    requires sound { IsSound found.now.checked }
-    ensures { Comes result (IsPlan (asked_plan request.now) found.now) }
+fn plan_found(alloc: Global, request: &PlanRequest<'_>, found: Found) -> Result<Texts, Refusal>
+    requires procs { length found.procs < 2 ^ 32 }
+    requires points { length found.points < 2 ^ 32 }
+    requires metrics { length found.checked.metrics < 2 ^ 32 }
+    requires sound { IsSound found.checked }
+    ensures { Comes result (IsPlan (asked_plan request.now) found) }
 {
     let metrics = found.checked.metrics.as_slice();
     let Some(number) = metric_number(metrics, request.metric.as_bytes()) else {
         return Err(bad_configuration(0, 0, ConfKind::UnknownName));
     };
-    let focus = select(found, request.focus)?;
+    let focus = select(&found, request.focus)?;
     plan_at(alloc, found, request.metric, number, &focus)
 }
 
@@ -126,5 +115,5 @@ pub fn show_plan<F: Files>(
 {
     let inputs = read_inputs(alloc, files, request.program, request.conf)?;
     let found = find(alloc, &inputs.image, request.harts, &inputs.conf)?;
-    plan_found(alloc, request, &found)
+    plan_found(alloc, request, found)
 }

@@ -6,3 +6,4 @@ pub mod Texts
 pub mod Symbols
 pub mod Meaning
 pub mod Accepted
+pub mod Limits

@@ -5,6 +5,7 @@
 mod fault;
 mod fields;
 mod header;
+mod laws;
 mod limits;
 mod load;
 mod section;
@@ -13,6 +14,7 @@ mod symbol;
 
 pub use fault::ElfFault;
 pub use header::{Header, begins_as_elf, header_of};
+pub use laws::limits_are;
 pub use limits::MAX_PROGRAM_LEN;
 pub use load::Load;
 pub use section::{SectionHeader, TextRange, section_header_at};

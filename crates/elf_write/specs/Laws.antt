@@ -2,8 +2,6 @@
 use Rattle.std.specs.Prelude.{◌≡◌, ℕ, ◌≤◌, Ok, List, length}
 use Rattle.elf_form.specs.Meaning.{meaning_of}
 use Rattle.elf_form.specs.Accepted.{IsAccepted, IsBytes, names_len}
-use Rattle.elf_form.specs.declared.limits.TheConstants.{MAX_PROGRAM_LEN}
-use Rattle.elf_form.specs.declared.symbol.TheConstants.{MAX_NAMES_LEN}
 use Rattle.elf_write.specs.Layout.{elf_bytes, CanWrite}
 use Rattle.pn_types.specs.declared.image.Image.{Image}
 
@@ -15,7 +13,7 @@ IsReadAgain = (i : Image) → IsAccepted i → CanWrite i → meaning_of (elf_by
 abbrev pub IsFileAccepted : Type 0
 IsFileAccepted = (file : List ℕ) (i : Image) → IsBytes file → meaning_of file ≡ Ok i → CanWrite i → IsAccepted i
 
--- an image can be written if a file that is taken for a program means it, and its names are no longer than what is loaded
+-- an image can be written if a file of at most 33,554,432 bytes means it, and its names have at most 67,108,864 bytes together
 abbrev pub IsLoadedWritable : Type 0
 IsLoadedWritable =
-    (file : List ℕ) (i : Image) → IsBytes file → length file ≤ MAX_PROGRAM_LEN → meaning_of file ≡ Ok i → names_len i.symbols ≤ MAX_NAMES_LEN → CanWrite i
+    (file : List ℕ) (i : Image) → IsBytes file → length file ≤ 33554432 → meaning_of file ≡ Ok i → names_len i.symbols ≤ 67108864 → CanWrite i

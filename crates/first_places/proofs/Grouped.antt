@@ -7,7 +7,8 @@ use Rattle.std.proofs.lemmas.Iterator.Adapters.{position_from-zero}
 use Rattle.std.proofs.lemmas.List.{length_push, length-map}
 use Rattle.std.proofs.lemmas.Map.Entries.{length-keys_of}
 use Rattle.first_places.specs.Groups.{first_mentions, places_of}
-use Rattle.first_places.specs.Numbers.{with_number, with_name, names_of, IsAdded, AreGrouped}
+use Rattle.first_places.specs.Grouped.{AreGrouped}
+use Rattle.first_places.specs.Numbers.{with_number, with_name, names_of, IsAdded}
 use Rattle.first_places.proofs.AllPlaces.{places_more}
 use Rattle.first_places.proofs.Firsts.{any_first, firsts_more, few_firsts}
 

@@ -1,5 +1,5 @@
 pub mod Pushed
-pub mod Among
+pub mod Somewhere
 pub mod Firsts
 pub mod AllPlaces
 pub mod Under

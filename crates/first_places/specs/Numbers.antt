@@ -1,10 +1,9 @@
--- For proofs alone: numbers that stand under names.
-use Rattle.std.specs.Prelude.{ℕ, ◌≡◌, ◌<◌, ◌^◌, Bool, List, [], ◌∷◌, ◌++◌, length, map, if◌then◌else◌}
+-- Numbers that stand under names.
+use Rattle.std.specs.Prelude.{ℕ, ◌≡◌, Bool, List, [], ◌∷◌, ◌++◌, map, if◌then◌else◌}
 use Rattle.std.specs.List.{list_any}
 use Rattle.std.specs.Map.{keys_of, lookup}
 use Rattle.std.specs.Option.{option_map_or}
 use Rattle.std.specs.Str.{bytes_eq}
-use Rattle.first_places.specs.Groups.{first_mentions, places_of}
 
 -- numbers with one more that is put last, where it is wanted
 abbrev pub with_number : Bool → ℕ → List ℕ → List ℕ
@@ -31,9 +30,3 @@ pub record IsAdded {K V : Type 0} (now : K → List ℕ) (items : V → List ℕ
 pub record IsKept {K V : Type 0} (now : K → List ℕ) (items : V → List ℕ) (old new : List (K × V)) : Type 0 where
   pub names : names_of now new ≡ names_of now old
   pub numbers : (other : List ℕ) → numbers_under now items other new ≡ numbers_under now items other old
-
--- under each of the distinct names stand its places, which have 32 bits
-pub record AreGrouped {K V : Type 0} (now : K → List ℕ) (items : V → List ℕ) (all : List (List ℕ)) (es : List (K × V)) : Type 0 where
-  pub names : names_of now es ≡ first_mentions all
-  pub places : (name : List ℕ) → numbers_under now items name es ≡ places_of name all
-  pub fits : length all < 2 ^ 32

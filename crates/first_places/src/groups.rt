@@ -20,7 +20,7 @@ pub struct PlacesByName {
 
 impl Model for PlacesByName {
     ghost use Rattle.std.specs.Prelude.{List, ℕ};
-    ghost use Rattle.first_places.specs.Numbers.{AreGrouped};
+    ghost use Rattle.first_places.specs.Grouped.{AreGrouped};
 
     ghost Value = { List (List ℕ) };
 

@@ -7,8 +7,8 @@
 use crate::starts::start_text;
 use fold_hist::Hist;
 use hex::{decode, encode};
-use pn_types::{NoMemory, Settings};
-use quanta_log::{LogFault, Quantum, read, write};
+use pn_types::{NoMemory, Quantum, Settings};
+use quanta_log::{LogFault, read, write};
 use std::alloc::Global;
 use std::io;
 

@@ -4,7 +4,7 @@ use Rattle.std.specs.Prelude.{slice_index_or}
 use native.Mathlib.Decide.{ℕ_discrete}
 use mathlib.Core.Logic.{dite}
 use Rattle.session_spec.specs.Inputs.{Inputs}
-use Rattle.quanta_log.specs.declared.quantum.Quantum.{Quantum}
+use Rattle.pn_types.specs.declared.quantum.Quantum.{Quantum}
 use Rattle.shared_run.specs.declared.view.Receipt.{Receipt}
 use Rattle.live_run.specs.ByWorkers.{IsByWorkers, one_if, times}
 use Rattle.live_run.specs.Serving.{AreServed, IsFor, IsServed, count, harts_in}

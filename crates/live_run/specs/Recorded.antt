@@ -1,6 +1,6 @@
 -- What is left of a run that workers shared.
 use Rattle.std.specs.Prelude.{List}
-use Rattle.quanta_log.specs.declared.quantum.Quantum.{Quantum}
+use Rattle.pn_types.specs.declared.quantum.Quantum.{Quantum}
 use Rattle.session_spec.specs.Inputs.{Inputs}
 use Rattle.whole_run.specs.Recorded.{IsRecordOf}
 use Rattle.whole_run.specs.declared.recorded.Recorded.{Recorded}

@@ -10,12 +10,12 @@ use Rattle.mdl_parse.specs.declared.change.Change.{Change}
 use Rattle.mdl_parse.specs.declared.change.Change.TheVariants.{Up, Down, Put}
 use Rattle.mdl_parse.specs.Actions.{changed, timed}
 use Rattle.mdl_parse.specs.WordsInText.{PlacedWord, TreeWord, Goes, goes}
-use Rattle.mdl_parse.specs.Picks.{is_sign, is_if, is_timing, var_of}
+use Rattle.mdl_parse.specs.Picks.{is_sign, var_of}
 use Rattle.mdl_parse.specs.Steps.{Read, ◌>>=◌, is_first, leaf_at}
 use Rattle.mdl_parse.specs.Readers.{sign_at, var_at, step_at}
 use Rattle.mdl_parse.specs.Parts.{put_at, change_at, changed_at, timed_at, action_at}
 use Rattle.mdl_parse.specs.Grammar.{var_word, action_words}
-use Rattle.mdl_parse.specs.Shapes.{BeginsStatement, ActionShaped}
+use Rattle.mdl_parse.specs.Shapes.{BeginsStatement, ActionShaped, is_if, is_timing}
 use Rattle.mdl_parse.proofs.Rules.{StartsAs}
 use Rattle.mdl_parse.proofs.Readers.{Reads, closed, any, plainly, one as one_word, leaf_reads}
 use Rattle.mdl_parse.proofs.Options.{of_kind, either_reads}

@@ -15,12 +15,12 @@ use Rattle.mdl_ast.specs.declared.block.Set.TheVariants as set
 use Rattle.mdl_ast.specs.declared.block.EventKind.{EventKind}
 use Rattle.mdl_ast.specs.declared.block.Insertion.{Insertion}
 use Rattle.mdl_parse.specs.WordsInText.{PlacedWord, TreeWord, Starts, Goes, goes, IsWord}
-use Rattle.mdl_parse.specs.Picks.{is_keyword, is_sign, is_var, is_insertion}
+use Rattle.mdl_parse.specs.Picks.{is_sign, is_var, is_insertion}
 use Rattle.mdl_parse.specs.Steps.{◌>>=◌, is_first, option_at, many_at}
 use Rattle.mdl_parse.specs.Readers.{keyword_at, whole_at}
 use Rattle.mdl_parse.specs.Parts.{statement_at, flag_at, insertion_at, another_at, names_at, named_at, set_at, block_at, blocks_at}
 use Rattle.mdl_parse.specs.Grammar.{keyword, statement_tree_words, flag_words, event_name, insertion_tree_words, names_words, set_words, block_tree_words, blocks_tree_words}
-use Rattle.mdl_parse.specs.Shapes.{StatementShaped, InsertionShaped, HasNames, SetShaped, BlockShaped, BlocksShaped}
+use Rattle.mdl_parse.specs.Shapes.{StatementShaped, InsertionShaped, HasNames, SetShaped, BlockShaped, BlocksShaped, is_keyword}
 use Rattle.mdl_parse.proofs.Rules.{StartsAs, never}
 use Rattle.mdl_parse.proofs.Readers.{Reads, closed, any, plainly, one as one_word, pair_ok}
 use Rattle.mdl_parse.proofs.Options.{option_reads, option_on, option_ok, option_tree_words, of_kind, either_reads}

@@ -13,7 +13,8 @@ use Rattle.mdl_ast.specs.declared.action.RightSide.{RightSide}
 use Rattle.mdl_ast.specs.declared.action.RightSide.TheVariants.{Value}
 use Rattle.mdl_ast.specs.declared.action.Condition.{Condition}
 use Rattle.mdl_parse.specs.WordsInText.{PlacedWord, TreeWord, Goes, goes}
-use Rattle.mdl_parse.specs.Picks.{is_arg, is_if}
+use Rattle.mdl_parse.specs.Picks.{is_arg}
+use Rattle.mdl_parse.specs.Shapes.{is_if}
 use Rattle.mdl_parse.specs.Parts.{argument_at, variable_at, left_at, condition_at, conditions_at}
 use Rattle.mdl_parse.specs.Grammar.{keyword, left_words, right_word, cmp_sign, condition_words}
 use Rattle.mdl_parse.proofs.Rules.{StartsAs, all_placed_as, placed_spell, placed_are_words}

@@ -7,13 +7,12 @@ use Rattle.pn_text.specs.declared.token.Sign.TheVariants.{OpenBrace, CloseBrace,
 use Rattle.mdl_ast.specs.declared.items.Hypothesis.{Hypothesis}
 use Rattle.mdl_ast.specs.declared.block.Block.{Block}
 use Rattle.mdl_parse.specs.WordsInText.{PlacedWord, TreeWord, Starts, Goes, goes, starts, IsWord}
-use Rattle.mdl_parse.specs.Picks.{is_keyword}
 use Rattle.mdl_parse.specs.Steps.{Read, ◌>>=◌, is_first, option_at}
 use Rattle.mdl_parse.specs.Readers.{keyword_at, sign_at, name_at, number_at, quoted_at}
 use Rattle.mdl_parse.specs.Items.{opened_at, initial_at, initially_at, reference_at, references_at, units_at, base_at, body_at, metric_at, constraint_at, named_field_at, number_field_at, parent_at, axis_names_at, axes_at, hypothesis_at, include_at, sync_at, search_at, phase_at, wish_at}
 use Rattle.mdl_parse.specs.Grammar.{keyword, names_words, blocks_tree_words}
 use Rattle.mdl_parse.specs.ItemGrammar.{reference_words, initially_words, metric_tree_words, constraint_tree_words, parent_words, axes_words, hypothesis_words, include_words, sync_words, search_words, phase_words, wish_words}
-use Rattle.mdl_parse.specs.Shapes.{HasNames, BlocksShaped}
+use Rattle.mdl_parse.specs.Shapes.{HasNames, BlocksShaped, is_keyword}
 use Rattle.mdl_parse.proofs.Rules.{StartsAs, never}
 use Rattle.mdl_parse.proofs.Readers.{Reads, closed, any, plainly, one as one_word}
 use Rattle.mdl_parse.proofs.Options.{option_reads, option_on, option_ok, option_tree_words}

@@ -7,7 +7,8 @@ use Rattle.pn_text.specs.declared.token.Sign.{Sign}
 use Rattle.pn_text.specs.declared.token.Sign.TheVariants.{OpenBrace, CloseBrace, OpenBracket, CloseBracket, OpenParen, CloseParen, OpenCode, CloseCode, Semicolon, Comma, PlusPlus, MinusMinus, Assign, Equal, NotEqual, Less, LessEqual, Greater, GreaterEqual}
 use Rattle.mdl_parse.specs.WordsInText.{Starts, IsWord}
 use Rattle.mdl_parse.specs.Steps.{line_at}
-use Rattle.mdl_parse.specs.Picks.{is_keyword, is_sign, is_arg, sign_number, when, name_of, number_of, quoted_of, path_of}
+use Rattle.mdl_parse.specs.Picks.{is_sign, is_arg, sign_number, when, name_of, number_of, quoted_of, path_of}
+use Rattle.mdl_parse.specs.Shapes.{is_keyword}
 use Rattle.mdl_parse.specs.Readers.{keyword_at, sign_at, arg_at, start_at, name_at, number_at, quoted_at, path_at}
 use Rattle.mdl_parse.specs.Grammar.{keyword}
 use Rattle.mdl_parse.proofs.Readers.{Reads, closed, any, one as one_word, made_reads}

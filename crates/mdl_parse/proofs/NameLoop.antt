@@ -6,7 +6,8 @@ use Rattle.mdl_parse.specs.declared.refusal.Stop.{Stop as Answered}
 use Rattle.mdl_parse.specs.declared.refusal.Stop.TheVariants.{NoMemory, Refused}
 use Rattle.mdl_parse.specs.declared.refusal.Refusal.TheVariants.{TooDeep}
 use Rattle.mdl_parse.specs.WordsInText.{PlacedWord}
-use Rattle.mdl_parse.specs.Picks.{is_sign, is_if}
+use Rattle.mdl_parse.specs.Picks.{is_sign}
+use Rattle.mdl_parse.specs.Shapes.{is_if}
 use Rattle.mdl_parse.specs.Steps.{Read, ◌>>=◌, stop, is_first, many_at}
 use Rattle.mdl_parse.specs.Readers.{name_at}
 use Rattle.mdl_parse.specs.Parts.{another_at, names_at, condition_at, conditions_at}

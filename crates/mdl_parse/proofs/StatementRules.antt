@@ -6,11 +6,10 @@ use Rattle.mdl_ast.specs.declared.action.Condition.{Condition}
 use Rattle.mdl_ast.specs.declared.action.Action.{Action}
 use Rattle.mdl_ast.specs.declared.action.Action.TheVariants as act
 use Rattle.mdl_parse.specs.WordsInText.{PlacedWord, TreeWord, Goes, goes, starts}
-use Rattle.mdl_parse.specs.Picks.{is_if}
 use Rattle.mdl_parse.specs.Steps.{Read, ◌>>=◌}
 use Rattle.mdl_parse.specs.Parts.{conditions_at, statement_at}
 use Rattle.mdl_parse.specs.Grammar.{condition_words, action_words, statement_tree_words}
-use Rattle.mdl_parse.specs.Shapes.{ActionShaped, StatementShaped}
+use Rattle.mdl_parse.specs.Shapes.{ActionShaped, StatementShaped, is_if}
 use Rattle.mdl_parse.proofs.Rules.{StartsAs, first-Misses}
 use Rattle.mdl_parse.proofs.Readers.{Reads, closed, plainly, pair_at, pair_tree_words, pair_ok, pair_on}
 use Rattle.mdl_parse.proofs.Bounded.{few, lined_at, lined_reads, IsUnlined, on_line}

@@ -14,7 +14,8 @@ use Rattle.mdl_ast.specs.declared.block.Block.{Block}
 use Rattle.mdl_ast.specs.declared.metric.Metric.{Metric}
 use Rattle.mdl_ast.specs.declared.metric.Constraint.{Constraint}
 use Rattle.mdl_parse.specs.WordsInText.{PlacedWord}
-use Rattle.mdl_parse.specs.Picks.{is_keyword, is_any}
+use Rattle.mdl_parse.specs.Picks.{is_any}
+use Rattle.mdl_parse.specs.Shapes.{is_keyword}
 use Rattle.mdl_parse.specs.Steps.{Read, ◌>>=◌, first_word, passes, is_first, option_at, many_at}
 use Rattle.mdl_parse.specs.Readers.{keyword_at, sign_at, start_at, name_at, number_at, quoted_at, path_at, choice_at}
 use Rattle.mdl_parse.specs.Parts.{names_at, blocks_at}

@@ -14,7 +14,8 @@ use Rattle.mdl_parse.specs.declared.change.Change.{Change}
 use Rattle.mdl_parse.specs.declared.change.Change.TheVariants.{Put}
 use Rattle.mdl_parse.specs.Actions.{changed, timed}
 use Rattle.mdl_parse.specs.WordsInText.{PlacedWord}
-use Rattle.mdl_parse.specs.Picks.{is_keyword, is_sign, is_arg, is_var, is_if, is_timing, is_insertion}
+use Rattle.mdl_parse.specs.Picks.{is_sign, is_arg, is_var, is_insertion}
+use Rattle.mdl_parse.specs.Shapes.{is_keyword, is_if, is_timing}
 use Rattle.mdl_parse.specs.Steps.{Read, ◌>>=◌, line_at, is_first, many_at, bounded_at}
 use Rattle.mdl_parse.specs.Readers.{keyword_at, sign_at, arg_at, start_at, name_at, number_at, choice_at, step_at, event_at, var_at, cmp_at, right_at, whole_at}
 

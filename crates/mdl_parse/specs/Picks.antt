@@ -1,4 +1,4 @@
--- Which words may stand at a place of the grammar, and what each means there.
+-- For proofs alone: which words may stand at a place of the grammar, and what each means there.
 use Rattle.std.specs.Prelude.{ℕ, Bool, true, false, ◌||◌, ◌==◌, List, [], ◌∷◌, Option, Some, None, bytes_eq, codes, is_some, if◌then◌else◌}
 use Rattle.pn_types.specs.declared.compare.Cmp.{Cmp}
 use Rattle.pn_types.specs.declared.compare.Cmp.TheVariants.{Eq, Ne, Lt, Le, Gt, Ge}
@@ -13,6 +13,7 @@ use Rattle.mdl_ast.specs.declared.block.Set.{Set}
 use Rattle.mdl_ast.specs.declared.block.Set.TheVariants.{Focus, All}
 use Rattle.mdl_ast.specs.declared.block.EventKind.{EventKind}
 use Rattle.mdl_ast.specs.declared.block.EventKind.TheVariants.{Entry, After, Return, Call}
+use Rattle.mdl_parse.specs.Shapes.{is_keyword}
 use Rattle.mdl_parse.specs.declared.change.Change.{Change}
 use Rattle.mdl_parse.specs.declared.change.Change.TheVariants.{Up, Down}
 
@@ -21,10 +22,6 @@ use Rattle.mdl_parse.specs.declared.change.Change.TheVariants.{Up, Down}
 -- a keyword
 abbrev pub keyword : List ℕ → Word
 keyword text = NameWord text
-
-abbrev pub is_keyword : List ℕ → Word → Bool
-is_keyword text (NameWord name) = bytes_eq name text
-is_keyword text word = false
 
 -- signs, numbered
 abbrev pub sign_number : Sign → ℕ
@@ -146,13 +143,6 @@ cmp_of word = None
 -- a variable
 abbrev pub is_var : Word → Bool
 is_var word = is_some (var_of word)
-
-abbrev pub is_if : Word → Bool
-is_if = is_keyword (codes "if")
-
--- `start` or `stop`
-abbrev pub is_timing : Word → Bool
-is_timing word = is_keyword (codes "start") word || is_keyword (codes "stop") word
 
 -- `prepend` or `append`
 abbrev pub is_insertion : Word → Bool

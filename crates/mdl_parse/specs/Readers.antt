@@ -8,7 +8,8 @@ use Rattle.mdl_ast.specs.declared.block.EventKind.{EventKind}
 use Rattle.mdl_ast.specs.declared.block.Set.{Set}
 use Rattle.mdl_parse.specs.declared.change.Change.{Change}
 use Rattle.mdl_parse.specs.WordsInText.{PlacedWord}
-use Rattle.mdl_parse.specs.Picks.{is_keyword, is_sign, is_arg, when, name_of, number_of, quoted_of, path_of, choice_of, step_of, event_of, var_of, right_of, cmp_of, whole_of}
+use Rattle.mdl_parse.specs.Picks.{is_sign, is_arg, when, name_of, number_of, quoted_of, path_of, choice_of, step_of, event_of, var_of, right_of, cmp_of, whole_of}
+use Rattle.mdl_parse.specs.Shapes.{is_keyword}
 use Rattle.mdl_parse.specs.Steps.{Read, ◌>>=◌, line_at, leaf_at}
 
 abbrev pub keyword_at : List ℕ → List PlacedWord → Read (Unit {0})

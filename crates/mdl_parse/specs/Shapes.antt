@@ -1,7 +1,8 @@
 -- What the grammar can give: lists of names that have to have one have one, no statement begins as another form of
 -- statement does, and at most n conditions stand before what a statement does.
-use Rattle.std.specs.Prelude.{◌≡◌, ℕ, ◌≤◌, false, List, [], ◌∷◌, length}
+use Rattle.std.specs.Prelude.{◌≡◌, ℕ, ◌≤◌, ◌||◌, Bool, false, List, [], ◌∷◌, bytes_eq, codes, length}
 use Rattle.std.specs.List.{AllByRecursion}
+use Rattle.pn_text.specs.Words.{Word, NameWord}
 use Rattle.mdl_ast.specs.declared.items.Conf.{Conf}
 use Rattle.mdl_ast.specs.declared.items.Item.{Item}
 use Rattle.mdl_ast.specs.declared.items.Item.TheVariants as item
@@ -13,8 +14,18 @@ use Rattle.mdl_ast.specs.declared.block.Set.{Set}
 use Rattle.mdl_ast.specs.declared.block.Set.TheVariants as set
 use Rattle.mdl_ast.specs.declared.block.Insertion.{Insertion}
 use Rattle.mdl_ast.specs.declared.block.Block.{Block}
-use Rattle.mdl_parse.specs.Picks.{is_if, is_timing}
 use Rattle.mdl_parse.specs.Grammar.{var_word}
+
+abbrev pub is_keyword : List ℕ → Word → Bool
+is_keyword text (NameWord name) = bytes_eq name text
+is_keyword text word = false
+
+abbrev pub is_if : Word → Bool
+is_if = is_keyword (codes "if")
+
+-- `start` or `stop`
+abbrev pub is_timing : Word → Bool
+is_timing word = is_keyword (codes "start") word || is_keyword (codes "stop") word
 
 -- a variable with which a statement may begin: not `if`, `start` or `stop`
 abbrev pub BeginsStatement : VarName → Type 0

@@ -2,7 +2,8 @@
 
 ghost use Rattle.std.specs.Prelude.{◌≡◌, codes};
 ghost use Rattle.mdl_parse.specs.Gives.{Gives};
-ghost use Rattle.mdl_parse.specs.Picks.{is_keyword, is_sign, is_var, is_insertion};
+ghost use Rattle.mdl_parse.specs.Picks.{is_sign, is_var, is_insertion};
+ghost use Rattle.mdl_parse.specs.Shapes.{is_keyword};
 ghost use Rattle.mdl_parse.specs.Steps.{many_at};
 ghost use Rattle.mdl_parse.specs.Parts.{statement_at, flag_at, insertion_at, another_at, names_at, named_at, set_at, block_at, blocks_at};
 

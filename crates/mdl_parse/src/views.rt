@@ -1,7 +1,8 @@
 //! Tests of the word in view.
 
 ghost use Rattle.std.specs.Prelude.{◌≡◌};
-ghost use Rattle.mdl_parse.specs.Picks.{is_keyword, is_sign, is_arg, is_var, is_any, is_insertion, is_timing};
+ghost use Rattle.mdl_parse.specs.Picks.{is_sign, is_arg, is_var, is_any, is_insertion};
+ghost use Rattle.mdl_parse.specs.Shapes.{is_keyword, is_timing};
 ghost use Rattle.mdl_parse.specs.Steps.{is_first};
 
 use crate::words::Words;

@@ -44,10 +44,3 @@ mark_more i q qs a b c h k = record {
 pub next_mark : (i j q : ℕ) (qs : List ℕ) (a b c : List (List ℕ)) → j < length qs → q ≡ get_or qs j 0 → Marked i (take j qs) a b → Marked i (q ∷ []) b c → Marked i (take (j + 1) qs) a c
 next_mark i j q qs a b c lt is h k =
     subst (λ (ps : List ℕ). Marked i ps a c) (sym (take_more qs j 0 lt ∙ ap (λ (p : ℕ). take j qs ++ p ∷ []) (sym is))) (mark_more i q (take j qs) a b c h k)
-
--- there is no such list
-pub mark_past : (lists : List (List ℕ)) (q i : ℕ) → length lists ≤ q → Marked i (q ∷ []) lists lists
-mark_past lists q i ge = record {
-  len = refl;
-  at = λ r h. ap (λ (b : Bool). cond (b || false) (once i (get_or lists r [])) (get_or lists r [])) (sym (ne_eqb q r (λ (e : q ≡ r). omega arith)));
-}

@@ -29,12 +29,12 @@ passing_named procs (name ∷ names) q p e =
     ∙ ap (λ (b : Bool). bytes_eq p.name name || b) (passing_named procs names q p e)
 
 -- the procedures of a set of names
-pub passing_set : (selected : List ℕ) (procs : List Proc) (all : List (List ℕ)) (s : Scope) (set : Set) (names given : List (List ℕ)) (qs : List ℕ)
-    → all ≡ names_of procs → scope selected procs ≡ s → set ≡ Names names → given ≡ names → qs ≡ flat_map (λ name. places_of name all) given
+pub passing_set : (selected : List ℕ) (procs : List Proc) (s : Scope) (set : Set) (names given : List (List ℕ)) (qs : List ℕ)
+    → scope selected procs ≡ s → set ≡ Names names → given ≡ names → qs ≡ flat_map (λ name. places_of name (names_of procs)) given
     → ArePassing s.procs (in_set s.selected set) qs
-passing_set selected procs all s set names given qs own same is gave found =
+passing_set selected procs s set names given qs same is gave found =
     subst (λ (t : Scope). ArePassing t.procs (in_set t.selected set) qs) same
     (subst (λ (x : Set). ArePassing procs (in_set selected x) qs) (sym is)
     (subst (ArePassing procs (λ q p. list_any (bytes_eq p.name) names))
-    (sym (found ∙ ap (flat_map (λ name. places_of name all)) gave ∙ ap (λ (l : List (List ℕ)). flat_map (λ name. places_of name l) names) own))
+    (sym (found ∙ ap (flat_map (λ name. places_of name (names_of procs))) gave))
     (passing_named procs names)))

@@ -23,6 +23,11 @@ use Rattle.mdl_plan.specs.Choosing.{is_chosen, kinds_of}
 use Rattle.mdl_plan.specs.declared.fault.PlanFault.{PlanFault}
 use Rattle.mdl_plan.specs.declared.fault.PlanFault.TheVariants.{NoMemory, NoConstraint, TooManySites, TooManyStmts}
 
+-- a program's procedures and points
+pub record IndexedProgram : Type 0 where
+  pub procs : List Proc
+  pub points : List Point
+
 -- ---- variables
 
 -- what isn't written is 0

@@ -5,7 +5,7 @@ ghost use Rattle.mdl_plan.specs.Choosing.{is_chosen, is_kind};
 ghost use Rattle.mdl_plan.specs.Numbers.{Added, AreNumbers};
 ghost use Rattle.mdl_plan.specs.ChosenPieces.{has_numbers, numbers_if, HavePlaces, AreChosen};
 
-use crate::index::PlanIndex;
+use crate::index::PointPlaces;
 use crate::lists::Lists;
 use crate::pieces::Piece;
 use crate::scope::Scope;
@@ -59,7 +59,6 @@ fn add(
     number: usize,
     piece: &Piece<'_>,
 ) -> Result<(), NoMemory>
-    requires { length scope.now.procs < 2 ^ 32 }
     ensures { OnOk result (Added scope.now.procs (λ q p. is_chosen scope.now.selected kind q p piece.now) number lists.old lists.new) }
 {
     if !is_kind(kind, piece.insertion().kind) {
@@ -77,7 +76,6 @@ fn chosen(
     kind: EventKind,
     pieces: &[Piece<'_>],
 ) -> Result<Lists, NoMemory>
-    requires { length scope.now.procs < 2 ^ 32 }
     ensures { IfOk result (AreNumbers scope.now.procs (is_chosen scope.now.selected kind) pieces.now) }
 {
     let mut lists = Lists::empty(alloc, scope.len())?;
@@ -101,7 +99,6 @@ impl ChosenPieces {
         scope: &Scope<'_>,
         pieces: &[Piece<'_>],
     ) -> Result<ChosenPieces, NoMemory>
-        requires { length scope.now.procs < 2 ^ 32 }
         ensures { IfOk result (AreChosen scope.now pieces.now) }
     {
         Ok(ChosenPieces {
@@ -124,14 +121,18 @@ impl ChosenPieces {
     }
 
     /// The places of the points of the procedures for which a piece is chosen, ascending.
-    pub(crate) fn places(&self, alloc: Global, index: &PlanIndex) -> Result<Vec<u32>, NoMemory>
-        ensures { IfOk result (λ places. HavePlaces self.now index.now.places places.items) }
+    pub(crate) fn places(
+        &self,
+        alloc: Global,
+        by_proc: &PointPlaces,
+    ) -> Result<Vec<u32>, NoMemory>
+        ensures { IfOk result (λ places. HavePlaces self.now by_proc.now places.items) }
     {
         let mut places = Vec::new(alloc);
-        self.entry.add_places(&mut places, index)?;
-        self.after.add_places(&mut places, index)?;
-        self.ret.add_places(&mut places, index)?;
-        self.call.add_places(&mut places, index)?;
+        self.entry.add_places(&mut places, by_proc)?;
+        self.after.add_places(&mut places, by_proc)?;
+        self.ret.add_places(&mut places, by_proc)?;
+        self.call.add_places(&mut places, by_proc)?;
         places.sort_unstable();
         places.dedup();
         Ok(places)

@@ -4,7 +4,7 @@ ghost use Rattle.std.specs.Prelude.{◌≡◌, ◌<◌, ◌∷◌, ◌++◌, [],
 ghost use Rattle.mdl_plan.specs.Numbers.{ends_with, once, AreEmpty, Marked};
 ghost use Rattle.mdl_plan.specs.Sparse.{row_at, AddsPlaces};
 
-use crate::index::PlanIndex;
+use crate::index::PointPlaces;
 use pn_types::NoMemory;
 use std::alloc::Global;
 use std::marker::Model;
@@ -91,11 +91,15 @@ fn numbers_of(rows: &[Row], row: usize) -> &[usize]
 }
 
 /// Adds the places of the points of the rows' procedures.
-fn add_places(places: &mut Vec<u32>, index: &PlanIndex, rows: &[Row]) -> Result<(), NoMemory>
-    ensures { OnOk result (places.new.items ≡ places.old.items ++ flat_map (λ row. slice_index_or index.now.places row.proc_no []) rows.now) }
+fn add_places(
+    places: &mut Vec<u32>,
+    by_proc: &PointPlaces,
+    rows: &[Row],
+) -> Result<(), NoMemory>
+    ensures { OnOk result (places.new.items ≡ places.old.items ++ flat_map (λ row. slice_index_or by_proc.now row.proc_no []) rows.now) }
 {
     for row in rows {
-        places.extend_from_slice(index.places_of(row.proc_no))?;
+        places.extend_from_slice(by_proc.of(row.proc_no))?;
     }
     Ok(())
 }
@@ -158,10 +162,10 @@ impl Lists {
     pub(crate) fn add_places(
         &self,
         places: &mut Vec<u32>,
-        index: &PlanIndex,
+        by_proc: &PointPlaces,
     ) -> Result<(), NoMemory>
-        ensures { OnOk result (AddsPlaces self.now index.now.places places.old.items places.new.items) }
+        ensures { OnOk result (AddsPlaces self.now by_proc.now places.old.items places.new.items) }
     {
-        add_places(places, index, &self.rows)
+        add_places(places, by_proc, &self.rows)
     }
 }

@@ -4,8 +4,7 @@ ghost use Rattle.std.specs.Prelude.{◌≡◌, ◌≤◌, ◌<◌, ◌^◌, ◌+
 ghost use Rattle.std.specs.List.{filter, find};
 ghost use Rattle.resource_tree.specs.Foci.{part};
 ghost use Rattle.mdl_plan.specs.Busy.{busy};
-ghost use Rattle.mdl_plan.specs.Scopes.{names_of, scope};
-ghost use Rattle.mdl_plan.specs.Indexes.{AreByProcedure};
+ghost use Rattle.mdl_plan.specs.Scopes.{scope};
 ghost use Rattle.mdl_plan.specs.Pieces as spec;
 ghost use Rattle.mdl_plan.specs.Plans.{is_crowded, open_if, terms_of};
 ghost use Rattle.mdl_plan.specs.ChosenPieces.{has_numbers, numbers_at, open_with, opens_in, sites_in, stmts_in, IsOver, AreChosen, Refuses};
@@ -86,8 +85,7 @@ fn add_busy(
 }
 
 impl<'a> Planner<'a> {
-    /// The planner of a metric with its active constraints at a focus. The counters are the active ones, and the index is
-    /// that of the procedures.
+    /// The planner of a metric with its active constraints at a focus. The counters are the active ones.
     pub(crate) fn of(
         alloc: Global,
         metric: &'a Metric,
@@ -95,19 +93,16 @@ impl<'a> Planner<'a> {
         counters: &[&'a Constraint],
         focus: &Focus,
         tree: &Tree,
-        procs: &[Proc],
         index: &PlanIndex,
     ) -> Result<Planner<'a>, NoMemory>
         requires few { length counters.now ≤ 2 }
         requires active { map (λ c. c.now) counters.now ≡ spec.counters active.now }
-        requires procs { length procs.now < 2 ^ 32 }
-        requires index { index.now.names ≡ names_of procs.now }
         ensures pieces { IfOk result (λ s. s.pieces.items ≡ busy (spec.pieces metric.now active.now)) }
-        ensures chosen { IfOk result (λ s. AreChosen (scope (part tree.now focus.now).procs procs.now) s.pieces.items s.chosen) }
+        ensures chosen { IfOk result (λ s. AreChosen (scope (part tree.now focus.now).procs index.now.procs) s.pieces.items s.chosen) }
         ensures terms { IfOk result (λ s. s.terms ≡ terms_of (part tree.now focus.now) active.now) }
     {
         let pieces = pieces(alloc, metric, active, counters)?;
-        let scope = Scope::new(tree, focus, procs, index);
+        let scope = Scope::new(tree, focus, index);
         let chosen = ChosenPieces::build(alloc, &scope, &pieces)?;
         let terms = Terms::new(alloc, counters, tree.object_at(focus))?;
         Ok(Planner {
@@ -121,15 +116,14 @@ impl<'a> Planner<'a> {
     pub(crate) fn reached<'p>(
         &self,
         alloc: Global,
-        points: &'p [Point],
-        index: &PlanIndex,
+        index: &'p PlanIndex,
     ) -> Result<Vec<&'p Point>, NoMemory>
-        requires points { AreByProcedure points.now index.now.places }
-        requires procs { IsOver (length index.now.places) self.now.chosen }
-        ensures { IfOk result (λ found. filter (has_numbers self.now.chosen) (map (λ p. p.now) found.items) ≡ filter (has_numbers self.now.chosen) points.now) }
+        requires { IsOver (length index.now.procs) self.now.chosen }
+        ensures few { OnOk result (length index.now.points < 2 ^ 32) }
+        ensures points { IfOk result (λ found. filter (has_numbers self.now.chosen) (map (λ p. p.now) found.items) ≡ filter (has_numbers self.now.chosen) index.now.points) }
     {
-        let places = self.chosen.places(alloc, index)?;
-        points_at(alloc, points, &places)
+        let places = self.chosen.places(alloc, index.places())?;
+        points_at(alloc, index.points(), &places)
     }
 
     /// At how many points a statement stands.

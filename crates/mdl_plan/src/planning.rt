@@ -8,7 +8,6 @@ ghost use Rattle.mdl_check.specs.Sound.{IsSound};
 ghost use Rattle.prim_code.specs.Counts.{predicted};
 ghost use Rattle.prim_code.specs.Fitting.{IsMeasurable};
 ghost use Rattle.mdl_plan.specs.Fitting.{most_words, HasFewConds, HasLowObjects};
-ghost use Rattle.mdl_plan.specs.Indexes.{IsIndexOf};
 ghost use Rattle.mdl_plan.specs.Plans.{plan_at, plan_of, Answers, IsPlanOver};
 
 use crate::active::{Active, active_at};
@@ -18,39 +17,34 @@ use crate::planner::Planner;
 use crate::variables::vars;
 use mdl_ast::Metric;
 use mdl_check::Checked;
-use pn_types::{Focus, Plan, Point, Proc, Seq};
+use pn_types::{Focus, Plan, Seq};
 use resource_tree::Tree;
 use std::alloc::Global;
 
 /// The most sites that a plan can have.
 const MOST_SITES: u32 = 4096;
 
-/// The plan of a metric at a focus that makes these constraints active. The index is that of these procedures and points.
+/// The plan of a metric at a focus that makes these constraints active.
 fn planned(
     alloc: Global,
     metric: &Metric,
     active: &Active<'_>,
     focus: &Focus,
     tree: &Tree,
-    procs: &[Proc],
-    points: &[Point],
     index: &PlanIndex,
 ) -> Result<Plan, PlanFault>
-    requires procs { length procs.now < 2 ^ 32 }
-    requires points { length points.now < 2 ^ 32 }
-    requires index { IsIndexOf procs.now points.now index.now }
-    ensures answer { Answers result (plan_at tree.now focus.now procs.now points.now metric.now (Ok active.now)) }
+    ensures answer { Answers result (plan_at tree.now focus.now index.now.procs index.now.points metric.now (Ok active.now)) }
     ensures narrow { IfOk result (λ plan. AllByRecursion (λ v. v.initially < 2 ^ 32) plan.vars) }
 {
     let counters = active.counters(alloc)?;
-    let planner = Planner::of(alloc, metric, active, &counters, focus, tree, procs, index)?;
-    let reached = planner.reached(alloc, points, index)?;
+    let planner = Planner::of(alloc, metric, active, &counters, focus, tree, index)?;
+    let reached = planner.reached(alloc, index)?;
     let sites = planner.count(&reached);
     if sites > MOST_SITES {
         return Err(PlanFault::TooManySites(sites));
     }
     let sites = planner.sites(alloc, &reached)?;
-    let opens = planner.opens(alloc, procs, &reached)?;
+    let opens = planner.opens(alloc, index.procs(), &reached)?;
     let vars = vars(alloc, metric, active, &counters)?;
     Ok(Plan {
         vars: Seq::from_vec(vars),
@@ -84,33 +78,28 @@ fn planned(
 /// points ascend, the tool's code measures the plan: the conditions are on counters of the plan and on the arguments 0 to
 /// 7, a statement counts a counter or starts and stops a timer, and no number in it is 2^31 or above.
 ///
-/// The tree's procedures are `procs`, and the points are theirs, by address. The index is that of these procedures and
-/// points. The work is n log n in the points of the procedures that the insertions select, and four lists of a number for each
-/// procedure are set to 0.
+/// The tree's procedures are the index's, and so are the points, by address. The work is n log n in the points of the
+/// procedures that the insertions select, and linear in the constraints, which are looked through for each of the two that the
+/// metric names; four lists of a number for each procedure are set to 0.
 pub fn plan(
     alloc: Global,
     checked: &Checked,
     metric: u32,
     focus: &Focus,
     tree: &Tree,
-    procs: &[Proc],
-    points: &[Point],
     index: &PlanIndex,
 ) -> Result<Plan, PlanFault>
-    requires metric { metric < length checked.now.metrics }
-    requires procs { length procs.now < 2 ^ 32 }
-    requires points { length points.now < 2 ^ 32 }
-    requires index { IsIndexOf procs.now points.now index.now }
+    requires { metric < length checked.now.metrics }
     ensures answer { (m : Metric) → slice_get checked.now.metrics metric ≡ Some m →
-        Answers result (plan_of checked.now.constraints m focus.now tree.now procs.now points.now) }
-    ensures within { IfOk result (IsPlanOver points.now) }
+        Answers result (plan_of checked.now.constraints m focus.now tree.now index.now.procs index.now.points) }
+    ensures within { IfOk result (IsPlanOver index.now.points) }
     // What is checked is sound where it was parsed or shipped.
     ensures few_conds { IsSound checked.now → IfOk result HasFewConds }
     ensures cost { IsSound checked.now → IfOk result (λ plan. predicted plan ≤ most_words) }
     // The tree of an image's objects has low ones, and the points of an image ascend.
-    ensures measurable { IsSound checked.now → HasLowObjects tree.now → IsStrictlyIncreasing (map (λ p. p.at) points.now) → IfOk result IsMeasurable }
+    ensures measurable { IsSound checked.now → HasLowObjects tree.now → IsStrictlyIncreasing (map (λ p. p.at) index.now.points) → IfOk result IsMeasurable }
 {
     let metric = &checked.metrics.as_slice()[metric as usize];
     let active = active_at(checked.constraints.as_slice(), metric, focus)?;
-    planned(alloc, metric, &active, focus, tree, procs, points, index)
+    planned(alloc, metric, &active, focus, tree, index)
 }

@@ -127,10 +127,6 @@ legible_reads (piece ∷ pieces) tail h white =
     rw (same, behind_bytes-append first_place gap next)
     (subst (λ (r : Rest). Reads (gap ++ next) (scan r) (word ∷ words_in pieces) (behind_bytes middle next)) (sym there) reads)
 
--- The same of the words alone.
-pub words_of-written : (pieces : List (List ℕ × Word)) (tail : List ℕ) → are_legible pieces ≡ true → list_all is_white_space tail ≡ true → words_of (written pieces ++ tail) ≡ words_in pieces
-words_of-written pieces tail h white = (legible_reads pieces tail h white).words
-
 -- ---- writing one list of words behind another
 
 -- the word that stands last

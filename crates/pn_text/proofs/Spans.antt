@@ -84,16 +84,3 @@ spans_count at (token ∷ tokens) len s = omega (arith, s.0, s.1, spans_count to
 
 pub length-tokens_of : (text : List ℕ) → length (tokens_of text).tokens ≤ length text
 length-tokens_of text = omega (arith, spans_count 0 (tokens_of text).tokens (length text) (spans-tokens_of text))
-
--- the bytes of each token stand in the text, and there is one at least
-pub record SpanStands (text : List ℕ) (token : Token) : Type 0 where
-  pub some : token.from < token.to
-  pub inside : token.to ≤ length text
-
-pub spans_inside : (at : ℕ) (tokens : List Token) (len : ℕ) → AreSpans at tokens len → at ≤ len
-spans_inside at [] len s = s
-spans_inside at (token ∷ tokens) len s = omega (arith, s.0, s.1, spans_inside token.to tokens len s.2)
-
--- of spans the first stands in the text
-pub first_span : (at : ℕ) (token : Token) (tokens : List Token) (text : List ℕ) → AreSpans at (token ∷ tokens) (length text) → SpanStands text token
-first_span at token tokens text s = record { some = s.1; inside = spans_inside token.to tokens (length text) s.2 }

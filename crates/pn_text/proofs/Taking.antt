@@ -3,7 +3,6 @@ use Rattle.std.proofs.Common.{◌≡◌, ℕ, ◌<◌, ◌≤◌, Some, None, Ok
 use Rattle.pn_text.specs.Scans.{Ending, AtEnd, AtFault, Scan, at_ending, first_in, next_of, rest_of, place_in, place_of, AreSpans}
 use Rattle.pn_text.specs.declared.token.Token.{Token}
 use Rattle.pn_text.specs.declared.token.LexFault.{LexFault}
-use Rattle.pn_text.proofs.Spans.{spans_inside}
 
 ending_no_token : (ending : Ending) (token : Token) → at_ending ending ≡ Ok (Some token) → ⊥
 ending_no_token (AtEnd place) token e = cc
@@ -45,21 +44,3 @@ failed_in (token ∷ tokens) ending fault e = cc
 -- with a fault they end with it
 pub failed : (scan : Scan) (fault : LexFault) → next_of scan ≡ Err fault → Ends scan (AtFault fault)
 failed scan fault e = failed_in scan.tokens scan.ending fault e
-
--- where a token stands, and those behind it
-pub record TakesSpan (at : ℕ) (token : Token) (rest : List Token) (len : ℕ) : Type 0 where
-  pub behind : at ≤ token.from
-  pub some : token.from < token.to
-  pub inside : token.to ≤ len
-  pub rest_ascends : AreSpans token.to rest len
-
-span_in : (tokens : List Token) (ending : Ending) (token : Token) (at len : ℕ) → AreSpans at tokens len → first_in tokens ending ≡ Ok (Some token) → TakesSpan at token (rest_of (record { tokens = tokens; ending = ending })).tokens len
-span_in [] ending token at len s e = absurd (ending_no_token ending token e)
-span_in (first ∷ tokens) ending token at len s e =
-    let same : first ≡ token = cc in
-    let here : TakesSpan at first tokens len = record { behind = s.0; some = s.1; inside = spans_inside first.to tokens len s.2; rest_ascends = s.2 } in
-    rw (← same) here
-
--- of tokens that ascend, the next one
-pub taken_span : (scan : Scan) (token : Token) (at len : ℕ) → AreSpans at scan.tokens len → next_of scan ≡ Ok (Some token) → TakesSpan at token (rest_of scan).tokens len
-taken_span scan token at len s e = span_in scan.tokens scan.ending token at len s e

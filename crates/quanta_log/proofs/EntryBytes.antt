@@ -9,7 +9,7 @@ use Rattle.pn_types.specs.declared.limits.TheConstants.{MAX_HARTS}
 use Rattle.pn_types.specs.declared.settings.Settings.{Settings}
 use Rattle.quanta_log.specs.declared.version.Version.{Version}
 use Rattle.quanta_log.specs.declared.version.Version.TheVariants.{One, Two}
-use Rattle.quanta_log.specs.declared.quantum.Quantum.{Quantum}
+use Rattle.pn_types.specs.declared.quantum.Quantum.{Quantum}
 use Rattle.quanta_log.specs.Fields.{entry_len, entry_fields, number}
 use Rattle.quanta_log.specs.Meaning.{quantum_at, quanta_at, entry_fault, entries_fault}
 use Rattle.quanta_log.specs.Spelling.{entry, IsQuantum, CanSpell}

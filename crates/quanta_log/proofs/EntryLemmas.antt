@@ -2,7 +2,7 @@
 use Rattle.std.proofs.Common.{◌≡◌, ℕ, suc, ◌+◌, ◌-◌, ◌<◌, ◌≤◌, List, [], ◌∷◌, ◌++◌, Option, Some, None, refl, sym, ap, ◌∙◌, append_assoc, arith}
 use Rattle.std.proofs.lemmas.List.{append-nil}
 use Rattle.quanta_log.specs.declared.version.Version.{Version}
-use Rattle.quanta_log.specs.declared.quantum.Quantum.{Quantum}
+use Rattle.pn_types.specs.declared.quantum.Quantum.{Quantum}
 use Rattle.quanta_log.specs.declared.fault.LogFault.{LogFault}
 use Rattle.quanta_log.specs.Fields.{entry_len}
 use Rattle.quanta_log.specs.Meaning.{first_fault, quantum_at, quanta_at, entry_fault, entries_fault}

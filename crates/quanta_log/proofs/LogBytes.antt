@@ -7,7 +7,7 @@ use Rattle.std.specs.List.{flat_map, AllByRecursion}
 use Rattle.pn_types.specs.declared.settings.Settings.{Settings}
 use Rattle.quanta_log.specs.declared.version.Version.{Version}
 use Rattle.quanta_log.specs.declared.version.Version.TheVariants.{One, Two}
-use Rattle.quanta_log.specs.declared.quantum.Quantum.{Quantum}
+use Rattle.pn_types.specs.declared.quantum.Quantum.{Quantum}
 use Rattle.quanta_log.specs.declared.fault.LogFault.{LogFault}
 use Rattle.quanta_log.specs.declared.fault.LogFault.TheVariants.{Short, Trailing}
 use Rattle.quanta_log.specs.Fields.{head_len, entry_len, log_len, most_harts}

@@ -8,7 +8,7 @@ use Rattle.pn_types.specs.declared.settings.Start.{Start}
 use Rattle.pn_types.specs.declared.settings.Start.TheVariants.{Cold, Warm}
 use Rattle.quanta_log.specs.declared.version.Version.{Version}
 use Rattle.quanta_log.specs.declared.version.Version.TheVariants.{One, Two}
-use Rattle.quanta_log.specs.declared.quantum.Quantum.{Quantum}
+use Rattle.pn_types.specs.declared.quantum.Quantum.{Quantum}
 use Rattle.quanta_log.specs.declared.fault.LogFault.{LogFault}
 use Rattle.quanta_log.specs.declared.fault.LogFault.TheVariants.{BadHead, Short, BadField, Trailing, NoMemory}
 use Rattle.quanta_log.specs.Fields.{Field, magic, head_len, entry_len, log_len, head_fields, entry_fields, number, is_within}

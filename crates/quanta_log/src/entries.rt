@@ -7,9 +7,8 @@ ghost use Rattle.quanta_log.specs.Meaning.{harts_of, count_of, quantum_at, quant
 
 use crate::fault::LogFault;
 use crate::numbers::{byte, doubleword, half, is_within, word};
-use crate::quantum::Quantum;
 use crate::version::Version;
-use pn_types::{MAX_QUANTUM, MAX_WORKERS};
+use pn_types::{MAX_QUANTUM, MAX_WORKERS, Quantum};
 use std::alloc::Global;
 
 /// The greatest number of a quantum's own words.

@@ -5,14 +5,12 @@ mod entries;
 mod fault;
 mod laws;
 mod numbers;
-mod quantum;
 mod reading;
 mod version;
 mod writing;
 
 pub use fault::LogFault;
 pub use laws::{bytes_are_spelled, spelled_is_read};
-pub use quantum::Quantum;
 pub use reading::read;
 pub use version::Version;
 pub use writing::write;

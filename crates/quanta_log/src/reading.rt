@@ -8,11 +8,10 @@ ghost use Rattle.quanta_log.specs.Spelling.{CanSpell};
 use crate::entries::quanta_of;
 use crate::fault::LogFault;
 use crate::numbers::{doubleword, is_within, word};
-use crate::quantum::Quantum;
 use crate::version::Version;
 use pn_types::{
-    MAX_BINS, MAX_BUDGET, MAX_INSTRUMENTS, MAX_QUANTA, MAX_WIDTH, MIN_BINS, Settings, Start,
-    USUAL_INSTRUMENTS,
+    MAX_BINS, MAX_BUDGET, MAX_INSTRUMENTS, MAX_QUANTA, MAX_WIDTH, MIN_BINS, Quantum, Settings,
+    Start, USUAL_INSTRUMENTS,
 };
 use std::alloc::Global;
 

@@ -4,10 +4,9 @@ ghost use Rattle.std.specs.Prelude.{◌≡◌, ◌++◌, length, IfOk, OnOk};
 ghost use Rattle.std.specs.List.{flat_map, AllByRecursion};
 ghost use Rattle.quanta_log.specs.Spelling.{start_number, head, entry, spelled, IsQuantum, CanSpell};
 
-use crate::quantum::Quantum;
 use crate::version::Version;
 use byteorder::{ByteOrder, LittleEndian};
-use pn_types::{MAX_HARTS, NoMemory, Settings, Start};
+use pn_types::{MAX_HARTS, NoMemory, Quantum, Settings, Start};
 use std::alloc::Global;
 
 /// The number that stands for a start.

@@ -5,7 +5,7 @@ use Rattle.std.proofs.lemmas.List.{map-append, append-nil}
 use Rattle.std.proofs.lemmas.List.Elements.{filter_more}
 use Rattle.first_places.specs.Groups.{firsts}
 use Rattle.first_places.specs.Places.{first_place}
-use Rattle.first_places.proofs.Among.{stands_somewhere}
+use Rattle.first_places.proofs.Somewhere.{stands_somewhere}
 use Rattle.first_places.proofs.Firsts.{any_first, firsts_more}
 use Rattle.pn_types.specs.declared.image.Symbol.{Symbol}
 use Rattle.resource_tree.specs.Columns.{objects_at}

@@ -109,13 +109,6 @@ by_name c (m ∷ n ∷ []) x path len e h =
 by_name c (m ∷ n ∷ o ∷ names) x path len e h = absurd (omega (arith, len))
 
 -- one name
-pub hart_by_name : (harts : ℕ) (names : List (List ℕ)) (x : ℕ) (name : List ℕ) → length names ≤ 1 → x ∷ name ≡ below_text names → hart_named harts names ≡ option_map Some (position (bytes_eq name) (hart_names harts))
-hart_by_name harts [] x name len e = cc
-hart_by_name harts (n ∷ []) x name len e =
-    let p : name ≡ n = tail_is x 0x2f name (n ++ []) e ∙ append-nil n in
-    ap (λ (l : List ℕ). option_map Some (position (bytes_eq l) (hart_names harts))) (sym p)
-hart_by_name harts (n ∷ m ∷ names) x name len e = absurd (omega (arith, len))
-
 pub object_by_name : (os : List ObjectNode) (names : List (List ℕ)) (x : ℕ) (name : List ℕ) → length names ≤ 1 → x ∷ name ≡ below_text names → object_named os names ≡ option_map Some (position (λ o. bytes_eq name o.name) os)
 object_by_name os [] x name len e = cc
 object_by_name os (n ∷ []) x name len e =

@@ -1,12 +1,11 @@
 //! The canonical text of a focus.
 
-ghost use Rattle.std.specs.Prelude.{◌≡◌, ◌≤◌, ◌++◌, IfOk, OnOk, Ok};
+ghost use Rattle.std.specs.Prelude.{◌≡◌, ◌≤◌, ◌++◌, IfOk, OnOk};
 ghost use Rattle.std.specs.Option.{option_map};
 ghost use Rattle.resource_tree.specs.Foci.{canonical, code_text, named_text, object_text, IsFocusOf, IsTextOf};
 ghost use Rattle.resource_tree.specs.Names.{IsNamed};
 
 use crate::code::CodeTree;
-use crate::fault::FocusFault;
 use crate::harts::add_hart;
 use crate::objects::Objects;
 use crate::tree::Tree;
@@ -69,19 +68,5 @@ impl Tree {
         ensures read { IsNamed self.now → IsFocusOf self.now focus.now → IfOk result (λ text. IsTextOf self.now text focus.now) }
     {
         Ok(Text::from_vec(self.canonical(alloc, focus)?))
-    }
-
-    /// Writes the canonical text of a focus of the tree and reads it again, which gives the focus.
-    pub fn reread(
-        &self,
-        alloc: Global,
-        focus: &Focus,
-    ) -> Result<Result<Focus, FocusFault>, NoMemory>
-        requires focus { IsFocusOf self.now focus.now }
-        requires names { IsNamed self.now }
-        ensures { IfOk result (λ read. read ≡ Ok focus.now) }
-    {
-        let text = self.focus_text(alloc, focus)?;
-        Ok(self.focus(text.bytes()))
     }
 }

@@ -6,7 +6,7 @@ use Rattle.std.specs.Prelude.{nat_lt}
 use Rattle.std.proofs.lemmas.Option.{slice_get_past}
 use Rattle.std.proofs.lemmas.Bool.{ltb-false}
 use Rattle.first_places.specs.Places.{first_place}
-use Rattle.first_places.proofs.Among.{stands_somewhere}
+use Rattle.first_places.proofs.Somewhere.{stands_somewhere}
 use Rattle.rv_asm.specs.Registers.{named}
 
 address_at : (name : List ℕ) (names : List (List ℕ)) (addresses : List ℕ) → length names ≡ length addresses → slice_get addresses (position_or_len (bytes_eq name) names) ≡ named name (zip names addresses)

@@ -11,7 +11,6 @@ use Rattle.pn_text.specs.Lines.{lines}
 use Rattle.rv_word.specs.Values.{wrap}
 use Rattle.rv_asm.specs.declared.fault.AsmFault.{AsmFault}
 use Rattle.rv_asm.specs.declared.fault.AsmFault.TheVariants.{BadLine, NoText, TextTooLong, DataTooLong}
-use Rattle.rv_asm.specs.declared.assembling.TheConstants.{MAX_DATA_LEN}
 use Rattle.rv_asm.specs.declared.draft.DeclarationKind.{DeclarationKind}
 use Rattle.rv_asm.specs.declared.draft.DeclarationKind.TheVariants as kind
 use Rattle.rv_asm.specs.Registers.{named}
@@ -111,12 +110,12 @@ closed_by d (Some line) = Err (BadLine line)
 abbrev pub closed : Draft → Result Draft AsmFault
 closed d = closed_by d d.opened
 
--- the text is there, and neither it nor the data is too long
+-- the text is there, and neither it nor the data, of at most 16,777,216 bytes, is too long
 unfoldable pub sized : Draft → List ℕ → Result Image AsmFault
 sized d text =
     if length text == 0 then Err NoText
     else if nat_lt MAX_TEXT_LEN (length text) then Err (TextTooLong (length text))
-    else if nat_lt MAX_DATA_LEN (len_all d.data_part) then Err (DataTooLong (len_all d.data_part))
+    else if nat_lt 16777216 (len_all d.data_part) then Err (DataTooLong (len_all d.data_part))
     else Ok (image_of d text)
 
 -- the program of what the lines make

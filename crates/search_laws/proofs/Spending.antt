@@ -2,7 +2,7 @@
 use Rattle.std.proofs.Common.{◌≡◌, ℕ, List, [], ◌∷◌, Option, Some, None, refl, sym, subst, arith}
 use Rattle.std.specs.Prelude.{Bool, true, false, cond, length, nat_lt}
 use Rattle.std.proofs.lemmas.Bool.{cond_both}
-use Rattle.quanta_log.specs.declared.quantum.Quantum.{Quantum}
+use Rattle.pn_types.specs.declared.quantum.Quantum.{Quantum}
 use Rattle.machine.specs.Events.{Event}
 use Rattle.machine.specs.States.{quantum_turns, settling}
 use Rattle.instrument.specs.Placements.{Placements}

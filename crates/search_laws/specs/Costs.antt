@@ -1,6 +1,6 @@
 -- What the tests of a session cost.
 use Rattle.std.specs.Prelude.{◌≡◌, ◌≤◌, nat_lt, true, List}
-use Rattle.quanta_log.specs.declared.quantum.Quantum.{Quantum}
+use Rattle.pn_types.specs.declared.quantum.Quantum.{Quantum}
 use Rattle.session_spec.specs.Inputs.{Inputs}
 use Rattle.session_spec.specs.Searches.{rules_of}
 use Rattle.session_spec.specs.States.{Kept}

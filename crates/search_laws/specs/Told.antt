@@ -1,6 +1,6 @@
 -- What the verdicts of a session's search tell.
 use Rattle.std.specs.Prelude.{◌≤◌, ◌<◌, ◌^◌, List}
-use Rattle.quanta_log.specs.declared.quantum.Quantum.{Quantum}
+use Rattle.pn_types.specs.declared.quantum.Quantum.{Quantum}
 use Rattle.session_spec.specs.Inputs.{Inputs}
 use Rattle.session_spec.specs.Searches.{rules_of}
 use Rattle.session_spec.specs.Told.{AreTold, AreVerdicts}

@@ -13,7 +13,7 @@ use Rattle.mdl_ast.specs.declared.metric.Metric.{Metric}
 use Rattle.mdl_ast.specs.declared.items.PhaseDecl.{PhaseDecl}
 use Rattle.mdl_ast.specs.declared.items.SearchDecl.{SearchDecl}
 use Rattle.resource_tree.specs.Foci.{canonical}
-use Rattle.w3_search.specs.declared.limits.TheConstants.{MAX_NODES}
+use Rattle.w3_search.specs.Nodes.{most_nodes}
 use Rattle.w3_search.specs.declared.node.Node.{Node}
 use Rattle.report.specs.declared.parts.HartPart.{HartPart}
 use Rattle.report.specs.declared.parts.NodePart.{NodePart}
@@ -105,7 +105,7 @@ node_part i n = record {
 -- the nodes in the order in which they were made, and whether no more could be
 abbrev pub search_part : Inputs → Option SearchDecl → List Node → Option SearchPart
 search_part i None nodes = None
-search_part i (Some decl) nodes = Some (record { full = nat_le MAX_NODES (length nodes); window = decl.window; nodes = map (node_part i) nodes })
+search_part i (Some decl) nodes = Some (record { full = nat_le most_nodes (length nodes); window = decl.window; nodes = map (node_part i) nodes })
 
 -- ---- the whole
 

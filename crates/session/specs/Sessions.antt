@@ -1,7 +1,7 @@
 -- The state of a session behind its quanta, and its end.
 use Rattle.std.specs.Prelude.{◌≡◌, ℕ, if◌then◌else◌, Bool, false, Some, List, []}
-use Rattle.quanta_log.specs.declared.quantum.Quantum.{Quantum}
 use Rattle.pn_types.specs.declared.pick.PickCause.{PickCause}
+use Rattle.pn_types.specs.declared.quantum.Quantum.{Quantum}
 use Rattle.resource_tree.specs.Foci.{canonical}
 use Rattle.session_spec.specs.declared.data.RefusedWish.{RefusedWish}
 use Rattle.session_spec.specs.Inputs.{Inputs}

@@ -29,25 +29,18 @@ pub struct Inputs {
     pub checked: Checked,
     /// The program's resources on the settings' harts.
     pub tree: Tree,
-    /// The program's procedures, in the order of the tree.
-    pub procs: Seq<Proc>,
-    /// The program's points, by address.
-    pub points: Seq<Point>,
     /// The numbers of the run.
     pub settings: Settings,
-    // What plans look up of the procedures and points.
+    // The program's procedures, in the order of the tree, and its points, by address, with what plans look up of them.
     pub(crate) index: PlanIndex,
 }
 
 impl Model for Inputs {
-    ghost use Rattle.mdl_plan.specs.Indexes.{IsIndexOf};
     ghost use Rattle.session_spec.specs.Inputs.{Inputs};
 
     ghost Value = { Inputs };
 
-    ghost view = { λ i. record { image = i.image; checked = i.checked; tree = i.tree; procs = i.procs; points = i.points; settings = i.settings } };
-
-    ghost invariant = { λ i. IsIndexOf i.procs i.points i.index };
+    ghost view = { λ i. record { image = i.image; checked = i.checked; tree = i.tree; procs = i.index.procs; points = i.index.points; settings = i.settings } };
 }
 
 // By a call of its own: what drops it need not prove the drops of all its parts.
@@ -57,8 +50,6 @@ impl Drop for Inputs {
             image: _,
             checked: _,
             tree: _,
-            procs: _,
-            points: _,
             settings: _,
             index: _,
         } = self;
@@ -84,13 +75,11 @@ impl Inputs {
         requires points { length points < 2 ^ 32 }
         ensures { IfOk result (λ inputs. inputs ≡ record { image = image; checked = checked; tree = tree; procs = procs; points = points; settings = settings }) }
     {
-        let index = PlanIndex::new(alloc, procs.as_slice(), points.as_slice())?;
+        let index = PlanIndex::new(alloc, procs, points)?;
         Ok(Inputs {
             image,
             checked,
             tree,
-            procs,
-            points,
             settings,
             index,
         })

@@ -27,8 +27,6 @@ fn planned(alloc: Global, inputs: &Inputs, metric: u32, focus: &Focus) -> Result
         metric,
         focus,
         &inputs.tree,
-        inputs.procs.as_slice(),
-        inputs.points.as_slice(),
         &inputs.index,
     )?;
     Ok(start_plan(alloc, whole, inputs.settings.start))

@@ -2,8 +2,7 @@
 
 ghost use Rattle.std.specs.Prelude.{◌≡◌, ◌+◌, ◌<◌, ◌≤◌, ◌++◌, ◌∷◌, [], vec_len, vec_capacity};
 
-use pn_types::Focus;
-use quanta_log::Quantum;
+use pn_types::{Focus, Quantum};
 use session_kits::Kit;
 use session_spec::RefusedWish;
 

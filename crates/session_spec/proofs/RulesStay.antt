@@ -6,7 +6,7 @@ use Rattle.pn_types.specs.declared.plan.Plan.{Plan}
 use Rattle.mdl_ast.specs.declared.items.PhaseDecl.{PhaseDecl}
 use Rattle.mdl_check.specs.declared.checked.CheckedWish.{CheckedWish}
 use Rattle.mdl_plan.specs.declared.fault.PlanFault.{PlanFault}
-use Rattle.quanta_log.specs.declared.quantum.Quantum.{Quantum}
+use Rattle.pn_types.specs.declared.quantum.Quantum.{Quantum}
 use Rattle.instrument.specs.Placements.{Placements, admission}
 use Rattle.instrument.specs.declared.number.Refused.{Refused}
 use Rattle.w3_search.specs.declared.node.NodeSample.{NodeSample}

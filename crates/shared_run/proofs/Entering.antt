@@ -7,7 +7,7 @@ use lib.ListN.{get_elem?}
 use Rattle.atomic_table.specs.Table.{Me, step, keeps, Allows, Splits}
 use Rattle.atomic_table.proofs.Lists.{at_set}
 use Rattle.session_spec.specs.Inputs.{Inputs}
-use Rattle.quanta_log.specs.declared.quantum.Quantum.{Quantum}
+use Rattle.pn_types.specs.declared.quantum.Quantum.{Quantum}
 use Rattle.session_spec.specs.Work.{Halted}
 use Rattle.shared_run.specs.declared.view.Receipt.{Receipt}
 use Rattle.shared_run.specs.declared.view.OwnList.{OwnList}

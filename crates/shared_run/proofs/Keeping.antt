@@ -8,7 +8,7 @@ use lib.ListN.{get_elem?}
 use Rattle.atomic_table.specs.Table.{Splits, Joins, opening}
 use Rattle.atomic_table.proofs.Lists.{at_set, at_longer, at_last}
 use Rattle.session_spec.specs.Inputs.{Inputs}
-use Rattle.quanta_log.specs.declared.quantum.Quantum.{Quantum}
+use Rattle.pn_types.specs.declared.quantum.Quantum.{Quantum}
 use Rattle.shared_run.specs.declared.view.OwnList.{OwnList}
 use Rattle.shared_run.specs.declared.view.Note.{Note}
 use Rattle.shared_run.specs.declared.view.Book.{Book}

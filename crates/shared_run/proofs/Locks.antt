@@ -3,7 +3,7 @@ use Rattle.std.proofs.Common.{◌≡◌, ℕ, zero, suc, ◌+◌, ◌-◌, List,
 use Rattle.std.proofs.lemmas.List.{map-append}
 use Rattle.std.specs.Prelude.{slice_get}
 use Rattle.atomic_table.specs.Table.{Me, State, Seen}
-use Rattle.quanta_log.specs.declared.quantum.Quantum.{Quantum}
+use Rattle.pn_types.specs.declared.quantum.Quantum.{Quantum}
 use Rattle.shared_run.specs.declared.view.Receipt.{Receipt}
 use Rattle.shared_run.specs.declared.view.OwnList.{OwnList}
 use Rattle.shared_run.specs.declared.view.Note.{Note}

@@ -1,7 +1,7 @@
 -- A hart that is halted behind some quanta is halted behind all that follow.
 use Rattle.std.proofs.Common.{ℕ, List, [], ◌∷◌, ◌++◌, Option, Some, None, ap, ◌∙◌, inl, inr, length, length-append, arith}
 use Rattle.std.proofs.lemmas.Bool.{cond_both}
-use Rattle.quanta_log.specs.declared.quantum.Quantum.{Quantum}
+use Rattle.pn_types.specs.declared.quantum.Quantum.{Quantum}
 use Rattle.machine.specs.Turns.{is_runnable}
 use Rattle.instrument.specs.Scenes.{Admits, Arms, Drops}
 use Rattle.instrumented.specs.Instrumented.{Instrumented, done}

@@ -1,7 +1,7 @@
 -- The receipts of workers for the entries of a list of quanta.
 use Rattle.std.specs.Prelude.{◌≡◌, ℕ, suc, ◌<◌, ◌==◌, Bool, true, false, List, [], ◌∷◌, length, drop, Some, slice_get}
 use Rattle.std.specs.List.{AllByRecursion}
-use Rattle.quanta_log.specs.declared.quantum.Quantum.{Quantum}
+use Rattle.pn_types.specs.declared.quantum.Quantum.{Quantum}
 use Rattle.shared_run.specs.declared.view.Receipt.{Receipt}
 
 -- a receipt: the entry of this number

@@ -1,6 +1,6 @@
 -- For proofs alone: the quantum that a step announces.
 use mathlib.Core.Option.{Option, some, none}
-use Rattle.quanta_log.specs.declared.quantum.Quantum.{Quantum}
+use Rattle.pn_types.specs.declared.quantum.Quantum.{Quantum}
 
 abbrev pub no_quantum : Quantum
 no_quantum = record { worker = 0; hart = 0; turns = 0; owns = 0 }

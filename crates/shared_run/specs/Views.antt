@@ -1,6 +1,6 @@
 -- For proofs alone: what the seats of the word know, and how each step changes it.
 use Rattle.std.specs.Prelude.{ℕ, suc, ◌+◌, List, [], ◌∷◌, ◌++◌, length, Option, Some, None}
-use Rattle.quanta_log.specs.declared.quantum.Quantum.{Quantum}
+use Rattle.pn_types.specs.declared.quantum.Quantum.{Quantum}
 use Rattle.shared_run.specs.declared.view.Receipt.{Receipt}
 use Rattle.shared_run.specs.declared.view.OwnList.{OwnList}
 use Rattle.shared_run.specs.declared.view.Note.{Note}

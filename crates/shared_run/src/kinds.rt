@@ -2,7 +2,7 @@
 
 use crate::view::View;
 use atomic_table::{Join, Play, Split, Table, TableRule};
-use quanta_log::Quantum;
+use pn_types::Quantum;
 use session::Session;
 use std::alloc::Global;
 

@@ -5,7 +5,7 @@ pub trait RunName {
     ghost use Rattle.std.specs.Prelude.{ℕ, List};
     ghost use Rattle.atomic_table.specs.Seated.{TableId};
     ghost use Rattle.session_spec.specs.Inputs.{Inputs};
-    ghost use Rattle.quanta_log.specs.declared.quantum.Quantum.{Quantum};
+    ghost use Rattle.pn_types.specs.declared.quantum.Quantum.{Quantum};
 
     ghost inputs: { Inputs };
 

@@ -8,7 +8,7 @@ ghost use Rattle.shared_run.specs.Locked.{CanEnter, CanNote};
 use crate::kinds::{Enters, EntryRule, Meets, NotesHart, Parts, TableSeat};
 use crate::view::View;
 use atomic_table::Shared;
-use quanta_log::Quantum;
+use pn_types::Quantum;
 use session::Session;
 
 /// Enters a quantum: the worker's seat takes in the book's, the book and the worker's list gain the entry, of which `made` stand

@@ -1,4 +1,4 @@
-use quanta_log::Quantum;
+use pn_types::Quantum;
 use std::collections::LinkedList;
 
 /// A quantum that a worker took: an entry of the session's list, and its number there, from 0.

@@ -1,6 +1,6 @@
 -- What is left of a run that was viewed.
 use Rattle.std.specs.Prelude.{◌≡◌, ℕ, List, replicate}
-use Rattle.quanta_log.specs.declared.quantum.Quantum.{Quantum}
+use Rattle.pn_types.specs.declared.quantum.Quantum.{Quantum}
 use Rattle.report.specs.declared.parts.ShownPart.{ShownPart}
 use Rattle.session_spec.specs.Inputs.{Inputs}
 use Rattle.session_spec.specs.Work.{closed, work}

@@ -4,11 +4,10 @@ use Rattle.std.specs.Prelude.{slice_get}
 use Rattle.pn_types.specs.declared.focus.Focus.{Focus}
 use Rattle.resource_tree.specs.Foci as foci
 use Rattle.w3_axes.specs.Refining.{children, roots}
-use Rattle.w3_search.specs.declared.limits.TheConstants.{MAX_NODES}
 use Rattle.w3_search.specs.declared.node.Node.{Node}
 use Rattle.w3_search.specs.declared.node.NodeState.TheVariants.{Confirmed}
 use Rattle.w3_search.specs.declared.place.NodePlace.{NodePlace}
-use Rattle.w3_search.specs.Nodes.{is_same_place, place, place_of, stands}
+use Rattle.w3_search.specs.Nodes.{is_same_place, place, place_of, stands, most_nodes}
 use Rattle.w3_search.specs.Steps.{Rules, SearchData}
 use Rattle.w3_search.specs.History.{In, Lineage, lineage_of, IsRoot, IsChild, IsHistory}
 use Rattle.w3_search.proofs.Pairs.{OneAged, Pairs, pairs_back, pairs_forth, pairs_length}
@@ -22,8 +21,8 @@ pub record Going (r : Rules) (present : ℕ) (ns : List Node) (owed left : List 
   pub begun : (i : ℕ) (n : Node) → slice_get ns i ≡ Some n → n.phase ≤ present
   pub origin : (i : ℕ) (n : Node) → slice_get ns i ≡ Some n → IsRoot r (lineage_of n) ⊎ IsChild r ns i (lineage_of n)
   pub apart : (i j : ℕ) (m n : Node) → slice_get ns i ≡ Some m → slice_get ns j ≡ Some n → place_of m ≡ place_of n → i ≡ j
-  pub roots : length ns < MAX_NODES → (q h : ℕ) → q ≤ present → In h (roots r.hypotheses) → ((q ≡ present) × In h left) ⊎ (stands (place q h foci.root) ns ≡ true)
-  pub families : length ns < MAX_NODES → (i : ℕ) (n : Node) → slice_get ns i ≡ Some n → n.state ≡ Confirmed
+  pub roots : length ns < most_nodes → (q h : ℕ) → q ≤ present → In h (roots r.hypotheses) → ((q ≡ present) × In h left) ⊎ (stands (place q h foci.root) ns ≡ true)
+  pub families : length ns < most_nodes → (i : ℕ) (n : Node) → slice_get ns i ≡ Some n → n.state ≡ Confirmed
       → In i owed ⊎ ((h : ℕ) (f : Focus) → In (h, f) (children r.hypotheses r.tree n.hypothesis n.focus) → stands (place n.phase h f) ns ≡ true)
 
 pub whole : (v : SearchData) → Going v.rules v.present v.nodes [] [] → IsHistory v

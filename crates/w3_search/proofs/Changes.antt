@@ -11,13 +11,12 @@ use Rattle.resource_tree.specs.Foci as foci
 use Rattle.resource_tree.specs.Resources.{Resources}
 use Rattle.w3_axes.specs.Testing.{holds}
 use Rattle.w3_axes.specs.Refining.{children, threshold_of}
-use Rattle.w3_search.specs.declared.limits.TheConstants.{MAX_NODES}
 use Rattle.w3_search.specs.declared.node.Node.{Node}
 use Rattle.w3_search.specs.declared.node.NodeSample.{NodeSample}
 use Rattle.w3_search.specs.declared.node.NodeState.{NodeState}
 use Rattle.w3_search.specs.declared.node.NodeState.TheVariants.{Waiting, Active, Confirmed, Rejected, Barred, Unfinished}
 use Rattle.w3_search.specs.declared.place.NodePlace.{NodePlace}
-use Rattle.w3_search.specs.Nodes.{changed, is_active, is_confirmed, is_free, is_open, is_same_place, is_waiting, new_node, place, place_of, sampled, stands, with_node}
+use Rattle.w3_search.specs.Nodes.{changed, is_active, is_confirmed, is_free, is_open, is_same_place, is_waiting, new_node, place, place_of, sampled, stands, with_node, most_nodes}
 use Rattle.w3_search.specs.History.{AllOpen, AreFew}
 use Rattle.w3_search.specs.Steps.{SearchData, begun, is_due, judged, may_take, with_children, with_family_of, with_phases, with_roots, with_sample}
 
@@ -39,10 +38,10 @@ any_places p [] = refl
 any_places p (n ∷ ns) = ap (λ (b : Bool). is_same_place p (place_of n) || b) (any_places p ns)
 
 -- a place that is free: there is room, and it isn't taken
-pub free_parts : (p : NodePlace) (ns : List Node) → is_free p ns ≡ true → (length ns < MAX_NODES) × (stands p ns ≡ false)
+pub free_parts : (p : NodePlace) (ns : List Node) → is_free p ns ≡ true → (length ns < most_nodes) × (stands p ns ≡ false)
 free_parts p ns e =
-    let both = and_parts (nat_lt (length ns) MAX_NODES) (not (stands p ns)) e in
-    (ltb-true (length ns) MAX_NODES both.0, not-true (stands p ns) both.1)
+    let both = and_parts (nat_lt (length ns) most_nodes) (not (stands p ns)) e in
+    (ltb-true (length ns) most_nodes both.0, not-true (stands p ns) both.1)
 
 -- ---- changes keep places
 

@@ -9,12 +9,11 @@ use Rattle.pn_types.specs.declared.focus.CodePart.{CodePart}
 use Rattle.pn_types.specs.declared.focus.CodePart.TheVariants.{All, Module, Procedure}
 use Rattle.resource_tree.specs.Foci as foci
 use Rattle.w3_axes.specs.Refining.{children, roots}
-use Rattle.w3_search.specs.declared.limits.TheConstants.{MAX_NODES}
 use Rattle.w3_search.specs.declared.node.Node.{Node}
 use Rattle.w3_search.specs.declared.node.NodeState.{NodeState}
 use Rattle.w3_search.specs.declared.node.NodeState.TheVariants.{Confirmed}
 use Rattle.w3_search.specs.declared.place.NodePlace.{NodePlace}
-use Rattle.w3_search.specs.Nodes.{is_free, is_same_code, is_same_number, is_same_place, is_confirmed, new_node, place, place_of, stands, with_node}
+use Rattle.w3_search.specs.Nodes.{is_free, is_same_code, is_same_number, is_same_place, is_confirmed, new_node, place, place_of, stands, with_node, most_nodes}
 use Rattle.w3_search.specs.Steps.{Rules, with_children, with_family, with_family_of, with_families, with_roots}
 use Rattle.w3_search.specs.History.{In, Lineage, lineage_of, IsRoot, IsChild}
 use Rattle.w3_search.proofs.Changes.{free_parts, got}
@@ -71,7 +70,7 @@ with_node_length q parent h f ns =
     cond_both (is_free (place q h f) ns) (ns ++ new_node q parent h f ∷ []) ns (λ (l : List Node). length ns ≤ length l) (λ _. omega (arith, length_push ns (new_node q parent h f))) (λ _. omega arith)
 
 -- it stands there afterwards, where there was room
-pub with_node_there : (q : ℕ) (parent : Option ℕ) (h : ℕ) (f : Focus) (ns : List Node) → length (with_node q parent h f ns) < MAX_NODES → stands (place q h f) (with_node q parent h f ns) ≡ true
+pub with_node_there : (q : ℕ) (parent : Option ℕ) (h : ℕ) (f : Focus) (ns : List Node) → length (with_node q parent h f ns) < most_nodes → stands (place q h f) (with_node q parent h f ns) ≡ true
 with_node_there q parent h f ns l = by (cases_Bool (is_free (place q h f) ns))
   where
     by : (is_free (place q h f) ns ≡ true) ⊎ (is_free (place q h f) ns ≡ false) → stands (place q h f) (with_node q parent h f ns) ≡ true
@@ -79,10 +78,10 @@ with_node_there q parent h f ns l = by (cases_Bool (is_free (place q h f) ns))
         subst (λ (m : List Node). stands (place q h f) m ≡ true) (sym (cond-true (is_free (place q h f) ns) (ns ++ new_node q parent h f ∷ []) ns allowed)) (stands_new (place q h f) ns (new_node q parent h f) refl)
     by (inr not_free) =
         let e : with_node q parent h f ns ≡ ns = cond-false (is_free (place q h f) ns) (ns ++ new_node q parent h f ∷ []) ns not_free in
-        let few : length ns < MAX_NODES = subst (λ (m : List Node). length m < MAX_NODES) e l in
+        let few : length ns < most_nodes = subst (λ (m : List Node). length m < most_nodes) e l in
         subst (λ (m : List Node). stands (place q h f) m ≡ true) (sym e)
-        (elim (and_cases (nat_lt (length ns) MAX_NODES) (not (stands (place q h f) ns)) not_free) [
-          | inl full ↦ absurd (omega (arith, ltb-false (length ns) MAX_NODES full))
+        (elim (and_cases (nat_lt (length ns) most_nodes) (not (stands (place q h f) ns)) not_free) [
+          | inl full ↦ absurd (omega (arith, ltb-false (length ns) most_nodes full))
           | inr taken ↦ not-false (stands (place q h f) ns) taken
         ])
 
@@ -104,7 +103,7 @@ child_kept r ns n i s c = record {
   child = c.child;
 }
 
-pushed : (r : Rules) (present : ℕ) (ns : List Node) (owed left : List ℕ) (n : Node) → Going r present ns owed left → n.phase ≤ present → (n.state ≡ Confirmed → ⊥) → Comes r ns (lineage_of n) → stands (place_of n) ns ≡ false → length ns < MAX_NODES
+pushed : (r : Rules) (present : ℕ) (ns : List Node) (owed left : List ℕ) (n : Node) → Going r present ns owed left → n.phase ≤ present → (n.state ≡ Confirmed → ⊥) → Comes r ns (lineage_of n) → stands (place_of n) ns ≡ false → length ns < most_nodes
     → Going r present (ns ++ n ∷ []) owed left
 pushed r present ns owed left n g phase waits comes free room = record {
   begun = λ i m e. elim (get_push ns n i m e) [ inl old ↦ g.begun i m old | inr new ↦ subst (λ (k : Node). k.phase ≤ present) (sym new.1) phase ];
@@ -159,11 +158,11 @@ children_length q i [] ns = omega arith
 children_length q i (k ∷ ks) ns = omega (arith, with_node_length q (Some i) k.0 k.1 ns, children_length q i ks (with_node q (Some i) k.0 k.1 ns))
 
 -- these children stand, where there was room
-children_there : (q i : ℕ) (ks : List (ℕ × Focus)) (ns : List Node) → length (with_children q i ks ns) < MAX_NODES → (h : ℕ) (f : Focus) → In (h, f) ks → stands (place q h f) (with_children q i ks ns) ≡ true
+children_there : (q i : ℕ) (ks : List (ℕ × Focus)) (ns : List Node) → length (with_children q i ks ns) < most_nodes → (h : ℕ) (f : Focus) → In (h, f) ks → stands (place q h f) (with_children q i ks ns) ≡ true
 children_there q i [] ns l h f c = absurd c
 children_there q i (k ∷ ks) ns l h f (inl e) =
     let m = with_node q (Some i) k.0 k.1 ns in
-    let room : length m < MAX_NODES = omega (arith, children_length q i ks m) in
+    let room : length m < most_nodes = omega (arith, children_length q i ks m) in
     let same : place q h f ≡ place q k.0 k.1 = ap (λ (x : ℕ × Focus). place q x.0 x.1) e in
     children_stand q i ks (place q h f) m (subst (λ (p : NodePlace). stands p m ≡ true) (sym same) (with_node_there q (Some i) k.0 k.1 ns room))
 children_there q i (k ∷ ks) ns l h f (inr c) = children_there q i ks (with_node q (Some i) k.0 k.1 ns) l h f c
@@ -193,7 +192,7 @@ confirmed_is _ e = cc
 
 -- a node owes no more
 paid : (r : Rules) (present : ℕ) (ns : List Node) (i : ℕ) (owed left : List ℕ) → Going r present ns (i ∷ owed) left
-    → (length ns < MAX_NODES → (n : Node) → slice_get ns i ≡ Some n → n.state ≡ Confirmed → (h : ℕ) (f : Focus) → In (h, f) (children r.hypotheses r.tree n.hypothesis n.focus) → stands (place n.phase h f) ns ≡ true)
+    → (length ns < most_nodes → (n : Node) → slice_get ns i ≡ Some n → n.state ≡ Confirmed → (h : ℕ) (f : Focus) → In (h, f) (children r.hypotheses r.tree n.hypothesis n.focus) → stands (place n.phase h f) ns ≡ true)
     → Going r present ns owed left
 paid r present ns i owed left g done = record {
   begun = g.begun;

@@ -3,26 +3,25 @@ use Rattle.std.specs.Prelude.{ℕ, ◌≡◌, ◌≤◌, ◌+◌, ◌==◌, nat_
 use Rattle.std.specs.declared.vec.Vec.{Vec}
 use Rattle.std.specs.declared.alloc.Global.{Global}
 use Rattle.indexmap.specs.IndexSet.{IndexSet, spare}
-use Rattle.w3_search.specs.declared.limits.TheConstants.{MAX_NODES}
 use Rattle.w3_search.specs.declared.node.Node.{Node}
 use Rattle.w3_search.specs.declared.place.NodePlace.{NodePlace}
-use Rattle.w3_search.specs.Nodes.{active_of, changed, place_of, waiting_of}
+use Rattle.w3_search.specs.Nodes.{active_of, changed, place_of, waiting_of, most_nodes}
 
 -- the set has the nodes' places in their order, the nodes that wait and those under test are listed, and there is room for
 -- the most nodes
 pub record IsIndexed {S : Type 0} (list : List Node) (index : IndexSet NodePlace S) (waiting active : List ℕ) : Type 0 where
-  pub few : length list ≤ MAX_NODES
+  pub few : length list ≤ most_nodes
   pub places : index.keys ≡ map place_of list
   pub waits : waiting ≡ waiting_of list
   pub under_test : active ≡ active_of list
-  pub spare_places : MAX_NODES ≤ length list + spare index
+  pub spare_places : most_nodes ≤ length list + spare index
 
 -- there is room for the most nodes in each list
 pub record HasRoom (nodes : Vec Node Global) (waiting active other : Vec ℕ Global) : Type 0 where
-  pub for_nodes : MAX_NODES ≤ vec_capacity nodes
-  pub for_waiting : MAX_NODES ≤ vec_capacity waiting
-  pub for_active : MAX_NODES ≤ vec_capacity active
-  pub for_others : MAX_NODES ≤ vec_capacity other
+  pub for_nodes : most_nodes ≤ vec_capacity nodes
+  pub for_waiting : most_nodes ≤ vec_capacity waiting
+  pub for_active : most_nodes ≤ vec_capacity active
+  pub for_others : most_nodes ≤ vec_capacity other
 
 -- an ascending list with one number more
 abbrev pub inserted : ℕ → List ℕ → List ℕ

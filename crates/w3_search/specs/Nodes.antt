@@ -5,7 +5,6 @@ use Rattle.std.specs.Option.{option_map_or}
 use Rattle.pn_types.specs.declared.focus.Focus.{Focus}
 use Rattle.pn_types.specs.declared.focus.CodePart.{CodePart}
 use Rattle.pn_types.specs.declared.focus.CodePart.TheVariants.{All, Module, Procedure}
-use Rattle.w3_search.specs.declared.limits.TheConstants.{MAX_NODES}
 use Rattle.w3_search.specs.declared.node.Node.{Node}
 use Rattle.w3_search.specs.declared.node.NodeSample.{NodeSample}
 use Rattle.w3_search.specs.declared.node.NodeState.{NodeState}
@@ -65,9 +64,13 @@ stands p ns = list_any (λ n. is_same_place p (place_of n)) ns
 abbrev pub new_node : ℕ → Option ℕ → ℕ → Focus → Node
 new_node phase parent hypothesis focus = record { phase = phase; parent = parent; hypothesis = hypothesis; focus = focus; state = Waiting; seen = 0; from = 0; to = 0; value = 0; ticks = 0 }
 
+-- the greatest number of nodes
+abbrev pub most_nodes : ℕ
+most_nodes = 4096
+
 -- one more node may be made at this place: none stands there, and there are fewer than there may be
 abbrev pub is_free : NodePlace → List Node → Bool
-is_free p ns = nat_lt (length ns) MAX_NODES && not (stands p ns)
+is_free p ns = nat_lt (length ns) most_nodes && not (stands p ns)
 
 -- the nodes with one more, if it may be made
 abbrev pub with_node : ℕ → Option ℕ → ℕ → Focus → List Node → List Node

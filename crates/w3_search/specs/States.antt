@@ -3,7 +3,7 @@ use Rattle.std.specs.Prelude.{ℕ, ◌≡◌, ◌≤◌, ◌<◌, ◌^◌, Some,
 use Rattle.std.specs.declared.vec.Vec.{Vec}
 use Rattle.std.specs.declared.alloc.Global.{Global}
 use Rattle.mdl_ast.specs.declared.items.PhaseDecl.{PhaseDecl}
-use Rattle.w3_search.specs.declared.limits.TheConstants.{MAX_NODES}
+use Rattle.w3_search.specs.Nodes.{most_nodes}
 use Rattle.w3_search.specs.declared.node.Node.{Node}
 use Rattle.w3_search.specs.History.{AreFew, AreHere, In}
 
@@ -15,6 +15,6 @@ pub record IsState (window : ℕ) (phases : List PhaseDecl) (nodes : List Node) 
   pub some : 1 ≤ window
   pub begun : present ≤ length phases
   pub numbered : length phases < 2 ^ 32
-  pub room : MAX_NODES ≤ vec_capacity drops
+  pub room : most_nodes ≤ vec_capacity drops
   pub few : AreFew window nodes
   pub here : AreHere present nodes

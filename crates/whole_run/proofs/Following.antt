@@ -5,7 +5,7 @@ use Rattle.std.specs.List.{AllByRecursion}
 use Rattle.std.proofs.lemmas.List.{drop_all, drop_more, length-take-le, take_all, take_more}
 use Rattle.std.proofs.lemmas.Bool.{eqb-false, eqb-true}
 use Rattle.pn_types.specs.declared.limits.TheConstants.{MAX_QUANTA}
-use Rattle.quanta_log.specs.declared.quantum.Quantum.{Quantum}
+use Rattle.pn_types.specs.declared.quantum.Quantum.{Quantum}
 use Rattle.machine.specs.Turns.{is_runnable}
 use Rattle.session.specs.Sessions.{SessionData, state_of}
 use Rattle.session_spec.specs.Inputs.{Inputs}

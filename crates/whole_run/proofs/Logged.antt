@@ -10,7 +10,7 @@ use Rattle.machine.specs.Replays.{owns}
 use Rattle.machine.specs.States.{quantum_turns}
 use Rattle.machine.specs.Turns.{ticks_next}
 use Rattle.machine.proofs.Quanta.{quanta_are_legal}
-use Rattle.quanta_log.specs.declared.quantum.Quantum.{Quantum}
+use Rattle.pn_types.specs.declared.quantum.Quantum.{Quantum}
 use Rattle.quanta_log.specs.declared.version.Version.TheVariants.{Two}
 use Rattle.quanta_log.specs.Spelling.{CanSpell, IsQuantum}
 use Rattle.session.specs.Given.{AreGiven}

@@ -9,7 +9,7 @@ use Rattle.pn_types.specs.declared.limits.TheConstants.{MAX_QUANTA}
 use Rattle.turn_order.specs.declared.order.Order.{Order}
 use Rattle.turn_order.specs.Orders.{chosen, order_after, order_of_seed, picked, ready_of}
 use Rattle.turn_order.proofs.Picks.{filter_same, filter_without, none_may, picked_may, range_more}
-use Rattle.quanta_log.specs.declared.quantum.Quantum.{Quantum}
+use Rattle.pn_types.specs.declared.quantum.Quantum.{Quantum}
 use Rattle.machine.specs.Turns.{is_runnable}
 use Rattle.session_spec.specs.Inputs.{Inputs}
 use Rattle.session_spec.specs.States.{State}

@@ -1,6 +1,6 @@
 -- What is left of a run: its report and its log.
 use Rattle.std.specs.Prelude.{◌≡◌, ℕ, Bool, true, false, List, []}
-use Rattle.quanta_log.specs.declared.quantum.Quantum.{Quantum}
+use Rattle.pn_types.specs.declared.quantum.Quantum.{Quantum}
 use Rattle.quanta_log.specs.declared.version.Version.TheVariants.{Two}
 use Rattle.quanta_log.specs.Spelling.{spelled}
 use Rattle.report.specs.Text.{report_text}

@@ -3,7 +3,7 @@ use Rattle.std.specs.Prelude.{◌≡◌, ◌<◌, ◌≤◌, false, List, [], �
 use Rattle.pn_types.specs.declared.limits.TheConstants.{MAX_HARTS, MAX_QUANTA, MAX_QUANTUM}
 use Rattle.turn_order.specs.declared.order.Order.{Order}
 use Rattle.turn_order.specs.Orders.{order_after, order_of_seed, ready_of}
-use Rattle.quanta_log.specs.declared.quantum.Quantum.{Quantum}
+use Rattle.pn_types.specs.declared.quantum.Quantum.{Quantum}
 use Rattle.machine.specs.Turns.{is_runnable}
 use Rattle.session_spec.specs.Work.{first_state, work}
 use Rattle.session.specs.Sessions.{SessionData}

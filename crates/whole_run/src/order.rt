@@ -8,8 +8,7 @@ ghost use Rattle.turn_order.specs.Orders.{ready_of};
 ghost use Rattle.whole_run.specs.Rounds.{StandAt};
 ghost use Rattle.whole_run.specs.Seeded.{IsSeeded};
 
-use pn_types::{HartNo, MAX_HARTS, MAX_QUANTA, MAX_QUANTUM, NoMemory};
-use quanta_log::Quantum;
+use pn_types::{HartNo, MAX_HARTS, MAX_QUANTA, MAX_QUANTUM, NoMemory, Quantum};
 use session::Session;
 use std::alloc::Global;
 use turn_order::{Order, Ready};

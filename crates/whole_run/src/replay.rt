@@ -13,7 +13,7 @@ ghost use Rattle.whole_run.specs.Recorded.{report_of};
 ghost use Rattle.whole_run.specs.Replayed.{misfit_of, IsMisfit, IsReplayFault};
 
 use crate::misfit::{Misfit, ReplayFault};
-use quanta_log::Quantum;
+use pn_types::Quantum;
 use report::report;
 use session::{Inputs, Session, StartFault};
 use std::alloc::Global;

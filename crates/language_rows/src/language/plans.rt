@@ -8,7 +8,7 @@ use mdl_check::Checked;
 use mdl_parse::parse;
 use mdl_plan::{PlanIndex, plan};
 use mdl_shipped::shipped;
-use pn_types::{CodePart, Focus, Plan, Point, Proc};
+use pn_types::{CodePart, Focus, Plan, Point, Proc, Seq};
 use resource_tree::Tree;
 use std::alloc::Global;
 use std::io;
@@ -68,8 +68,8 @@ fn print_parts(rt: &impl Print, plan: &Plan) -> io::Result<()> {
 struct Asked<'a> {
     metric: u32,
     focus: Focus,
-    procs: &'a [Proc],
     tree: &'a Tree,
+    index: &'a PlanIndex,
 }
 
 fn print_planned(
@@ -78,19 +78,16 @@ fn print_planned(
     checked: &Checked,
     asked: &Asked<'_>,
 ) -> io::Result<()> {
-    if asked.metric as usize >= checked.metrics.as_slice().len() || asked.procs.len() > 1 {
+    if asked.metric as usize >= checked.metrics.as_slice().len() {
         return println!(rt; "no metric");
     }
-    let index = PlanIndex::new(alloc, asked.procs, &POINTS)?;
     match plan(
         alloc,
         checked,
         asked.metric,
         &asked.focus,
         asked.tree,
-        asked.procs,
-        &POINTS,
-        &index,
+        asked.index,
     ) {
         Ok(plan) => print_parts(rt, &plan),
         Err(fault) => println!(rt; "{fault:?}"),
@@ -127,16 +124,21 @@ fn print_over(
     alloc: Global,
     metric: u32,
     focus: Focus,
-    procs: &[Proc],
+    procs: Vec<Proc>,
 ) -> io::Result<()> {
-    let Some(tree) = tree_of(alloc, procs, &[], 1, &[]) else {
+    let Some(tree) = tree_of(alloc, &procs, &[], 1, &[]) else {
         return println!(rt; "no tree");
     };
+    if procs.len() > 1 {
+        return println!(rt; "no program");
+    }
+    let points = Vec::from_slice(alloc, &POINTS)?;
+    let index = PlanIndex::new(alloc, Seq::from_vec(procs), Seq::from_vec(points))?;
     let asked = Asked {
         metric,
         focus,
-        procs,
         tree: &tree,
+        index: &index,
     };
     print_asked(rt, alloc, &asked)
 }
@@ -149,5 +151,5 @@ pub fn print_plan(rt: &impl Print, alloc: Global, rest: &str) -> io::Result<()> 
         object: object.parse().ok(),
     };
     let procs = main_alone(alloc)?;
-    print_over(rt, alloc, metric.parse().unwrap_or(0), focus, &procs)
+    print_over(rt, alloc, metric.parse().unwrap_or(0), focus, procs)
 }

@@ -11,7 +11,7 @@ use Rattle.commands.proofs.planning.plan_found.Goals as goal
 
 pub returns-in_err-focus : goal.returns-in_err-focus
 returns-in_err-focus c =
-    let found = c.args.found.now in
+    let found = c.args.found in
     let p = asked_plan c.args.request.now in
     let metrics : List Metric = found.checked.metrics in
     let seen : c.as_slice-metrics.result.now ≡ metrics = c.as_slice-metrics.ensures in
@@ -27,7 +27,7 @@ returns-in_err-focus c =
 
 pub returns : goal.returns
 returns c =
-    let found = c.args.found.now in
+    let found = c.args.found in
     let p = asked_plan c.args.request.now in
     let metrics : List Metric = found.checked.metrics in
     let seen : c.as_slice-metrics.result.now ≡ metrics = c.as_slice-metrics.ensures in

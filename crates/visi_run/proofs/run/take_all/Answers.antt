@@ -1,6 +1,6 @@
 use Rattle.std.proofs.Common.{◌≡◌, ◌++◌, [], ◌∷◌, Option, subst}
 use Rattle.std.specs.Prelude.{IfSome}
-use Rattle.quanta_log.specs.declared.quantum.Quantum.{Quantum}
+use Rattle.pn_types.specs.declared.quantum.Quantum.{Quantum}
 use Rattle.session.specs.Sessions.{state_of}
 use Rattle.visi_run.proofs.Feeds.{quantum_step}
 use Rattle.visi_run.proofs.run.take_all.Goals as goal

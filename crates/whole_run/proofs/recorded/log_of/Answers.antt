@@ -1,6 +1,6 @@
 use Rattle.std.proofs.Common.{List, subst, sym}
 use Rattle.pn_types.specs.declared.settings.Settings.{Settings}
-use Rattle.quanta_log.specs.declared.quantum.Quantum.{Quantum}
+use Rattle.pn_types.specs.declared.quantum.Quantum.{Quantum}
 use Rattle.quanta_log.specs.declared.version.Version.TheVariants.{Two}
 use Rattle.quanta_log.specs.Spelling.{CanSpell}
 use Rattle.whole_run.proofs.Logged.{can_spell}

@@ -1,7 +1,7 @@
 use Rattle.std.proofs.Common.{◌≡◌, ◌+◌, ◌∙◌, List, slice_index_or, Some, None, ap, arith, refl, subst, sym, true, false}
 use Rattle.std.specs.List.{AllByRecursion}
 use Rattle.quanta_log.specs.Spelling.{IsQuantum}
-use Rattle.quanta_log.specs.declared.quantum.Quantum.{Quantum}
+use Rattle.pn_types.specs.declared.quantum.Quantum.{Quantum}
 use Rattle.session.specs.Sessions.{SessionData}
 use Rattle.session_spec.specs.Inputs.{Inputs}
 use Rattle.session_spec.specs.Work.{Halted, IsWhole}

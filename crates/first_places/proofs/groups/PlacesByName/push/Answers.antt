@@ -1,5 +1,6 @@
 use Rattle.std.proofs.Common.{◌≡◌, List, ℕ, ◌+◌, ◌^◌, ◌<◌, ◌++◌, ◌∷◌, [], subst, sym, ap, ◌∙◌, length}
-use Rattle.first_places.specs.Numbers.{AreGrouped, IsAdded}
+use Rattle.first_places.specs.Grouped.{AreGrouped}
+use Rattle.first_places.specs.Numbers.{IsAdded}
 use Rattle.first_places.proofs.Grouped.{places_kept}
 use Rattle.first_places.proofs.groups.PlacesByName.push.Goals as goal
 

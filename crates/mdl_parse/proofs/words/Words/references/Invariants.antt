@@ -1,5 +1,5 @@
 use Rattle.std.proofs.Common.{◌≡◌, length, codes}
-use Rattle.mdl_parse.specs.Picks.{is_keyword}
+use Rattle.mdl_parse.specs.Shapes.{is_keyword}
 use Rattle.mdl_parse.specs.Steps.{many_at}
 use Rattle.mdl_parse.specs.Items.{reference_at}
 use Rattle.mdl_parse.proofs.Loops.{with_front}

@@ -15,6 +15,6 @@ returns c =
       each = λ p i chosen there.
           subst (λ (l : List ℕ). list_any (λ j. j == i) l ≡ true) (sym is)
           (once_each all c.sort_unstable.new.self.items i c.sort_unstable.ensures.permutation
-          (all_added c.args.self.now c.args.index.now.places c.new-places.result.items c.add_places.new.places.items c.add_places-2.new.places.items c.add_places-3.new.places.items all
+          (all_added c.args.self.now c.args.by_proc.now c.new-places.result.items c.add_places.new.places.items c.add_places-2.new.places.items c.add_places-3.new.places.items all
           c.in_ok-add_places.ensures c.in_ok-add_places-2.ensures c.in_ok-add_places-3.ensures c.in_ok-add_places-4.ensures p i chosen there));
     }

@@ -8,7 +8,7 @@ use Rattle.mdl_plan.proofs.lists.Lists.add_places.Goals as goal
 
 pub returns : goal.returns
 returns c =
-    let by_proc = c.args.index.now.places in
+    let by_proc = c.args.by_proc.now in
     let old = c.args.places.now.items in
     let new = c.add_places.new.places.items in
     let rows = c.self.inside.rows.items in

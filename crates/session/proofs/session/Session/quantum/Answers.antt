@@ -1,7 +1,7 @@
 use Rattle.std.proofs.Common.{◌≡◌, ℕ, ap₂, ◌∙◌, ◌<◌, ◌++◌, ◌∷◌, [], List, ap, sym, subst, length, arith}
 use Rattle.std.specs.Prelude.{drop, false, true}
 use Rattle.pn_types.specs.declared.limits.TheConstants.{MAX_QUANTA}
-use Rattle.quanta_log.specs.declared.quantum.Quantum.{Quantum}
+use Rattle.pn_types.specs.declared.quantum.Quantum.{Quantum}
 use Rattle.mdl_check.specs.declared.checked.CheckedWish.{CheckedWish}
 use Rattle.machine.specs.Cores.{In}
 use Rattle.machine.specs.Replays.{owns}

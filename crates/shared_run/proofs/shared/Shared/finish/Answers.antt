@@ -1,5 +1,5 @@
 use Rattle.std.proofs.Common.{List, length, drop, sym, ap, ◌∙◌, subst}
-use Rattle.quanta_log.specs.declared.quantum.Quantum.{Quantum}
+use Rattle.pn_types.specs.declared.quantum.Quantum.{Quantum}
 use Rattle.shared_run.specs.Seats.{AreAllFoundIn, AreDealt, AreHalted}
 use Rattle.shared_run.specs.Views.{a_book}
 use Rattle.shared_run.proofs.Locks.{dealt_by, drop_first, ended, halted_by, resting, stands_by}

@@ -2,10 +2,9 @@ use Rattle.std.proofs.Common.{◌≡◌, ◌+◌, ◌<◌, ℕ, Bool, true, fals
 use Rattle.std.specs.Prelude.{not}
 use Rattle.std.specs.List.{list_any}
 use Rattle.std.proofs.lemmas.List.{append-nil, map-append, length_push}
-use Rattle.w3_search.specs.declared.limits.TheConstants.{MAX_NODES}
 use Rattle.w3_search.specs.declared.node.Node.{Node}
 use Rattle.w3_search.specs.declared.place.NodePlace.{NodePlace}
-use Rattle.w3_search.specs.Nodes.{active_of, is_active, is_free, is_same_place, is_waiting, place_of, new_node, waiting_of}
+use Rattle.w3_search.specs.Nodes.{active_of, is_active, is_free, is_same_place, is_waiting, place_of, new_node, waiting_of, most_nodes}
 use Rattle.w3_search.proofs.Changes.{any_places, free_parts}
 use Rattle.w3_search.proofs.Numbering.{few_numbers, numbers_push}
 use Rattle.w3_search.proofs.nodes.Nodes.add.Goals as goal
@@ -34,7 +33,7 @@ invariant_of-self c =
     let n = new_node c.args.phase c.args.parent c.args.hypothesis c.args.focus.now in
     let free : is_free p ns ≡ true = ap (is_free p) (sym c.deref.ensures.value) ∙ sym c.is_free.ensures ∙ c.if-not-is_free.false in
     let parts = free_parts p ns free in
-    let few : length ns < MAX_NODES = parts.0 in
+    let few : length ns < most_nodes = parts.0 in
     let absent : list_any (is_same_place p) s.index.keys ≡ false = ap (list_any (is_same_place p)) i.0.places ∙ any_places p ns ∙ parts.1 in
     let is_new : c.take_place-it_is_new.result ≡ true = c.take_place-it_is_new.ensures.new ∙ ap not absent in
     let new : c.push_node-there_is_room.new.list.items ≡ ns ++ n ∷ [] = c.push_node-there_is_room.ensures.items in

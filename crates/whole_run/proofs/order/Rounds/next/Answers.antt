@@ -1,7 +1,7 @@
 use Rattle.std.proofs.Common.{◌≡◌, ◌<◌, ◌∙◌, List, length, None, Some, ap, arith, subst, sym}
 use Rattle.std.specs.Prelude.{true}
 use Rattle.pn_types.specs.declared.limits.TheConstants.{MAX_QUANTA}
-use Rattle.quanta_log.specs.declared.quantum.Quantum.{Quantum}
+use Rattle.pn_types.specs.declared.quantum.Quantum.{Quantum}
 use Rattle.turn_order.specs.Orders.{order_after, picked, ready_of}
 use Rattle.turn_order.proofs.Picks.{picked_may}
 use Rattle.whole_run.proofs.Ordered.{if_none, may_go, never_none, next_of, or_hart, stand_full, stand_last, stand_next, takes_others}

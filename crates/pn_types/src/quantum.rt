@@ -1,11 +1,11 @@
 /// A quantum: a hart took turns until it had so many, or could take no more.
 #[derive(Clone, Copy, PartialEq, Eq, Drop)]
 pub struct Quantum {
-    /// The worker that gave it, below [`MAX_WORKERS`](pn_types::MAX_WORKERS).
+    /// The worker that gave it, below [`MAX_WORKERS`](crate::MAX_WORKERS).
     pub worker: u32,
     /// The hart that had it, below the settings' harts.
     pub hart: u32,
-    /// How many turns were asked for, from 1 to [`MAX_QUANTUM`](pn_types::MAX_QUANTUM).
+    /// How many turns were asked for, from 1 to [`MAX_QUANTUM`](crate::MAX_QUANTUM).
     pub turns: u32,
     /// How many of the program's own words were executed, at most 65,535.
     pub owns: u32,
