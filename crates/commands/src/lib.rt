@@ -28,7 +28,6 @@ pub use inputs::{Inputs, read_inputs};
 pub use listing::{list_points, write_elf};
 pub use live::run_shared;
 pub use planning::show_plan;
-pub use preparing::session_inputs;
 pub use replaying::{relog, replay};
 pub use running::run;
 pub use stressing::stress;

@@ -74,7 +74,7 @@ pub fn record_live<R: Threads + Wait + Sync, G: Gate + Sync>(
     ensures refused { IfErr result (IsStartFault inputs) }
 {
     let settings = inputs.settings;
-    let session = Session::new(alloc, inputs)?;
+    let session = Session::begin(alloc, inputs)?;
     match live_on(rt, alloc, &settings, session, course, gate) {
         Ok(recorded) => Ok(recorded),
         Err(_) => Err(StartFault::NoMemory),

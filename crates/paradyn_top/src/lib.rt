@@ -8,7 +8,7 @@ mod program;
 mod top;
 
 pub use command_words::log_name;
-pub use commands::{Found, Inputs, Texts, find, read_inputs, session_inputs};
+pub use commands::{Found, Inputs, Texts, find, read_inputs};
 pub use delivery::deliver;
 pub use laws::one_owed;
 pub use program::{Words, run_program};

@@ -1,4 +1,5 @@
 ghost use Rattle.std.specs.Prelude.{◌≡◌, ◌<◌, ◌^◌, IfOk, length};
+ghost use Rattle.session_spec.specs.Inputs.{inputs_of};
 ghost use Rattle.session_spec.specs.Searches.{rules_of};
 ghost use Rattle.session.specs.Contenders.{first_search};
 ghost use Rattle.session.specs.Given.{AreGiven};
@@ -73,7 +74,7 @@ impl Inputs {
     ) -> Result<Inputs, NoMemory>
         requires procs { length procs < 2 ^ 32 }
         requires points { length points < 2 ^ 32 }
-        ensures { IfOk result (λ inputs. inputs ≡ record { image = image; checked = checked; tree = tree; procs = procs; points = points; settings = settings }) }
+        ensures { IfOk result (λ inputs. inputs ≡ inputs_of image checked tree procs points settings) }
     {
         let index = PlanIndex::new(alloc, procs, points)?;
         Ok(Inputs {

@@ -1,5 +1,6 @@
 ghost use Rattle.std.specs.Prelude.{◌≡◌, ℕ, ◌<◌, ◌≤◌, ◌^◌, ◌++◌, ◌∷◌, [], IfErr, IfNone, IfOk, IfSome, IsTrue, None, OnErr, false, length, sum_by, true};
 ghost use Rattle.machine.specs.Turns.{is_runnable};
+ghost use Rattle.session_spec.specs.Inputs.{inputs_of};
 ghost use Rattle.session_spec.specs.Opening.{bad_pick};
 ghost use Rattle.search_laws.specs.Costs.{IsWithin};
 ghost use Rattle.session_spec.specs.Run.{IsRun};
@@ -18,9 +19,13 @@ use crate::later::later;
 use crate::parts::desk_parts;
 use crate::room::put_quantum;
 use crate::starting::opened;
-use mdl_check::CheckedWish;
-use pn_types::{HartNo, MAX_HARTS, MAX_QUANTA, MAX_QUANTUM, MAX_WORKERS, NoMemory, Quantum};
+use mdl_check::{Checked, CheckedWish};
+use pn_types::{
+    HartNo, Image, MAX_HARTS, MAX_QUANTA, MAX_QUANTUM, MAX_WORKERS, NoMemory, Point, Proc, Quantum,
+    Seq, Settings,
+};
 use report::ReportParts;
+use resource_tree::Tree;
 use session_spec::Latest;
 use std::alloc::Global;
 use std::marker::Model;
@@ -66,12 +71,36 @@ impl Drop for Session {
 
 impl Session {
     /// A session at its opening: the wishes at tick 0, in the order of the text; then the whole agenda, and then each instrument is
-    /// armed.
+    /// armed. It is given a program, what its configuration holds, the program's resources on the settings' harts, its procedures in
+    /// the order of the resources, its points by address, and the numbers of the run.
     ///
     /// # Errors
     ///
     /// `NoMemory` where memory is wanting; `BadPick` with the first wish at tick 0 that is refused, if one is.
-    pub fn new(alloc: Global, inputs: Inputs) -> Result<Session, StartFault>
+    pub fn new(
+        alloc: Global,
+        image: Image,
+        checked: Checked,
+        tree: Tree,
+        procs: Seq<Proc>,
+        points: Seq<Point>,
+        settings: Settings,
+    ) -> Result<Session, StartFault>
+        requires { AreGiven (inputs_of image checked tree procs points settings) }
+        ensures begun { IfOk result (λ session. session ≡ begun (inputs_of image checked tree procs points settings)) }
+        ensures picked { IfOk result (λ session. bad_pick (inputs_of image checked tree procs points settings) ≡ None) }
+        ensures refused { IfErr result (IsStartFault (inputs_of image checked tree procs points settings)) }
+    {
+        let inputs = Inputs::new(alloc, image, checked, tree, procs, points, settings)?;
+        Session::begin(alloc, inputs)
+    }
+
+    /// The same session, of inputs that were put together before.
+    ///
+    /// # Errors
+    ///
+    /// As [`Session::new`].
+    pub fn begin(alloc: Global, inputs: Inputs) -> Result<Session, StartFault>
         requires { AreGiven inputs }
         ensures begun { IfOk result (λ session. session ≡ begun inputs) }
         ensures picked { IfOk result (λ session. bad_pick inputs ≡ None) }

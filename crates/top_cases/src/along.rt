@@ -4,16 +4,17 @@ ghost use Rattle.std.specs.Prelude.{◌≡◌, false};
 ghost use Rattle.std.specs.List.{AllByRecursion};
 ghost use Rattle.quanta_log.specs.Spelling.{CanSpell, IsQuantum};
 ghost use Rattle.quanta_log.specs.declared.version.Version.TheVariants as version;
+ghost use Rattle.commands.specs.Given.{inputs_with};
 ghost use Rattle.session.specs.Given.{AreGiven};
 
 use code_points::procedures;
 use outside::MemFiles;
-use paradyn_top::{find, read_inputs, session_inputs};
-use pn_types::{NoMemory, Quantum, Settings};
+use paradyn_top::{Found, find, read_inputs};
+use pn_types::{Image, NoMemory, Quantum, Settings};
 use quanta_log::read;
 use refusals::{Fault, Refusal, bad_log};
 use report::report;
-use session::{Inputs, Session, StartFault};
+use session::{Session, StartFault};
 use std::alloc::Global;
 
 /// A quantum that is told. Where it finds no memory it is asked for once more: nothing had changed.
@@ -42,17 +43,28 @@ fn follow(session: &mut Session, quanta: &[Quantum]) -> Result<(), NoMemory>
     Ok(())
 }
 
-/// The text of the report of a session with these inputs that takes the quanta and is closed.
+/// The text of the report of a session that takes the quanta and is closed: of an image, what was found of it, and settings.
 fn report_of(
     alloc: Global,
-    inputs: Inputs,
+    image: Image,
+    found: Found,
+    settings: Settings,
     quanta: &[Quantum],
     skipped: u32,
 ) -> Result<Vec<u8>, Refusal>
-    requires given { AreGiven inputs }
-    requires quanta { CanSpell version.Two inputs.settings quanta.now }
+    requires given { AreGiven (inputs_with image found settings) }
+    requires quanta { CanSpell version.Two settings quanta.now }
 {
-    let mut session = match Session::new(alloc, inputs) {
+    let opened = Session::new(
+        alloc,
+        image,
+        found.checked,
+        found.tree,
+        found.procs,
+        found.points,
+        settings,
+    );
+    let mut session = match opened {
         Ok(session) => session,
         Err(StartFault::NoMemory) => return Err(Refusal::NoMemory),
         Err(StartFault::BadPick(metric, focus, cause)) => {
@@ -77,8 +89,7 @@ fn report_from(
     let inputs = read_inputs(alloc, files, "p", "c")?;
     let found = find(alloc, &inputs.image, settings.harts, &inputs.conf)?;
     let (_, skipped) = procedures(alloc, &inputs.image)?;
-    let inputs = session_inputs(alloc, inputs.image, found, settings)?;
-    report_of(alloc, inputs, quanta, skipped)
+    report_of(alloc, inputs.image, found, settings, quanta, skipped)
 }
 
 /// The text of the report of the files `p` and `c` along the quanta of a log.

@@ -189,7 +189,7 @@ pub fn view_run<R: Threads + Wait + Sync>(
     ensures refused { IfErr result (IsStartFault inputs) }
 {
     let harts = inputs.settings.harts;
-    let session = Session::new(alloc, inputs)?;
+    let session = Session::begin(alloc, inputs)?;
     match view_on(rt, alloc, *course, session, harts) {
         Ok(text) => Ok(text),
         Err(_) => Err(StartFault::NoMemory),

@@ -110,7 +110,7 @@ pub fn record_run(alloc: Global, inputs: Inputs, course: &Course) -> Result<Reco
     ensures refused { IfErr result (IsStartFault inputs) }
 {
     let settings = inputs.settings;
-    let mut session = Session::new(alloc, inputs)?;
+    let mut session = Session::begin(alloc, inputs)?;
     match run_on(alloc, &settings, &mut session, course) {
         Ok(recorded) => Ok(recorded),
         Err(_) => Err(StartFault::NoMemory),

@@ -90,7 +90,7 @@ pub fn replay_run(
     ensures report { IfOk result (λ report. report.items ≡ report_of inputs quanta.now skipped) }
     ensures refused { IfErr result (IsReplayFault inputs quanta.now) }
 {
-    let mut session = match Session::new(alloc, inputs) {
+    let mut session = match Session::begin(alloc, inputs) {
         Ok(session) => session,
         Err(StartFault::NoMemory) => return Err(ReplayFault::NoMemory),
         Err(StartFault::BadPick(metric, focus, cause)) => {

@@ -54,7 +54,7 @@ pub fn run_parts(
     ensures refused { IfErr result (IsStartFault inputs) }
 {
     let harts = inputs.settings.harts;
-    let mut session = Session::new(alloc, inputs)?;
+    let mut session = Session::begin(alloc, inputs)?;
     match parts_on(alloc, &mut session, harts, seed, turns) {
         Ok(parts) => Ok(parts),
         Err(_) => Err(StartFault::NoMemory),

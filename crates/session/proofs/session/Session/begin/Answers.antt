@@ -6,7 +6,7 @@ use Rattle.session_spec.specs.Inputs.{Inputs, by_tick, later_wishes}
 use Rattle.session.specs.Kept.{IsKept}
 use Rattle.session.specs.Sessions.{begun}
 use Rattle.session.proofs.Begun.{fails, never}
-use Rattle.session.proofs.session.Session.new.Goals as goal
+use Rattle.session.proofs.session.Session.begin.Goals as goal
 
 abbrev later_of : List CheckedWish → List CheckedWish
 later_of ws = by_tick (filter (λ w. not (w.at == 0)) ws)
