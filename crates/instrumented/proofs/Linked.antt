@@ -9,7 +9,7 @@ use Rattle.machine.specs.Cores.{In}
 use Rattle.machine.specs.Effects.{after}
 use Rattle.machine.specs.Events as events
 use Rattle.machine.specs.Events.{IsQuiet, MayArm}
-use Rattle.machine.specs.Links.{is_site_linked}
+use Rattle.machine.specs.LinkedSites.{is_site_linked}
 use Rattle.machine.specs.States.{Machine, with_core}
 use Rattle.machine.proofs.LinkedSites.{sites_linked}
 use Rattle.machine.proofs.Lists.{find_gives}

@@ -5,7 +5,7 @@ use Rattle.pn_types.specs.declared.image.Image.{Image}
 use Rattle.pn_types.specs.declared.plan.Plan.{Plan}
 use Rattle.machine.specs.Cores.{Core, start_core}
 use Rattle.machine.specs.Events.{Event}
-use Rattle.machine.specs.Links.{is_site_linked}
+use Rattle.machine.specs.LinkedSites.{is_site_linked}
 use Rattle.instrument.specs.Placements.{Placements, instrument_at, no_placements}
 use Rattle.instrument.specs.Scenes.{Act, Happens, Scene, does}
 use Rattle.instrument.specs.declared.instrument.Instrument.{Instrument}

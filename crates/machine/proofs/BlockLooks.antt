@@ -10,7 +10,7 @@ use Rattle.bucket_chains.specs.Entries.{bucket_at, bucket_of, IsFirst}
 use Rattle.bucket_chains.specs.Left.{buckets_of, left}
 use Rattle.bucket_chains.proofs.Nexts.{Searches, buckets_len, entry_there, fewer_places, next_within, places_from, read_entry, search_begun, search_found, search_on}
 use Rattle.machine.specs.Cores.{In, Row, is_current, is_live}
-use Rattle.machine.specs.Links.{is_live_mini}
+use Rattle.machine.specs.LinkedSites.{is_live_mini}
 use Rattle.machine.specs.Events.{is_before, is_linked, row_at}
 use Rattle.machine.specs.Views.{row_of}
 use Rattle.machine.specs.declared.block_row.BlockRow.{BlockRow}

@@ -20,7 +20,7 @@ use Rattle.machine.specs.Places.{block_at, program_pc}
 use Rattle.machine.specs.Events.{Turn}
 use Rattle.machine.specs.Effects.{owned}
 use Rattle.machine.specs.Turns.{fetched, may_turn, turn, turn_by, put_back, is_runnable, turn_alone}
-use Rattle.machine.specs.Links.{enters}
+use Rattle.machine.specs.LinkedSites.{enters}
 use Rattle.machine.specs.Leaving.{words_at, is_out_now, OutWithin, OutSoon, LeavesSoon}
 use Rattle.machine.specs.Replays.{replay, owns}
 use Rattle.machine.proofs.Beginning.{begins}

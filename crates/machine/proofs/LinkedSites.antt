@@ -13,7 +13,7 @@ use Rattle.tramp_spec.specs.declared.mark.Mark.TheVariants.{Own, Enter, Tool, Le
 use Rattle.tramp_spec.specs.declared.mark.MarkedWord.{MarkedWord}
 use Rattle.machine.specs.Cores.{Row, Written, Live, Core, is_live}
 use Rattle.machine.specs.Events.{AreLinked, HasMini, IsEntered, IsLinked, row_at}
-use Rattle.machine.specs.Links.{enters, is_enter, is_live_mini, is_site_linked}
+use Rattle.machine.specs.LinkedSites.{enters, is_enter, is_live_mini, is_site_linked}
 use Rattle.machine.specs.Reached.{IsReached}
 use Rattle.machine.proofs.Homes.{base_shape, one_block, piece_of}
 use Rattle.machine.proofs.Invariant.{the_row, Linked, Inv}

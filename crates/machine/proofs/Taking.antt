@@ -11,9 +11,8 @@ use Rattle.tramp_spec.specs.Codes.{fetched_at, is_tool_word}
 use Rattle.tramp_spec.specs.Harts.{Hart, Solo, step_of, is_tick}
 use Rattle.code_store.specs.Stores.{StoredCode}
 use Rattle.machine.specs.Cores.{Row, Core}
-use Rattle.machine.specs.Effects.{after}
+use Rattle.machine.specs.Effects.{after, armed_in}
 use Rattle.machine.specs.Events.{Arm, MayArm, Turn}
-use Rattle.machine.specs.Links.{armed_now}
 use Rattle.machine.specs.Performing.{home_in_store, solo_of}
 use Rattle.machine.specs.Places.{program_pc}
 use Rattle.machine.specs.Reached.{IsReached}
@@ -57,12 +56,12 @@ module _ (harts : List Hart) (p : Prog) (s : StoredCode) (rows : List Row) (budg
         }
 
 -- arming keeps that the parts fit
-pub armed_sound : (harts : List Hart) (p : Prog) (s : StoredCode) (rows : List Row) (budget : ℕ) (i : Placed) → IsSound harts p s rows budget → MayArm (core_of harts p s rows budget) i → IsSound (map (armed_now p.mem i) harts) p s rows budget
+pub armed_sound : (harts : List Hart) (p : Prog) (s : StoredCode) (rows : List Row) (budget : ℕ) (i : Placed) → IsSound harts p s rows budget → MayArm (core_of harts p s rows budget) i → IsSound (map (armed_in p.mem i) harts) p s rows budget
 armed_sound harts p s rows budget i sound may =
     record {
       reached = reaches_more (core_of harts p s rows budget) (Arm i) sound.reached may;
       owners = sound.owners;
-      reservations = sound.reservations ∙ sym (length-map harts (armed_now p.mem i));
-      few = subst (λ n. n ≤ MAX_HARTS) (sym (length-map harts (armed_now p.mem i))) sound.few;
+      reservations = sound.reservations ∙ sym (length-map harts (armed_in p.mem i));
+      few = subst (λ n. n ≤ MAX_HARTS) (sym (length-map harts (armed_in p.mem i))) sound.few;
       countable = sound.countable;
     }

@@ -2,6 +2,7 @@
 use Rattle.std.specs.Prelude.{ℕ, ◌==◌, ◌&&◌, not, if◌then◌else◌, Bool, Option, Some, None, List, [], ◌∷◌, ◌++◌, map, filter, length}
 use Rattle.std.specs.FinMap.{insert}
 use Rattle.pn_types.specs.declared.placed.Placed.{Placed}
+use Rattle.rv_word.specs.Memory.{Memory}
 use Rattle.rv_word.specs.Plain.{program_word}
 use Rattle.tramp_spec.specs.Codes.{Code, put_words}
 use Rattle.tramp_spec.specs.Marks.{own, enter, tool}
@@ -10,7 +11,7 @@ use Rattle.tramp_spec.specs.Slots.{places_of, set_places}
 use Rattle.tramp_spec.specs.Harts.{Hart}
 use Rattle.tramp_spec.specs.declared.block.Block.{Block}
 use Rattle.frame_walk.specs.Openings.{opening}
-use Rattle.frame_walk.specs.Walks.{walk_now}
+use Rattle.frame_walk.specs.Walks.{start_of, walk_from}
 use Rattle.machine.specs.Cores.{Status, Written, Live, Retired, Row, Core, is_current}
 use Rattle.machine.specs.Turns.{turn, ticks_next}
 use Rattle.machine.specs.Events.{Event, Turn, Write, LinkMini, UnlinkMini, LinkPoint, UnlinkPoint, Free, Arm, Sample, current_base, row_at, link_at, next_of, is_linked, before}
@@ -66,9 +67,12 @@ abbrev pub point_unlinked : Option ℕ → ℕ → Core → Core
 point_unlinked None p c = c
 point_unlinked (Some word) p c = record c { code = insert c.code p (own word); rows = map (with_status (retired_at p)) c.rows }
 
--- the slots of the instrument are set to its opening values for a hart
+-- the slots of the instrument are set to its opening values for a hart, which walks its frames in this memory
+abbrev pub armed_in : Memory → Placed → Hart → Hart
+armed_in m i x = record x { bank = set_places (places_of i) (opening i.opens (walk_from m (start_of x.stop x.pc x.regs)) i.vars) x.ticks x.bank }
+
 abbrev pub armed : Core → Placed → Hart → Hart
-armed c i x = record x { bank = set_places (places_of i) (opening i.opens (walk_now c.prog x) i.vars) x.ticks x.bank }
+armed c i x = armed_in c.prog.mem i x
 
 -- The machine behind an event.
 abbrev pub after : Core → Event → Core

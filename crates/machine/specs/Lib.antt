@@ -20,4 +20,5 @@ pub mod Views
 pub mod Performing
 pub mod Alone
 pub mod Stretches
+pub mod LinkedSites
 pub mod Links

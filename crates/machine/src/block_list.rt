@@ -5,7 +5,8 @@ ghost use Rattle.bucket_chains.specs.Left.{buckets_of, left};
 ghost use Rattle.machine.specs.Cores.{In, Row};
 ghost use Rattle.machine.specs.Effects.{at_set, is_kept, retired_at, with_status};
 ghost use Rattle.machine.specs.Events.{current_base, is_before, row_at};
-ghost use Rattle.machine.specs.Links.{HasLink, IsWithin, is_live_mini, owners_left};
+ghost use Rattle.machine.specs.LinkedSites.{is_live_mini};
+ghost use Rattle.machine.specs.Links.{HasLink, IsWithin, owners_left};
 ghost use Rattle.machine.specs.States.{words_in};
 ghost use Rattle.machine.specs.Views.{row_of, status_of};
 

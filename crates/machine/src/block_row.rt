@@ -2,7 +2,8 @@ ghost use Rattle.std.specs.Prelude.{◌≡◌, ◌^◌, ◌<◌, ◌&&◌, ◌==
 ghost use Rattle.machine.specs.Cores.{is_current};
 ghost use Rattle.machine.specs.Effects.{is_kept};
 ghost use Rattle.machine.specs.Events.{is_before, is_linked, link_at, next_of};
-ghost use Rattle.machine.specs.Links.{HasLink, is_live_mini};
+ghost use Rattle.machine.specs.LinkedSites.{is_live_mini};
+ghost use Rattle.machine.specs.Links.{HasLink};
 ghost use Rattle.machine.specs.Views.{row_of, status_of};
 
 use code_store::Store;

@@ -7,7 +7,7 @@ ghost use Rattle.frame_walk.specs.Walks.{start_of};
 ghost use Rattle.machine.specs.Cores.{first_hart};
 ghost use Rattle.machine.specs.Instruments.{reading};
 ghost use Rattle.machine.specs.Leaving.{is_out_now};
-ghost use Rattle.machine.specs.Links.{armed_now};
+ghost use Rattle.machine.specs.Effects.{armed_in};
 ghost use Rattle.machine.specs.Performing.{home_in_store};
 ghost use Rattle.machine.specs.Turns.{may_turn};
 
@@ -157,7 +157,7 @@ impl HartState {
     /// Sets the slots of an instrument in the hart's bank to its opening values. The hart walks its frames in this memory.
     pub fn arm(&mut self, mem: &Mem, instrument: &Placed)
         requires small { AllByRecursion IsSmall instrument.now.opens }
-        ensures { self.new ≡ armed_now mem.now instrument.now self.old }
+        ensures { self.new ≡ armed_in mem.now instrument.now self.old }
     {
         let start = self.walk_start();
         let opens = instrument.opens.as_slice();

@@ -2,10 +2,10 @@ ghost use Rattle.std.specs.Prelude.{◌≡◌, ◌↔◌, if◌then◌else◌, f
 ghost use Rattle.std.specs.List.{AllByRecursion, list_all};
 ghost use Rattle.tramp_spec.specs.Codes.{fetched_at};
 ghost use Rattle.frame_walk.specs.Rooms.{IsSmall};
-ghost use Rattle.machine.specs.Effects.{after};
+ghost use Rattle.machine.specs.Effects.{after, armed_in};
 ghost use Rattle.machine.specs.Events.{Arm, IsQuiet, May, MayArm};
 ghost use Rattle.machine.specs.Instruments.{reading};
-ghost use Rattle.machine.specs.Links.{armed_now, enters, is_site_linked};
+ghost use Rattle.machine.specs.LinkedSites.{enters, is_site_linked};
 ghost use Rattle.machine.specs.States.{with_core};
 
 use crate::hart::HartState;
@@ -23,7 +23,7 @@ pub struct Sample {
 /// Sets the slots of an instrument on each hart to its opening values.
 fn arm_harts(harts: &mut [HartState], mem: &Mem, instrument: &Placed)
     requires small { AllByRecursion IsSmall instrument.now.opens }
-    ensures { harts.new ≡ map (armed_now mem.now instrument.now) harts.old }
+    ensures { harts.new ≡ map (armed_in mem.now instrument.now) harts.old }
 {
     for hart in harts.iter_mut() {
         hart.arm(mem, instrument);

@@ -1,13 +1,13 @@
 use Rattle.std.proofs.Common.{◌≡◌, ◌<◌, ◌∙◌, add-one, sym, ap, subst, length, drop, arith}
 use Rattle.std.specs.Prelude.{map, take, slice_set}
 use Rattle.std.proofs.lemmas.List.{length-set}
-use Rattle.machine.specs.Links.{armed_now}
+use Rattle.machine.specs.Effects.{armed_in}
 use Rattle.machine.proofs.SlotLists.{armed_step}
 use Rattle.machine.proofs.instruments.arm_harts.Goals as goal
 
 pub loop-hart-preserved : goal.loop-hart-preserved
 loop-hart-preserved c =
-    let f = armed_now c.args.mem.now c.args.instrument.now in
+    let f = armed_in c.args.mem.now c.args.instrument.now in
     let i = c.loop-hart.hart-index in
     let xs = c.loop-hart.harts in
     let z = c.arm.new.self in

@@ -1,6 +1,6 @@
 use Rattle.std.proofs.Common.{◌∙◌, ap, sym}
 use Rattle.std.specs.Option.{option_map}
-use Rattle.machine.specs.Links.{is_live_mini}
+use Rattle.machine.specs.LinkedSites.{is_live_mini}
 use Rattle.machine.specs.Views.{row_of}
 use Rattle.machine.proofs.BlockLooks.{live_same}
 use Rattle.machine.proofs.block_list.Blocks.has_live_mini.Goals as goal

@@ -2,7 +2,7 @@ use Rattle.std.proofs.Common.{◌≡◌, ◌∙◌, sym, ap, subst}
 use Rattle.std.specs.Prelude.{IsTrue, ◌↔◌}
 use Rattle.std.specs.List.{list_all}
 use Rattle.machine.specs.Events.{AreOutside, IsQuiet}
-use Rattle.machine.specs.Links.{is_site_linked}
+use Rattle.machine.specs.LinkedSites.{is_site_linked}
 use Rattle.machine.specs.Reached.{IsReached}
 use Rattle.machine.specs.States.{Machine}
 use Rattle.machine.proofs.LinkedSites.{sites_linked}
