@@ -4,6 +4,7 @@ ghost use Rattle.machine_examples.specs.FirstTurns.{FirstTurns};
 ghost use Rattle.machine_examples.specs.HartInside.{HartInside};
 ghost use Rattle.machine_examples.specs.LoopCounted.{LoopCounted};
 ghost use Rattle.machine_examples.specs.ThreeCounters.{MinisUnlinked, PointUnlinked};
+ghost use Rattle.machine_examples.specs.WarmTimer.{WarmTimer};
 
 /// Thirteen turns of three words, the first of which is patched and counted.
 pub fn first_turns()
@@ -29,4 +30,11 @@ pub fn point_unlinked()
 /// While a hart is inside a trampoline no instrument is armed or sampled. Once it has settled, both may happen.
 pub fn hart_inside()
     ensures { HartInside }
+{}
+
+/// Two harts go round one word of a procedure. A timer is armed meanwhile: on both harts its Open finds the procedure open and starts
+/// it, since the condition on its counter holds. The condition under which a site would stop it is looked at in each round, and never
+/// holds. Behind three rounds of the harts together it reads 3.
+pub fn warm_timer()
+    ensures { WarmTimer }
 {}
