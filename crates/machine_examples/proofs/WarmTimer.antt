@@ -22,12 +22,12 @@ use Rattle.frame_walk.specs.Walks.{walk}
 use Rattle.machine.specs.Measures.{difference, level, measure}
 use Rattle.machine.specs.Readings.{readings}
 use Rattle.machine.specs.Replays.{replay, Legal}
-use Rattle.machine_examples.specs.WarmTimer.{procedure, two_harts, procedure_time, timer, linking_timer, timing, timed_rounds, WarmTimer}
+use Rattle.machine_examples.specs.WarmTimer.{procedure, two_harts, procedure_time, timer, linking_timer, timing, both_inside, timed_rounds, WarmTimer}
 use Rattle.std.proofs.lemmas.Bool.{true≢false}
 use Rattle.machine.proofs.Replaying.{replay-append, owns-append, legal-append}
 use Rattle.machine_examples.proofs.ThreeLinked.{bank_five}
-use Rattle.machine_examples.proofs.Traces.{Trace, placed, AllStand, stand_placed, Seat, seated, Run, and_then, follows_seated}
-use Rattle.machine_examples.proofs.WarmLinked.{program, measurable, places, base_row, mini_row, linked, linking_legal, test_words, linked_code, stand, body_stands}
+use Rattle.machine_examples.proofs.Traces.{Trace, placed, Seat, seated, Run, and_then, follows_seated}
+use Rattle.machine_examples.proofs.WarmLinked.{program, measurable, places, base_row, mini_row, linked, linking_legal, linked_code, stand, body_stands}
 use Rattle.machine_examples.proofs.WarmOpening.{opens_so}
 
 -- ---- the harts
@@ -50,10 +50,11 @@ rest = replicate bank_five.0 0
 abbrev hart : ℕ → ℕ → Hart
 hart h ticks = with_bank (0 ∷ 0 ∷ 0 ∷ 1 ∷ 1 ∷ rest) h ticks
 
-abbrev behind : ℕ → ℕ → Core
-behind n m = with_harts (hart 0 n ∷ hart 1 m ∷ [])
+-- at the test of `on`, which x5 has
+abbrev at_test : ℕ → ℕ → Hart
+at_test h ticks = record (hart h ticks) { pc = 0x11018; regs = with_reg (start_regs h 2) 5 1; inside = true }
 
-outside : (n m : ℕ) → IsQuiet (behind n m)
+outside : (n m : ℕ) → IsQuiet (with_harts (hart 0 n ∷ hart 1 m ∷ []))
 outside n m zero x e = let s : hart 0 n ≡ x = cc in ap (λ (u : Hart). u.inside) (sym s)
 outside n m (suc zero) x e = let s : hart 1 m ≡ x = cc in ap (λ (u : Hart). u.inside) (sym s)
 outside n m (suc (suc h)) x e = absurd cc
@@ -71,7 +72,10 @@ armed_so : (h : ℕ) → armed linked timer (first_hart (start_hart procedure 2 
 armed_so h =
     ap (λ values. with_bank (set_places (places_of timer) values 0 (replicate bank_len 0)) h 0) (opens_so h) ∙ ap (λ bank. with_bank bank h 0) bank_so
 
-begins : replay timing two_harts ≡ behind 0 0
+abbrev begun : Core
+begun = with_harts (hart 0 0 ∷ hart 1 0 ∷ [])
+
+begins : replay timing two_harts ≡ begun
 unfolding body_of
 begins = ap (λ x. with_harts (x ∷ armed linked timer (first_hart (start_hart procedure 2 1)) ∷ [])) (armed_so 0) ∙ ap (λ x. with_harts (hart 0 0 ∷ x ∷ [])) (armed_so 1)
 
@@ -93,44 +97,69 @@ arms = record { quiet = quiet; linked = sites }
 
 -- ---- the rounds
 
--- from the test the branch leads to the last word, since the counter isn't 0
-abbrev a_round : Trace
-a_round =
-    placed 0x10004 (enter 0x7fd0006f ∷ []) (placed 0x11000 (tool 0x00503423 ∷ tool 0x00c0006f ∷ []) (placed 0x11010 test_words (placed 0x11054 (tool 0xfb5ff06f ∷ []) (placed 0x11008 (tool 0x00803283 ∷ own 0xff9fe06f ∷ []) []))))
+abbrev to_test : Trace
+to_test = placed 0x10004 (enter 0x7fd0006f ∷ []) (placed 0x11000 (tool 0x00503423 ∷ tool 0x00c0006f ∷ []) (placed 0x11010 (tool 0x00000fb7 ∷ tool 0x020fb283 ∷ []) []))
 
-stands : AllStand linked_code a_round
-stands = (
-  stand.entered,
-  (stand.base.0, (stand.base.1.0, stand_placed linked_code 0x11010 test_words (placed 0x11054 (tool 0xfb5ff06f ∷ []) (placed 0x11008 (tool 0x00803283 ∷ own 0xff9fe06f ∷ []) [])) stand.test (stand.last, stand.base.1.1))),
-)
+-- the branch leads over the stop to the last word
+abbrev from_test : Trace
+from_test = placed 0x11018 (tool 0x00000fb7 ∷ tool 0x000f8f9b ∷ tool 0x03f29a63 ∷ []) (placed 0x11054 (tool 0xfb5ff06f ∷ []) (placed 0x11008 (tool 0x00803283 ∷ own 0xff9fe06f ∷ []) []))
 
 abbrev solo : Hart → Solo
 solo x = record { hart = x; prog = (start procedure 2).prog }
 
-abbrev at : Seat → ℕ → Core
-at seat ticks = seated seat (program_of procedure) 1000 linked_code rows (solo (hart seat.number ticks))
+module _ (seat : Seat) (n : ℕ) where
+  abbrev h : ℕ
+  h = seat.number
 
-round : (seat : Seat) (n : ℕ) → nat_lt n 1000 ≡ true → Run (replicate 11 (Turn seat.number)) (at seat n) (at seat (n + 1)) (seat.number ∷ [])
-unfolding decode_of action perform perform_on reg with_reg bank_len
-round seat n low = follows_seated seat (program_of procedure) 1000 linked_code rows a_round (solo (hart seat.number n)) (rw low refl) stands
+  abbrev at : Hart → Core
+  at x = seated seat (program_of procedure) 1000 linked_code rows (solo x)
 
--- hart 0 beside hart 1, and hart 1 beside hart 0
-abbrev beside_1 : ℕ → Seat
-beside_1 m = record { number = 0; among = λ x. x ∷ hart 1 m ∷ []; found = λ x. refl; set = λ x y. refl }
+  comes : nat_lt n 1000 ≡ true → Run (replicate 5 (Turn h)) (at (hart h n)) (at (at_test h n)) []
+  unfolding decode_of action perform perform_on reg with_reg bank_len
+  comes low =
+      follows_seated seat (program_of procedure) 1000 linked_code rows to_test (solo (hart h n)) (rw low refl)
+      (stand.entered, (stand.base.0, (stand.base.1.0, (stand.test.0, (stand.test.1.0, tt)))))
 
-abbrev beside_0 : ℕ → Seat
-beside_0 n = record { number = 1; among = λ x. hart 0 n ∷ x ∷ []; found = λ x. refl; set = λ x y. refl }
+  leaves : Run (replicate 6 (Turn h)) (at (at_test h n)) (at (hart h (n + 1))) (h ∷ [])
+  unfolding decode_of action perform perform_on reg with_reg bank_len
+  leaves =
+      follows_seated seat (program_of procedure) 1000 linked_code rows from_test (solo (at_test h n)) refl
+      (stand.test.1.1.0, (stand.test.1.1.1.0, (stand.test.1.1.1.1.0, (stand.last, stand.base.1.1))))
+
+-- hart 0 beside another, and hart 1
+abbrev first : Hart → Seat
+first y = record { number = 0; among = λ x. x ∷ y ∷ []; found = λ x. refl; set = λ x z. refl }
+
+abbrev second : Hart → Seat
+second y = record { number = 1; among = λ x. y ∷ x ∷ []; found = λ x. refl; set = λ x z. refl }
+
+abbrev turns_inside : List Event
+turns_inside = replicate 16 (Turn 0) ++ replicate 5 (Turn 1)
+
+abbrev turns_outside : List Event
+turns_outside = replicate 6 (Turn 0) ++ replicate 6 (Turn 1)
+
+enter_both : Run turns_inside begun (with_harts (at_test 0 1 ∷ at_test 1 0 ∷ [])) (0 ∷ [])
+enter_both =
+    let beside = first (hart 1 0) in
+    and_then (comes beside 0 refl) (and_then (leaves beside 0) (and_then (comes beside 1 refl) (comes (second (at_test 0 1)) 0 refl)))
+
+leave_both : Run turns_outside (with_harts (at_test 0 1 ∷ at_test 1 0 ∷ [])) (with_harts (hart 0 2 ∷ hart 1 1 ∷ [])) (0 ∷ 1 ∷ [])
+leave_both = and_then (leaves (first (at_test 1 0)) 1) (leaves (second (hart 0 2)) 0)
 
 abbrev turns : List Event
-turns = replicate 22 (Turn 0) ++ replicate 11 (Turn 1)
+turns = turns_inside ++ turns_outside
 
-rounds : Run turns (behind 0 0) (behind 2 1) (0 ∷ 0 ∷ 1 ∷ [])
-rounds = and_then (round (beside_1 0) 0 refl) (and_then (round (beside_1 0) 1 refl) (round (beside_0 2) 0 refl))
+abbrev ended : Core
+ended = with_harts (hart 0 2 ∷ hart 1 1 ∷ [])
 
-run : Run turns (replay timing two_harts) (behind 2 1) (0 ∷ 0 ∷ 1 ∷ [])
-run = subst (λ c. Run turns c (behind 2 1) (0 ∷ 0 ∷ 1 ∷ [])) (sym begins) rounds
+run : Run turns (replay timing two_harts) ended (0 ∷ 0 ∷ 1 ∷ [])
+run = subst (λ c. Run turns c ended (0 ∷ 0 ∷ 1 ∷ [])) (sym begins) (and_then enter_both leave_both)
 
-at_end : replay timed_rounds two_harts ≡ behind 2 1
+at_inside : replay both_inside two_harts ≡ with_harts (at_test 0 1 ∷ at_test 1 0 ∷ [])
+at_inside = replay-append timing turns_inside two_harts ∙ (ap (replay turns_inside) begins ∙ enter_both.state)
+
+at_end : replay timed_rounds two_harts ≡ ended
 at_end = replay-append timing turns two_harts ∙ run.state
 
 -- ---- the law
@@ -162,7 +191,7 @@ in_force = record { before = linking_timer; since = turns; is = refl; spared = s
     lets_more (suc n) h es a = (tt, lets_more n h es a)
 
     lets : AllLet timer turns
-    lets = lets_more 22 0 (replicate 11 (Turn 1)) (lets_more 11 1 [] tt)
+    lets = lets_more 16 0 (replicate 5 (Turn 1) ++ turns_outside) (lets_more 5 1 turns_outside (lets_more 6 0 (replicate 6 (Turn 1)) (lets_more 6 1 [] tt)))
 
 measured : measure (program_of procedure) procedure_time (0 ∷ 1 ∷ []) 0 0 3 (0 ∷ 0 ∷ 1 ∷ []) (start procedure 2) ≡ 3
 unfolding decode_of action perform reg with_reg
@@ -189,6 +218,7 @@ warm_timer = record {
   from_arm = refl;
   starts = ap (λ (c : Core). map (λ x. slice_index x.bank 3) c.harts) begins;
   on = ap (λ (c : Core). map (λ x. slice_index x.bank 4) c.harts) begins;
+  inside = ap (λ (c : Core). map (λ x. x.inside) c.harts) at_inside;
   owned = owns-append timing turns two_harts ∙ run.owned_by;
   at_first = ap (readings timer (0 ∷ 1 ∷ [])) begins;
   at_last = ap (readings timer (0 ∷ 1 ∷ [])) at_end;

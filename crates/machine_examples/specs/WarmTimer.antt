@@ -1,5 +1,5 @@
--- An example: two harts go round one word of a procedure. A timer that is armed meanwhile finds the procedure open on both, and
--- runs from then on. Behind three rounds it reads 3.
+-- An example: two harts stand in a procedure when a timer of it is armed. The timer finds it open on both, and runs from then on.
+-- Behind three rounds of both together, around the procedure's jump, it reads 3.
 use Rattle.std.specs.Prelude.{◌≡◌, true, false, List, [], ◌∷◌, ◌++◌, codes, map, replicate, slice_index}
 use Rattle.pn_types.specs.declared.compare.Cmp.TheVariants.{Eq, Ne}
 use Rattle.pn_types.specs.declared.image.Image.{Image}
@@ -69,9 +69,13 @@ linking_timer = Write timer_base ∷ Write timer_mini ∷ LinkMini 0x10004 0x110
 abbrev pub timing : List Event
 timing = linking_timer ++ Arm timer ∷ []
 
--- a round takes eleven turns, of which one is a tick: hart 0 goes round twice, and hart 1 once
+-- A round takes eleven turns, of which the last is a tick. Hart 0 has gone round once, and both harts have come to the test of `on`.
+abbrev pub both_inside : List Event
+both_inside = timing ++ replicate 16 (Turn 0) ++ replicate 5 (Turn 1)
+
+-- each goes on to the end of its round
 abbrev pub timed_rounds : List Event
-timed_rounds = timing ++ replicate 22 (Turn 0) ++ replicate 11 (Turn 1)
+timed_rounds = both_inside ++ replicate 6 (Turn 0) ++ replicate 6 (Turn 1)
 
 -- All that the law of readings asks is so, and both its sides are 3.
 pub record WarmTimer : Type 0 where
@@ -83,6 +87,7 @@ pub record WarmTimer : Type 0 where
   -- on each hart the timer has one start in force
   pub starts : map (λ x. slice_index x.bank 3) (replay timing two_harts).harts ≡ 1 ∷ 1 ∷ []
   pub on : map (λ x. slice_index x.bank 4) (replay timing two_harts).harts ≡ 1 ∷ 1 ∷ []
+  pub inside : map (λ x. x.inside) (replay both_inside two_harts).harts ≡ true ∷ true ∷ []
   pub owned : owns timed_rounds two_harts ≡ 0 ∷ 0 ∷ 1 ∷ []
   pub at_first : readings timer (0 ∷ 1 ∷ []) (replay timing two_harts) ≡ 0
   pub at_last : readings timer (0 ∷ 1 ∷ []) (replay timed_rounds two_harts) ≡ 3

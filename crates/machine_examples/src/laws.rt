@@ -32,9 +32,9 @@ pub fn hart_inside()
     ensures { HartInside }
 {}
 
-/// Two harts go round one word of a procedure. A timer is armed meanwhile: on both harts its Open finds the procedure open and starts
-/// it, since the condition on its counter holds. The condition under which a site would stop it is looked at in each round, and never
-/// holds. Behind three rounds of the harts together it reads 3.
+/// A timer of a procedure is armed while two harts stand in it. On both harts its Open acts, and starts it under a condition that holds.
+/// Then the harts go round the procedure's jump, both inside the trampoline for a while, and a site there looks each time whether the
+/// timer stops, which it doesn't. Behind three rounds of both together it reads 3.
 pub fn warm_timer()
     ensures { WarmTimer }
 {}
