@@ -6,3 +6,6 @@ pub mod ThreeLinked
 pub mod ThreeTurns
 pub mod ThreeCounters
 pub mod HartInside
+pub mod WarmLinked
+pub mod WarmOpening
+pub mod WarmTimer

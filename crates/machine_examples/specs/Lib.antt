@@ -2,3 +2,4 @@ pub mod FirstTurns
 pub mod LoopCounted
 pub mod ThreeCounters
 pub mod HartInside
+pub mod WarmTimer

@@ -4,6 +4,7 @@ ghost use Rattle.machine_examples.specs.FirstTurns.{FirstTurns};
 ghost use Rattle.machine_examples.specs.HartInside.{HartInside};
 ghost use Rattle.machine_examples.specs.LoopCounted.{LoopCounted};
 ghost use Rattle.machine_examples.specs.ThreeCounters.{MinisUnlinked, PointUnlinked};
+ghost use Rattle.machine_examples.specs.WarmTimer.{WarmTimer};
 
 /// Thirteen turns of three words, the first of which is patched and counted.
 pub fn first_turns()
@@ -29,4 +30,11 @@ pub fn point_unlinked()
 /// While a hart is inside a trampoline no instrument is armed or sampled. Once it has settled, both may happen.
 pub fn hart_inside()
     ensures { HartInside }
+{}
+
+/// A timer of a procedure is armed while two harts stand in it. On both harts its Open acts, and starts it under a condition that holds.
+/// Then the harts go round the procedure's jump, both inside the trampoline for a while, and a site there looks each time whether the
+/// timer stops, which it doesn't. Behind three rounds of both together it reads 3.
+pub fn warm_timer()
+    ensures { WarmTimer }
 {}

@@ -4,4 +4,6 @@
 
 mod laws;
 
-pub use laws::{first_turns, hart_inside, loop_counted, minis_unlinked, point_unlinked};
+pub use laws::{
+    first_turns, hart_inside, loop_counted, minis_unlinked, point_unlinked, warm_timer,
+};
