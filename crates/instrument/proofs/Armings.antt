@@ -145,7 +145,7 @@ module _ (first : Core) (s : Scene) (es : List Event) (w : Whole first s es) (i 
       (cases_eq (k.0).no i.no))
 
   linked_i : AllLinked s.core i.placed.sites
-  linked_i p h = let z = may.linked p h in linked_site s.core w.kept.plain w.kept.inv p.at p.mini z.0 z.1
+  linked_i p h = let z = may.linked p h in linked_site s.core w.kept.reached p.at p.mini z.0 z.1
 
   pub arm_whole : Whole first (record { core = after s.core (events.Arm i.placed); placer = armed i.no s.placer; plans = s.plans }) (es ++ events.Arm i.placed ∷ [])
   arm_whole = record {

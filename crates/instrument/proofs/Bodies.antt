@@ -4,7 +4,7 @@ use Rattle.std.specs.Prelude.{map, filter, take, true, false, unwrap_or, ◌⊎�
 use Rattle.std.specs.FinMap.{get, insert}
 use Rattle.std.proofs.lemmas.Bool.{true≢false, cond-false}
 use Rattle.std.proofs.lemmas.List.{take_at}
-use Rattle.rv_word.specs.Plain.{Plain, program_word}
+use Rattle.rv_word.specs.Plain.{program_word}
 use Rattle.tramp_spec.specs.Blocks.{mini_words}
 use Rattle.tramp_spec.specs.Codes.{Code, tool_at, put_words}
 use Rattle.tramp_spec.specs.Jumps.{jump_word}
@@ -15,8 +15,8 @@ use Rattle.machine.specs.Cores.{In, Row, Status, Live, Retired, Core, is_current
 use Rattle.machine.specs.Effects.{with_status, at_set, retired_at, is_kept, mini_linked, mini_unlinked, point_linked, point_unlinked, row_of, after}
 use Rattle.machine.specs.Events.{Apart, current_base, row_at, link_at, next_of}
 use Rattle.machine.specs.Instruments.{words_at, body_in, body_of_block}
+use Rattle.machine.specs.Reached.{IsReached}
 use Rattle.machine.proofs.Lists.{in_map, in_filter, in_snoc, get_other, put_words_other, put_words_stand, Stands}
-use Rattle.machine.proofs.Invariant.{Inv}
 use Rattle.instrument.specs.Handing.{head_of, leading, event_of}
 use Rattle.instrument.specs.declared.entry.Entry.{Entry}
 use Rattle.instrument.specs.declared.entry.Entry.TheVariants.{WriteBase, WriteMini, LinkMini, LinkPoint, UnlinkMini, UnlinkPoint, Free}
@@ -65,18 +65,18 @@ body_new code p at body next n e =
 abbrev pub Stays : Core → Core → Type 0
 Stays c d = (r : Row) → In r d.rows → r.base ≡ false → (o : Row) × In o c.rows × (o.base ≡ false) × (o.at ≡ r.at) × (body_in d.code r ≡ body_in c.code o)
 
-module _ (c : Core) (s : Plain) (v : Inv c s) (fr : Fresh) (t : Tied c.code c.rows fr) where
+module _ (c : Core) (v : IsReached c) (fr : Fresh) (t : Tied c.code c.rows fr) where
   -- a word that leads on isn't in the body of a mini block
   link_out : (b o : Row) → In b c.rows → In o c.rows → o.base ≡ false → (link_at b < o.at) ⊎ (o.at + 4 * (o.len - 1) ≤ link_at b)
   link_out b o hb ho m = ⊎_elim
       (λ (i : b ≡ o). let e : link_at b ≡ o.at + 4 * (o.len - 1) = ap link_at i ∙ cond-false o.base (o.at + 4) (o.at + 4 * (o.len - 1)) m in inr (omega arith))
       (λ (i : Apart b.at b.len o.at o.len).
-      let z = link_place c s v b hb in let lo = z.0 in let hi = z.1 in
+      let z = link_place c v b hb in let lo = z.0 in let hi = z.1 in
       ⊎_elim (λ j. inl (omega arith)) (λ j. inr (omega arith)) i)
-      (rows_apart c s v b o hb ho)
+      (rows_apart c v b o hb ho)
 
   text_out : (p : ℕ) (o : Row) → p + 4 ≤ tool_at c.program → In o c.rows → (p < o.at) ⊎ (o.at + 4 * (o.len - 1) ≤ p)
-  text_out p o l h = let a = (row_place c s v o h).0 in inl (omega arith)
+  text_out p o l h = let a = (row_place c v o h).0 in inl (omega arith)
 
   stays_insert : (a : ℕ) (k : MarkedWord) (f : Row → Status) → ((o : Row) → In o c.rows → o.base ≡ false → (a < o.at) ⊎ (o.at + 4 * (o.len - 1) ≤ a))
       → Stays c (record c { code = insert c.code a k; rows = map (with_status f) c.rows })
@@ -87,17 +87,17 @@ module _ (c : Core) (s : Plain) (v : Inv c s) (fr : Fresh) (t : Tied c.code c.ro
 
   low_point : (p : ℕ) (b : Row) → current_base (filter is_now c.rows) p ≡ Some b → (w : ℕ) × (program_word c.program p ≡ Some w) × (p + 4 ≤ tool_at c.program)
   low_point p b e =
-      let k = base_of c s v p b e in
-      subst (λ q. (w : ℕ) × (program_word c.program q ≡ Some w) × (q + 4 ≤ tool_at c.program)) k.3 (point_low c s v fr t b k.1 k.2)
+      let k = base_of c v p b e in
+      subst (λ q. (w : ℕ) × (program_word c.program q ≡ Some w) × (q + 4 ≤ tool_at c.program)) k.3 (point_low c v fr t b k.1 k.2)
 
-  stays_base : (b : Block) → Good c.program (WriteBase b) → AwayFrom c s v fr t (WriteBase b) → Stays c (after c (event_of c (WriteBase b)))
+  stays_base : (b : Block) → Good c.program (WriteBase b) → AwayFrom c v fr t (WriteBase b) → Stays c (after c (event_of c (WriteBase b)))
   stays_base b g away r h m = ⊎_elim
       (λ (i : In r c.rows). (r, i, m, refl, body_put c.code b.at b.words r (away r (block_row b true) i (inl refl))))
       (λ (i : r ≡ row_of b). absurd (true≢false (sym g.base ∙ (sym (ap (λ (u : Row). u.base) i) ∙ m))))
       (in_snoc c.rows (row_of b) r h)
 
   -- where no mini block is written
-  pub stays_entry : (e : Entry) → Good c.program e → Ok (stage (filter is_now c.rows) fr) e → AwayFrom c s v fr t e → ((b : Block) → e ≡ WriteMini b → ⊥) → Stays c (after c (event_of c e))
+  pub stays_entry : (e : Entry) → Good c.program e → Ok (stage (filter is_now c.rows) fr) e → AwayFrom c v fr t e → ((b : Block) → e ≡ WriteMini b → ⊥) → Stays c (after c (event_of c e))
   stays_entry (WriteBase b) g k a n = stays_base b g a
   stays_entry (WriteMini b) g k a n = absurd (n b refl)
   stays_entry (LinkMini p m) g k a n =
@@ -108,11 +108,11 @@ module _ (c : Core) (s : Plain) (v : Inv c s) (fr : Fresh) (t : Tied c.code c.ro
       current_in : (p : ℕ) (b : Row) → current_base c.rows p ≡ Some b → In b c.rows
       current_in p b e = (lists.find_gives (λ r. r.base && ((r.point == p) && is_current r.status)) c.rows b e).0
   stays_entry (LinkPoint p at) g k a n =
-      let z = base_of c s v p k.1 k.2 in
+      let z = base_of c v p k.1 k.2 in
       subst (λ o. Stays c (point_linked o p c)) (sym z.0)
       (stays_insert p (enter (jump_word p (k.1).at)) (at_set (k.1).at Live) (λ o ho b. text_out p o (low_point p k.1 k.2).2 ho))
   stays_entry (UnlinkMini p m) g k a n =
-      let u = found c s v fr t p m k.1 k.2 k.3 k.4 k.5 k.6 k.0 in
+      let u = found c v fr t p m k.1 k.2 k.3 k.4 k.5 k.6 k.0 in
       subst (λ o. Stays c (mini_unlinked o (row_at c.rows m) m c)) (sym u.2)
       (subst (λ o. Stays c (mini_unlinked (Some u.0) o m c)) (sym u.3)
       (stays_insert (link_at u.0) (tool (jump_word (link_at u.0) (next_of c.code u.1))) (at_set m Retired) (λ o ho b. link_out u.0 o u.4 ho b)))
@@ -122,7 +122,7 @@ module _ (c : Core) (s : Plain) (v : Inv c s) (fr : Fresh) (t : Tied c.code c.ro
   stays_entry (Free p) g k a n = λ r h m. let z = in_filter (is_kept p) c.rows r h in (r, z.0, m, refl, refl)
 
   -- where one is written, it has its body
-  pub stays_mini : (b : Block) → GoodMini c.program b → AwayFrom c s v fr t (WriteMini b) → (r : Row) → In r (after c (event_of c (WriteMini b))).rows → r.base ≡ false
+  pub stays_mini : (b : Block) → GoodMini c.program b → AwayFrom c v fr t (WriteMini b) → (r : Row) → In r (after c (event_of c (WriteMini b))).rows → r.base ≡ false
       → ((r.at ≡ b.at) × (body_in (after c (event_of c (WriteMini b))).code r ≡ body_of_block b)) ⊎ ((o : Row) × In o c.rows × (o.base ≡ false) × (o.at ≡ r.at) × (body_in (after c (event_of c (WriteMini b))).code r ≡ body_in c.code o))
   stays_mini b g away r h m =
       let to = head_of c.code (current_base c.rows b.point) in

@@ -3,7 +3,7 @@ use Rattle.std.proofs.Common.{◌≡◌, ℕ, List, [], ◌∷◌, ◌++◌, Opt
 use Rattle.std.specs.Prelude.{map, filter, find, true, false, not, ◌&&◌, ◌==◌}
 use Rattle.std.specs.FinMap.{get}
 use Rattle.std.proofs.lemmas.Bool.{cases_Bool, cond-true, cond-false, ne_eqb, and_left, and_right, not_from_false, not_from_true}
-use Rattle.rv_word.specs.Plain.{Plain, program_word}
+use Rattle.rv_word.specs.Plain.{program_word}
 use Rattle.tramp_spec.specs.Jumps.{jump_word}
 use Rattle.tramp_spec.specs.Marks.{own, enter}
 use Rattle.machine.specs.Cores.{In, Row, Live, Core, is_current}
@@ -11,10 +11,10 @@ use Rattle.machine.specs.Effects.{with_status, at_set, after}
 use Rattle.machine.specs.Events as events
 use Rattle.machine.specs.Events.{Event, May, HasMini, IsEntered}
 use Rattle.tramp_spec.specs.declared.mark.MarkedWord.{MarkedWord}
+use Rattle.machine.specs.Kept.{IsOpen}
+use Rattle.machine.specs.Reached.{IsReached}
+use Rattle.machine.proofs.KeptRows.{linkings_to, kept_there, was_linked, word_of_point}
 use Rattle.machine.proofs.Lists.{same_some, map_in, in_filter, filter_in}
-use Rattle.machine.proofs.Invariant.{Piece, IsBase, Linked, Door, Inv}
-use Rattle.machine.proofs.Homes.{piece_of, row_in}
-use Rattle.machine.proofs.Minis.{point_word}
 use Rattle.instrument.specs.Books.{is_held, is_unlinked, leaving, is_mini_of, with_hold, rooms_of, mini_leaves, base_leaves, rooms_left, unlinked_at, stays}
 use Rattle.instrument.specs.Handing.{event_of}
 use Rattle.instrument.specs.declared.entry.Entry.{Entry}
@@ -61,18 +61,18 @@ pub record HeldSite (rooms : List Room) (p m : ℕ) : Type 0 where
   pub held : x.hold ≡ Held
 
 -- where the mini block is live and a jump stands at the point, a base block is live there
-pub linked_site : (c : Core) (s : Plain) (v : Inv c s) (p m : ℕ) → HasMini c p m Live → IsEntered c p → LinkedSite c p m
-linked_site c s v p m h e =
-    let a = piece_of c.program c.code c.rows v.ps v.clock v.static h.row h.listed in
-    let k : Linked a.0 = record { mini = sym (ap (λ (u : Row). u.base) a.2) ∙ h.mini; was = λ w. let z = sym (ap (λ (u : Row). u.status) a.2) ∙ h.is in absurd cc } in
-    let f = v.static.families a.0 a.1 k in
-    let w = point_word c.program v.ground c.code c.rows v.ps v.clock v.static f.0 (f.1).is_in (f.1).base in
-    let at : (f.0).row.point ≡ p = (f.1).point ∙ (sym (ap (λ (u : Row). u.point) a.2) ∙ h.point) in
+pub linked_site : (c : Core) (v : IsReached c) (p m : ℕ) → HasMini c p m Live → IsEntered c p → LinkedSite c p m
+linked_site c v p m h e =
+    let k = kept_there c v in
+    let f = k.families h.row h.listed h.mini (was_linked h.row h.is) in
+    let b = f.1 in
+    let w = word_of_point (linkings_to c v) c k f.0 b.listed b.base in
+    let at : (f.0).point ≡ p = sym b.point ∙ h.point in
     record {
       mini = h;
       base = ⊎_elim (λ (o : get c.code p ≡ Some (own w.0)). let z = ap (λ (u : MarkedWord). u.mark) (same_some (get c.code p) (own w.0) (enter e.jump) o e.stands) in absurd cc)
-          (λ (o : (d : Piece) × In d v.ps × IsBase d × (d.row.point ≡ p) × (d.row.status ≡ Live) × Door c.code d). ((o.0).row, row_in c.program c.code c.rows v.ps v.clock v.static o.0 o.1, (o.2).base, o.3, o.4))
-          (v.static.words p w.0 (ap (program_word c.program) (sym at) ∙ w.1));
+          (λ (o : (d : Row) × In d c.rows × (d.base ≡ true) × (d.point ≡ p) × (d.status ≡ Live) × IsOpen c.code d). (o.0, o.1, o.2, o.3, o.4))
+          (k.text p w.0 (ap (program_word c.program) (sym at) ∙ w.1));
     }
 
 -- and where both are live, the jump stands
@@ -112,7 +112,7 @@ pub record Sparing (p m : ℕ) (o : Out) : Type 0 where
 held_on : (p m : ℕ) (f : Room → _) (rooms : List Room) (h : HeldSite rooms p m) → f h.x ≡ (h.x).hold → HeldSite (map (with_hold f) rooms) p m
 held_on p m f rooms h e = record { x = with_hold f h.x; is_in = map_in (with_hold f) rooms h.x h.is_in; mini = h.mini; point = h.point; at = h.at; held = e ∙ h.held }
 
-module _ (p m : ℕ) (c : Core) (s : Plain) (v : Inv c s) (fr : Fresh) (t : Tied c.code c.rows fr) (rooms : List Room) (l : LinkedSite c p m) (h : HeldSite rooms p m) where
+module _ (p m : ℕ) (c : Core) (v : IsReached c) (fr : Fresh) (t : Tied c.code c.rows fr) (rooms : List Room) (l : LinkedSite c p m) (h : HeldSite rooms p m) where
   live_now : (r : Row) → In r c.rows → r.status ≡ Live → In r (filter is_now c.rows)
   live_now r i e = filter_in is_now c.rows r i (ap is_current e)
 
@@ -137,7 +137,7 @@ module _ (p m : ℕ) (c : Core) (s : Plain) (v : Inv c s) (fr : Fresh) (t : Tied
     },
   )
   by_entry (UnlinkMini q n) es b =
-      let other : n ≡ m → ⊥ = λ i. unheld_mini c s v fr rooms q n es b h.x h.is_in (ap is_held h.held) (h.at ∙ sym i) in (
+      let other : n ≡ m → ⊥ = λ i. unheld_mini c v fr rooms q n es b h.x h.is_in (ap is_held h.held) (h.at ∙ sym i) in (
         other,
         (λ r i x y. not_from_false _ (and_right (not r.base) (r.at == n) (ne_eqb _ _ (λ j. other (sym j ∙ y))))),
         (λ r i x y. not_from_false _ (and_left (not r.base) (r.at == n) (not_from_true _ x))),
@@ -146,7 +146,7 @@ module _ (p m : ℕ) (c : Core) (s : Plain) (v : Inv c s) (fr : Fresh) (t : Tied
   by_entry (UnlinkPoint q at) es b =
       let r0 = l.mini in
       let other : q ≡ p → ⊥ = λ i. (b.sound.1).5 r0.row (live_now r0.row r0.listed r0.is) r0.mini (r0.point ∙ sym i) in
-      let away : (h.x).at ≡ at → ⊥ = unheld_point c s v fr rooms q at es b h.x h.is_in (ap is_held h.held) in (
+      let away : (h.x).at ≡ at → ⊥ = unheld_point c v fr rooms q at es b h.x h.is_in (ap is_held h.held) in (
         other,
         (λ r i x y. not_from_false _ (and_left r.base (r.point == q) x)),
         (λ r i x y. not_from_false _ (and_right r.base (r.point == q) (ne_eqb _ _ (λ j. other (sym j ∙ y))))),
@@ -156,7 +156,7 @@ module _ (p m : ℕ) (c : Core) (s : Plain) (v : Inv c s) (fr : Fresh) (t : Tied
   entry_spares : (e : Entry) (es : List Entry) → Booked c.program c.rows fr rooms (e ∷ es) → ((q : ℕ) → e ≡ Free q → May c (events.Free q)) → (st : State) → st.core ≡ c → st.book.rooms ≡ rooms → Sparing p m (done e es st)
   entry_spares e es b f st ec er =
       let g = b.sound in
-      let r = entry_done c s v fr t e g.0 g.1
+      let r = entry_done c v fr t e g.0 g.1
       (λ o y ho hy. apart_across c.rows (puts e ++ pending es) b.apart o y ho (append_left (puts e) (pending es) y hy)) f in
       let q = by_entry e es b in
       let n = (r.1).now in
@@ -225,10 +225,10 @@ step_spares p m (Dropped x) st k can l h n =
     }
 step_spares p m Handed st k can l h n =
     handed (Sparing p m) st k (record { events = tt; linked = l; held = h }) (λ q es w sub. record { events = tt; linked = l; held = h })
-    (λ w e es b f sub. entry_spares p m st.core w.plain w.inv w.fr w.tied st.book.rooms l h e es b f st refl refl)
+    (λ w e es b f sub. entry_spares p m st.core w.reached w.fr w.tied st.book.rooms l h e es b f st refl refl)
 step_spares p m Swept st k can l h n =
     swept (Sparing p m) st k can (record { events = tt; linked = l; held = h })
-    (λ w e es b f sub. entry_spares p m st.core w.plain w.inv w.fr w.tied st.book.rooms l h e es b f st refl refl)
+    (λ w e es b f sub. entry_spares p m st.core w.reached w.fr w.tied st.book.rooms l h e es b f st refl refl)
 
 spared_more : (p m : ℕ) (xs ys : List Event) → AllSpared p m xs → AllSpared p m ys → AllSpared p m (xs ++ ys)
 spared_more p m [] ys a b = b

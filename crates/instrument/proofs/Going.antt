@@ -12,8 +12,8 @@ use Rattle.machine.specs.Events.{Event, May, IsQuiet}
 use Rattle.machine.specs.Places.{holds}
 use Rattle.machine.specs.Replays.{Legal, replay}
 use Rattle.machine.specs.Turns.{turn_by}
+use Rattle.machine.proofs.Reaching.{reaches_more}
 use Rattle.machine.proofs.Replaying.{legal-append, replay-append}
-use Rattle.machine.proofs.Steps.{step}
 use Rattle.instrument.specs.Books.{is_held, FoundFree, unlinks, freed_point, or_later, first_free}
 use Rattle.instrument.specs.Handing.{event_of, is_barred}
 use Rattle.instrument.specs.declared.entry.Entry.{Entry}
@@ -143,7 +143,7 @@ handed P st k none refused f = at_front st.book.agenda k.book (λ z h. h)
 
     at_free : (p : ℕ) (es : List Entry) (o : Bool) → is_barred st.core p ≡ o → Booked st.core.program st.core.rows k.fr st.book.rooms (Free p ∷ es) → ((z : Entry) → In z (Free p ∷ es) → In z st.book.agenda) → P (release o p es st)
     at_free p es false e b sub = f k (Free p) es b (free_is st.core p (unbarred st.core p e)) sub
-    at_free p es true e b sub = refused p es (record { plain = k.plain; inv = k.inv; fr = k.fr; tied = k.tied; book = to_back st.core.program st.core.rows k.fr st.book.rooms p es b }) sub
+    at_free p es true e b sub = refused p es (record { reached = k.reached; fr = k.fr; tied = k.tied; book = to_back st.core.program st.core.rows k.fr st.book.rooms p es b }) sub
 
     at_entry : (e : Entry) (es : List Entry) → Booked st.core.program st.core.rows k.fr st.book.rooms (e ∷ es) → ((z : Entry) → In z (e ∷ es) → In z st.book.agenda) → P (hand_entry e es st)
     at_entry (Free p) es b sub = at_free p es (is_barred st.core p) refl b sub
@@ -178,8 +178,7 @@ step_keeps (Happened e) st k m =
       legal = (m.1, tt);
       core = refl;
       kept = record {
-        plain = _;
-        inv = (step st.core k.plain e k.inv m.1).1;
+        reached = reaches_more st.core e k.reached m.1;
         fr = k.fr;
         tied = subst (λ x. Tied x (after st.core e).rows k.fr) (sym f.code) (subst (λ x. Tied st.core.code x k.fr) (sym f.rows) k.tied);
         book = subst (λ x. Booked x (after st.core e).rows k.fr st.book.rooms st.book.agenda) (sym f.program) (subst (λ x. Booked st.core.program x k.fr st.book.rooms st.book.agenda) (sym f.rows) k.book);
@@ -190,8 +189,7 @@ step_keeps (Admitted owner b) st k m =
       legal = tt;
       core = refl;
       kept = record {
-        plain = k.plain;
-        inv = k.inv;
+        reached = k.reached;
         fr = k.fr;
         tied = k.tied;
         book = admitted st.core.program st.core.rows k.fr st.book.rooms st.book.agenda k.book owner b.mini m.good m.free b.base m.fits;
@@ -201,14 +199,14 @@ step_keeps (Dropped x) st k m =
     record {
       legal = tt;
       core = refl;
-      kept = record { plain = k.plain; inv = k.inv; fr = k.fr; tied = k.tied; book = dropped st.core.program st.core.rows k.fr st.book.rooms st.book.agenda k.book x m.0 m.1 (ap is_held m.2) };
+      kept = record { reached = k.reached; fr = k.fr; tied = k.tied; book = dropped st.core.program st.core.rows k.fr st.book.rooms st.book.agenda k.book x m.0 m.1 (ap is_held m.2) };
     }
 step_keeps Handed st k m =
     handed (Goes st) st k (record { legal = tt; core = refl; kept = k }) (λ p es w sub. record { legal = tt; core = refl; kept = w })
-    (λ w e es b f sub. goes_done st e es (entry_kept st.core w.plain w.inv w.fr w.tied st.book.rooms e es b f))
+    (λ w e es b f sub. goes_done st e es (entry_kept st.core w.reached w.fr w.tied st.book.rooms e es b f))
 step_keeps Swept st k m =
     swept (Goes st) st k m (record { legal = tt; core = refl; kept = k })
-    (λ w e es b f sub. goes_done st e es (entry_kept st.core w.plain w.inv w.fr w.tied st.book.rooms e es b f))
+    (λ w e es b f sub. goes_done st e es (entry_kept st.core w.reached w.fr w.tied st.book.rooms e es b f))
 
 -- ---- all steps
 

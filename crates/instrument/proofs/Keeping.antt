@@ -2,14 +2,14 @@
 use Rattle.std.proofs.Common.{◌≡◌, ℕ, List, [], ◌∷◌, ◌++◌, refl, sym, ap, ◌∙◌, subst, ⊎_elim, inl, inr}
 use Rattle.std.specs.Prelude.{map, filter, Bool, true, false, ◌⊎◌, ◌&&◌, ◌==◌}
 use Rattle.std.proofs.lemmas.Bool.{true≢false, cases_eq, cond-true, cond-false, eq-eqb, ne_eqb, and_parts, and_from, and_right, not_from_false, not_from_true, false_from_ne_true}
-use Rattle.rv_word.specs.Plain.{Plain}
 use Rattle.machine.specs.Cores.{In, Row, Status, Live, Core}
 use Rattle.machine.specs.Effects.{with_status, at_set, after}
 use Rattle.machine.specs.Events as events
 use Rattle.machine.specs.Events.{Event, May, IsQuiet}
+use Rattle.machine.specs.Reached.{IsReached}
+use Rattle.machine.proofs.Effects.{fixed}
 use Rattle.machine.proofs.Lists.{in_map, in_filter}
-use Rattle.machine.proofs.Invariant.{Inv}
-use Rattle.machine.proofs.Steps.{step, fixed}
+use Rattle.machine.proofs.Reaching.{reaches_more}
 use Rattle.instrument.specs.Books.{is_held, is_unlinked, is_base_of, with_hold, unlinked_at, stays}
 use Rattle.instrument.specs.Handing.{event_of}
 use Rattle.instrument.specs.declared.entry.Entry.{Entry}
@@ -27,8 +27,7 @@ use Rattle.instrument.proofs.Booked.{Based, Booked, standing_in, standing_same, 
 use Rattle.instrument.proofs.Steps.{State, a_book, done}
 
 pub record Kept (st : State) : Type 0 where
-  pub plain : Plain
-  pub inv : Inv st.core plain
+  pub reached : IsReached st.core
   pub fr : Fresh
   pub tied : Tied st.core.code st.core.rows fr
   pub book : Booked st.core.program st.core.rows fr st.book.rooms st.book.agenda
@@ -82,7 +81,7 @@ hold_same rooms m f x h = ⊎_elim
     (λ (i : x.at ≡ m). ap is_held (cond-true (x.at == m) Unlinked x.hold (eq-eqb _ _ i)) ∙ sym (false_from_ne_true (is_held x.hold) (λ k. f x h k i)))
     (λ i. ap is_held (cond-false (x.at == m) Unlinked x.hold (ne_eqb _ _ i))) (cases_eq x.at m)
 
-module _ (c : Core) (s : Plain) (v : Inv c s) (fr : Fresh) (rooms : List Room) where
+module _ (c : Core) (v : IsReached c) (fr : Fresh) (rooms : List Room) where
   -- no room that is held is that of a block that is being unlinked
   unheld : (q : Row → Bool) (k : Stage) (es : List Entry) (a : Row) → In a c.rows → q a ≡ false → Sized es → AllApart (c.rows ++ pending es)
       → k.rows ≡ filter q (filter is_now c.rows) → (ending k es).rows ≡ standing rooms
@@ -93,8 +92,8 @@ module _ (c : Core) (s : Plain) (v : Inv c s) (fr : Fresh) (rooms : List Room) w
       (λ (i : In f.o k.rows).
       let w = in_filter q (filter is_now c.rows) f.o (subst (λ l. In f.o l) ek i) in
       let o = in_filter is_now c.rows f.o w.0 in
-      true≢false (sym w.1 ∙ (ap q (same_row c s v f.o a o.0 ha (f.at ∙ e)) ∙ off)))
-      (λ (i : In f.o (pending es)). pending_at c s v es z ap' a f.o ha i (f.at ∙ e))
+      true≢false (sym w.1 ∙ (ap q (same_row c v f.o a o.0 ha (f.at ∙ e)) ∙ off)))
+      (λ (i : In f.o (pending es)). pending_at c v es z ap' a f.o ha i (f.at ∙ e))
       f.is_in
 
   pub unheld_mini : (p m : ℕ) (es : List Entry) → Booked c.program c.rows fr rooms (UnlinkMini p m ∷ es) → (x : Room) → In x rooms → is_held x.hold ≡ true → x.at ≡ m → ⊥
@@ -107,7 +106,7 @@ module _ (c : Core) (s : Plain) (v : Inv c s) (fr : Fresh) (rooms : List Room) w
   pub unheld_point : (p at : ℕ) (es : List Entry) → Booked c.program c.rows fr rooms (UnlinkPoint p at ∷ es) → (x : Room) → In x rooms → is_held x.hold ≡ true → x.at ≡ at → ⊥
   unheld_point p at es b x hx held e =
       let k = b.sound.1 in
-      let o = base_of c s v p k.1 k.2 in
+      let o = base_of c v p k.1 k.2 in
       unheld (is_other_base p) (next (stage (filter is_now c.rows) fr) (UnlinkPoint p at)) es k.1 o.1
       (not_from_true _ (and_from _ _ o.2 (eq-eqb _ _ o.3))) (sized_of c.program (next (stage (filter is_now c.rows) fr) (UnlinkPoint p at)) es b.sound.2)
       b.apart refl (ap (λ (u : Stage). u.rows) b.ends) x hx held (e ∙ sym k.3)
@@ -131,22 +130,21 @@ module _ (c : Core) (s : Plain) (v : Inv c s) (fr : Fresh) (rooms : List Room) w
         (w.0, find_filter (is_base_of x.point) (stays p) rooms (λ y g. held_stays p y (and_parts (y.point == x.point) (is_held y.hold) (and_parts y.base ((y.point == x.point) && is_held y.hold) g).1).1) w.0 w.1),
   )
 
-module _ (c : Core) (s : Plain) (v : Inv c s) (fr : Fresh) (t : Tied c.code c.rows fr) (rooms : List Room) where
+module _ (c : Core) (v : IsReached c) (fr : Fresh) (t : Tied c.code c.rows fr) (rooms : List Room) where
   -- the first entry of the agenda is done
   pub entry_kept : (e : Entry) (es : List Entry) → Booked c.program c.rows fr rooms (e ∷ es) → ((p : ℕ) → e ≡ Free p → May c (events.Free p))
       → May c (event_of c e) × Kept (done e es (record { core = c; book = a_book rooms (e ∷ es) })).state
   entry_kept e es b f =
       let g = b.sound in
-      let r = entry_done c s v fr t e g.0 g.1
+      let r = entry_done c v fr t e g.0 g.1
       (λ o y ho hy. apart_across c.rows (puts e ++ pending es) b.apart o y ho (append_left (puts e) (pending es) y hy)) f in
-      let q = rooms_kept c s v fr rooms e es b in
+      let q = rooms_kept c v fr rooms e es b in
       let l = r.1 in
       let same_stage : stage (filter is_now (after c (event_of c e)).rows) (next (stage (filter is_now c.rows) fr) e).fresh ≡ next (stage (filter is_now c.rows) fr) e = ap (λ w. stage w (next (stage (filter is_now c.rows) fr) e).fresh) l.now in
       let z = l.claims rooms es (sized_of c.program (next (stage (filter is_now c.rows) fr) e) es g.2) b.apart b.claims in (
         r.0,
         record {
-          plain = _;
-          inv = (step c s (event_of c e) v r.0).1;
+          reached = reaches_more c (event_of c e) v r.0;
           fr = (next (stage (filter is_now c.rows) fr) e).fresh;
           tied = l.tied;
           book = record {

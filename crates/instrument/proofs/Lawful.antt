@@ -4,13 +4,11 @@ use Rattle.std.specs.Prelude.{map, false}
 use Rattle.pn_types.specs.declared.image.Image.{Image}
 use Rattle.pn_types.specs.declared.placed.PlacedSite.{PlacedSite}
 use Rattle.pn_types.specs.declared.plan.Site.{Site}
-use Rattle.rv_exec.specs.Start.{start}
 use Rattle.machine.specs.Cores.{In, Core, start_core}
 use Rattle.machine.specs.Events.{Event}
 use Rattle.machine.specs.Instruments.{CarriesSites}
 use Rattle.machine.specs.Laws.{IsProgram}
 use Rattle.machine.proofs.Lists as lists
-use Rattle.machine.proofs.Beginning.{begins}
 use Rattle.instrument.specs.Laws.{Always, AreApart, IsNoPlacing, IsLegal, IsApart, IsPlacedWhenLinked, StaysInForce}
 use Rattle.instrument.specs.Placements.{is_leaving}
 use Rattle.instrument.specs.declared.instrument.Instrument.{Instrument}
@@ -51,8 +49,7 @@ all_whole first (a ∷ acts) s es w c =
 
 first_kept : (image : Image) (harts budget limit : ℕ) → IsProgram image → Kept (at_of (first_scene image harts budget limit))
 first_kept image harts budget limit p = record {
-  plain = start image harts;
-  inv = begins image harts budget p;
+  reached = record { image = image; many = harts; events = []; program = p; legal = tt; is = refl };
   fr = Idle;
   tied = record { doors = λ r h b l. absurd h; fresh = tt };
   book = record { sound = tt; ends = refl; apart = tt; claims = λ r h. absurd h; based = λ x h m e. absurd h };
@@ -117,7 +114,7 @@ placed_always image harts budget limit acts p c =
       placed = λ i h e l q hq z hz.
           let k = l q hq in
           no_placing q z (off_in q.at q.mini s.placer.book.agenda
-          (off_now q.at q.mini (at_of s) w.kept (linked_site s.core w.kept.plain w.kept.inv q.at q.mini k.0 k.1)
+          (off_now q.at q.mini (at_of s) w.kept (linked_site s.core w.kept.reached q.at q.mini k.0 k.1)
           (held_site (at_of s) s.placer.instruments s.plans s.placer.count w.orderly i h (ap is_leaving e) q hq)) z hz);
     }
 

@@ -13,7 +13,7 @@ use Rattle.machine.specs.Cores.{In, Core}
 use Rattle.machine.specs.Events as events
 use Rattle.machine.specs.Events.{Event, current_base}
 use Rattle.machine.specs.Instruments.{Spares, body_of_block, Lets, AllLet}
-use Rattle.machine.proofs.Steps.{fixed}
+use Rattle.machine.proofs.Effects.{fixed}
 use Rattle.instrument.specs.Handing.{head_of, leading, event_of}
 use Rattle.instrument.specs.declared.entry.Entry.{Entry}
 use Rattle.instrument.specs.declared.entry.Entry.TheVariants.{WriteBase, WriteMini, LinkMini, LinkPoint, UnlinkMini, UnlinkPoint, Free}

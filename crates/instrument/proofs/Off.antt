@@ -136,10 +136,10 @@ all_off t p m (e ∷ es) k f s pend en =
 
 pub off_now : (p m : ℕ) (st : State) → Kept st → LinkedSite st.core p m → HeldSite st.book.rooms p m → AllOff p m st.book.agenda
 off_now p m st k l h =
-    let v = k.inv in
+    let v = k.reached in
     let r = l.mini in
     let b = l.base in
-    let same = same_row st.core k.plain v in
+    let same = same_row st.core v in
     all_off st.core.program p m st.book.agenda (stage (filter is_now st.core.rows) k.fr)
     (record {
       mini = (r.row, filter_in is_now st.core.rows r.row r.listed (ap is_current r.is), r.mini, r.point, r.at, r.is);
@@ -149,8 +149,8 @@ off_now p m st k l h =
           let z : Written ≡ Live = sym w.written ∙ (ap (λ (u : Row). u.status) (same w.r r.row w.is_in r.listed (w.at ∙ sym r.at)) ∙ r.is) in absurd cc;
       bases = λ x hx xb xp.
           let o = in_filter is_now st.core.rows x hx in
-          ap (λ (u : Row). u.status) (one_base st.core k.plain v x b.0 o.0 b.1 xb b.2 (xp ∙ sym b.3) o.1 (ap is_current b.4)) ∙ b.4;
+          ap (λ (u : Row). u.status) (one_base st.core v x b.0 o.0 b.1 xb b.2 (xp ∙ sym b.3) o.1 (ap is_current b.4)) ∙ b.4;
     })
     (k.book).sound
-    (λ x i e. pending_at st.core k.plain v st.book.agenda (sized_of st.core.program (stage (filter is_now st.core.rows) k.fr) st.book.agenda (k.book).sound) (k.book).apart r.row x r.listed i (e ∙ sym r.at))
+    (λ x i e. pending_at st.core v st.book.agenda (sized_of st.core.program (stage (filter is_now st.core.rows) k.fr) st.book.agenda (k.book).sound) (k.book).apart r.row x r.listed i (e ∙ sym r.at))
     (room_row h.x, subst (λ u. In (room_row h.x) u) (sym (ap (λ (u : Stage). u.rows) (k.book).ends)) (standing_in st.book.rooms h.x h.is_in (ap is_held h.held)), h.mini, h.at)

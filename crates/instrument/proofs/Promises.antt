@@ -44,14 +44,14 @@ module _ (m : ℕ) (body : List MarkedWord) (st : State) (h : HoldsBody m body s
 
       old : (e : Entry) → Booked st.core.program st.core.rows k.fr st.book.rooms (e ∷ es) → ((b : Block) → e ≡ WriteMini b → ⊥)
           → (r : Row) → In r (after st.core (event_of st.core e)).rows → r.base ≡ false → r.at ≡ m → body_in (after st.core (event_of st.core e)).code r ≡ body
-      old e b n = by_stays (after st.core (event_of st.core e)) (stays_entry st.core k.plain k.inv k.fr k.tied e b.sound.0 b.sound.1 (away e b) n)
+      old e b n = by_stays (after st.core (event_of st.core e)) (stays_entry st.core k.reached k.fr k.tied e b.sound.0 b.sound.1 (away e b) n)
 
       by : (e : Entry) → Booked st.core.program st.core.rows k.fr st.book.rooms (e ∷ es) → ((z : Entry) → In z (e ∷ es) → In z st.book.agenda)
           → (r : Row) → In r (after st.core (event_of st.core e)).rows → r.base ≡ false → r.at ≡ m → body_in (after st.core (event_of st.core e)).code r ≡ body
       by (WriteMini d) b sub = λ r i n e. ⊎_elim
           (λ (q : (r.at ≡ d.at) × (body_in (after st.core (event_of st.core (WriteMini d))).code r ≡ body_of_block d)). q.1 ∙ h.waiting d (sub (WriteMini d) (inl refl)) (sym q.0 ∙ e))
           (λ (o : (o : Row) × In o st.core.rows × (o.base ≡ false) × (o.at ≡ r.at) × (body_in (after st.core (event_of st.core (WriteMini d))).code r ≡ body_in st.core.code o)). o.4 ∙ h.written o.0 o.1 o.2 (o.3 ∙ e))
-          (stays_mini st.core k.plain k.inv k.fr k.tied d b.sound.0 (away (WriteMini d) b) r i n)
+          (stays_mini st.core k.reached k.fr k.tied d b.sound.0 (away (WriteMini d) b) r i n)
       by (WriteBase d) b sub = old (WriteBase d) b (λ x i. absurd cc)
       by (LinkMini p q) b sub = old (LinkMini p q) b (λ x i. absurd cc)
       by (LinkPoint p q) b sub = old (LinkPoint p q) b (λ x i. absurd cc)

@@ -1,10 +1,9 @@
 -- What the machine's rows are, where it keeps what it keeps.
-use Rattle.std.proofs.Common.{◌≡◌, ℕ, ◌+◌, ◌-◌, ◌*◌, ◌%◌, ◌^◌, ◌<◌, ◌≤◌, List, ◌++◌, length, Some, sym, ap, ◌∙◌, subst, arith, ⊎_elim, inl, inr}
+use Rattle.std.proofs.Common.{◌≡◌, ℕ, ◌+◌, ◌-◌, ◌*◌, ◌%◌, ◌^◌, ◌<◌, ◌≤◌, List, [], ◌∷◌, ◌++◌, length, Some, sym, ◌∙◌, arith, ⊎_elim}
 use Rattle.std.specs.Prelude.{filter, true, false, ◌⊎◌, ◌&&◌, ◌==◌}
 use Rattle.std.proofs.lemmas.Bool.{and_parts, and_from, le-leb, eqb-true}
-use Rattle.std.proofs.lemmas.List.{length-take-le}
-use Rattle.rv_word.specs.Plain.{Plain}
-use Rattle.tramp_spec.specs.Blocks.{tail_of, mini_words}
+use Rattle.std.proofs.lemmas.List.{length-take-le, length-append}
+use Rattle.tramp_spec.specs.Blocks.{mini_words}
 use Rattle.tramp_spec.specs.Codes.{tool_at, put_words}
 use Rattle.tramp_spec.specs.Jumps.{jump_word, reaches}
 use Rattle.tramp_spec.specs.Marks.{tool}
@@ -13,12 +12,11 @@ use Rattle.tramp_spec.proofs.Hops.{Hops, jump_hops}
 use Rattle.machine.specs.Cores.{In, Row, Written, Core, is_current}
 use Rattle.machine.specs.Events.{Apart, current_base, link_at, next_of}
 use Rattle.machine.specs.Instruments.{body_of_block}
+use Rattle.machine.specs.Kept.{IsKept}
+use Rattle.machine.specs.Reached.{IsReached}
+use Rattle.machine.proofs.Effects.{link_is}
+use Rattle.machine.proofs.KeptRows.{linkings_to, kept_there, tool_high, has_len, row_there, link_inside, head_inside}
 use Rattle.machine.proofs.Lists.{find_gives, filter_in, put_words_stand, stands_at, get_append}
-use Rattle.machine.proofs.Invariant.{Piece, the_row, Linked, Inv}
-use Rattle.machine.proofs.Blocks.{link_in, mini_len}
-use Rattle.machine.proofs.Homes.{piece_of, one_block, has_len, base_shape}
-use Rattle.machine.proofs.Minis.{link_is, next_is}
-use Rattle.machine.proofs.Points.{current_piece}
 use Rattle.instrument.specs.declared.entry.Entry.{Entry}
 use Rattle.instrument.proofs.Stages.{GoodMini, a_row, is_now, pending, AllApart}
 use Rattle.instrument.proofs.Folds.{apart_across}
@@ -29,35 +27,25 @@ pub body_len : (b : Block) → 0 < length b.words → length (body_of_block b) +
 body_len b some = let e = length-take-le (length b.words - 1) b.words (omega arith) in omega (arith, e)
 
 pub leading_len : (b : Block) (n : ℕ) → 0 < length b.words → length (mini_words b.at (body_of_block b) n) ≡ length b.words
-leading_len b n some = mini_len (body_of_block b) (tool (jump_word (b.at + 4 * length (body_of_block b)) n)) ∙ body_len b some
+leading_len b n some =
+    length-append (body_of_block b) (tool (jump_word (b.at + 4 * length (body_of_block b)) n) ∷ []) ∙ body_len b some
 
-module _ (c : Core) (s : Plain) (v : Inv c s) where
+module _ (c : Core) (v : IsReached c) where
+  k : IsKept (linkings_to c v) c
+  k = kept_there c v
+
   pub same_row : (x y : Row) → In x c.rows → In y c.rows → x.at ≡ y.at → x ≡ y
-  same_row x y hx hy e =
-      let a = piece_of c.program c.code c.rows v.ps v.clock v.static x hx in
-      let b = piece_of c.program c.code c.rows v.ps v.clock v.static y hy in
-      a.2 ∙ (ap the_row (one_block c.program c.code c.rows v.ps v.clock v.static a.0 b.0 a.1 b.1 (sym (ap (λ (u : Row). u.at) a.2) ∙ (e ∙ ap (λ (u : Row). u.at) b.2))) ∙ sym b.2)
+  same_row x y hx hy e = row_there (linkings_to c v) c k x y hx hy e
 
   pub rows_apart : (x y : Row) → In x c.rows → In y c.rows → (x ≡ y) ⊎ Apart x.at x.len y.at y.len
-  rows_apart x y hx hy =
-      let a = piece_of c.program c.code c.rows v.ps v.clock v.static x hx in
-      let b = piece_of c.program c.code c.rows v.ps v.clock v.static y hy in
-      ⊎_elim (λ e. inl (a.2 ∙ (ap the_row e ∙ sym b.2)))
-      (λ (i : Apart (a.0).row.at (a.0).row.len (b.0).row.at (b.0).row.len). inr (subst (λ (u : Row). Apart u.at u.len y.at y.len) (sym a.2) (subst (λ (u : Row). Apart (a.0).row.at (a.0).row.len u.at u.len) (sym b.2) i)))
-      ((v.static).apart a.0 b.0 a.1 b.1)
+  rows_apart x y hx hy = k.apart x y hx hy
 
   pub row_place : (r : Row) → In r c.rows → (tool_at c.program ≤ r.at) × (0 < r.len)
-  row_place r h =
-      let a = piece_of c.program c.code c.rows v.ps v.clock v.static r h in
-      let l = (v.static.places a.0 a.1).low in
-      subst (λ (u : Row). (tool_at c.program ≤ u.at) × (0 < u.len)) (sym a.2) (l, has_len c.program c.code c.rows v.ps v.clock v.static a.0 a.1)
+  row_place r h = ((k.blocks r h).low, has_len (linkings_to c v) c k r h)
 
   -- the word that leads on stands in the block
   pub link_place : (r : Row) → In r c.rows → (r.at ≤ link_at r) × (link_at r + 4 ≤ r.at + 4 * r.len)
-  link_place r h =
-      let a = piece_of c.program c.code c.rows v.ps v.clock v.static r h in
-      let i = link_in c.program c.code (a.0).row (a.0).body (a.0).next (v.static.shapes a.0 a.1) in
-      subst (λ (u : Row). (u.at ≤ link_at u) × (link_at u + 4 ≤ u.at + 4 * u.len)) (sym a.2) (i.0, i.1)
+  link_place r h = link_inside (linkings_to c v) c k r h
 
   pub into_now : (r : Row) → In r c.rows → is_current r.status ≡ true → In r (filter is_now c.rows)
   into_now r h e = filter_in is_now c.rows r h e
@@ -72,11 +60,7 @@ module _ (c : Core) (s : Plain) (v : Inv c s) where
 
   -- two bases of a point that aren't retired
   pub one_base : (x y : Row) → In x c.rows → In y c.rows → x.base ≡ true → y.base ≡ true → x.point ≡ y.point → is_current x.status ≡ true → is_current y.status ≡ true → x ≡ y
-  one_base x y hx hy bx by e cx cy =
-      let a = piece_of c.program c.code c.rows v.ps v.clock v.static x hx in
-      let b = piece_of c.program c.code c.rows v.ps v.clock v.static y hy in
-      a.2 ∙ (ap the_row (v.static.single a.0 b.0 a.1 b.1 (record { base = sym (ap (λ (u : Row). u.base) a.2) ∙ bx }) (record { base = sym (ap (λ (u : Row). u.base) b.2) ∙ by })
-      (sym (ap (λ (u : Row). u.point) a.2) ∙ (e ∙ ap (λ (u : Row). u.point) b.2)) (sym (ap (λ (u : Row). is_current u.status) a.2) ∙ cx) (sym (ap (λ (u : Row). is_current u.status) b.2) ∙ cy)) ∙ sym b.2)
+  one_base x y hx hy bx by e cx cy = k.bases x y hx hy bx by e cx cy
 
   -- a pending block begins where no row does
   pub pending_at : (es : List Entry) → Sized es → AllApart (c.rows ++ pending es) → (o r : Row) → In o c.rows → In r (pending es) → r.at ≡ o.at → ⊥
@@ -87,23 +71,8 @@ module _ (c : Core) (s : Plain) (v : Inv c s) where
   -- the head of a base block leads to its tail or to a block of the tool text
   pub head_low : (p : ℕ) (b : Row) → current_base c.rows p ≡ Some b → (next_of c.code b % 4 ≡ 0) × (tool_at c.program ≤ next_of c.code b) × (next_of c.code b ≤ tool_at c.program + 393216)
   head_low p b e =
-      let k = current_piece c.program c.code c.rows v.ps v.clock v.static p b e in
-      let is : next_of c.code b ≡ (k.d).next = ap (next_of c.code) k.row ∙ next_is c.program c.code k.d (v.static.shapes k.d k.is_in) in
-      let l = v.static.heads k.d k.is_in k.base in
-      let pl = v.static.places k.d k.is_in in
-      let al = pl.aligned in
-      let lo = pl.low in
-      let hi = pl.high in
-      let len = (base_shape c.program c.code c.rows v.ps v.clock v.static k.d k.is_in k.base).len in
-      ⊎_elim
-      (λ (q : (l.lo ≡ 0) × ((k.d).next ≡ tail_of (k.d).row.at)). let z = q.1 in (omega arith, omega arith, omega arith))
-      (λ (q : (m : Piece) × In m v.ps × Linked m × (m.family ≡ (k.d).row.at) × (m.age ≡ l.lo) × (m.row.at ≡ (k.d).next) × (is_current (k.d).row.status ≡ true → m.row.status ≡ _)).
-      let z = v.static.places q.0 q.1 in
-      let za = z.aligned in
-      let zl = z.low in
-      let zh = z.high in
-      let w = q.5 in (omega arith, omega arith, omega arith))
-      l.to
+      let g = find_gives (λ r. r.base && ((r.point == p) && is_current r.status)) c.rows b e in
+      head_inside (linkings_to c v) c k b g.0 (and_parts b.base ((b.point == p) && is_current b.status) g.1).0
 
   -- a mini block that leads to there
   module _ (b : Block) (g : GoodMini c.program b) (to : ℕ) (al : to % 4 ≡ 0) (lo : tool_at c.program ≤ to) (hi : to ≤ tool_at c.program + 393216) where
@@ -122,8 +91,7 @@ module _ (c : Core) (s : Plain) (v : Inv c s) where
         let m = leading_len b to g.some in
         let l = g.place.low in
         let h = g.place.high in
-        let gh = v.ground.high in
-        let gs = v.ground.short in
+        let th = tool_high c v in
         let ba = g.aligned in
         let e : b.at + 4 * (length (mini_words b.at (body_of_block b) to) - 1) ≡ b.at + 4 * length (body_of_block b) = omega (arith, n, m) in
         let a : b.at + 4 * length (body_of_block b) ≤ to + 1048576 = omega (arith, n) in

@@ -2,7 +2,7 @@
 use Rattle.std.proofs.Common.{◌≡◌, ℕ, ◌+◌, ◌-◌, ◌*◌, ◌%◌, ◌<◌, ◌≤◌, List, [], ◌∷◌, ◌++◌, length, Option, Some, None, Ok, refl, sym, subst, arith, ⊎_elim, inl}
 use Rattle.std.specs.Prelude.{find}
 use Rattle.std.proofs.lemmas.Bool.{and_from, le-leb}
-use Rattle.std.proofs.lemmas.List.{take_at}
+use Rattle.std.proofs.lemmas.List.{take_at, length-append}
 use Rattle.pn_types.specs.declared.limits.TheConstants.{TOOL_TEXT_LEN}
 use Rattle.rv_word.specs.Plain.{Words, program_word}
 use Rattle.tramp_spec.specs.Blocks.{mini_words, base_words, tail_of, moved_at}
@@ -16,7 +16,6 @@ use Rattle.tramp_spec.specs.declared.mark.MarkedWord.{MarkedWord}
 use Rattle.machine.specs.Cores.{In}
 use Rattle.machine.specs.Events.{Apart}
 use Rattle.machine.specs.Instruments.{body_of_block}
-use Rattle.machine.proofs.Blocks.{mini_len}
 use Rattle.instrument.specs.Admission.{base_len, a_base, a_mini, with_mini_at, with_moved, with_base_at, with_base, with_site_by}
 use Rattle.instrument.specs.Books.{Book, Blocks, base_room, is_base_of, with_blocks}
 use Rattle.instrument.specs.Fits.{room_for}
@@ -39,7 +38,7 @@ pub record Sited (t : Words) (owner p : ℕ) (code : List MarkedWord) (book afte
   pub body : body_of_block k.mini ≡ code
 
 pub mini_words_len : (at : ℕ) (body : List MarkedWord) (next : ℕ) → length (mini_words at body next) ≡ length body + 1
-mini_words_len at body next = mini_len body (tool (jump_word (at + 4 * length body) next))
+mini_words_len at body next = length-append body (tool (jump_word (at + 4 * length body) next) ∷ [])
 
 pub body_is : (point at : ℕ) (body : List MarkedWord) → body_of_block (a_mini point at body) ≡ body
 body_is point at body =

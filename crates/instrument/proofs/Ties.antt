@@ -4,7 +4,7 @@ use Rattle.std.specs.Prelude.{map, filter, true, false, not, ◌⊎◌, ◌&&◌
 use Rattle.std.specs.FinMap.{get, insert}
 use Rattle.std.proofs.lemmas.Bool.{true≢false, cases_eq, cond-true, cond-false, eq-eqb, ne_eqb, and_from, not_from_false, not_from_true, and_right, false_from_ne_true}
 use Rattle.pn_types.specs.declared.limits.TheConstants.{TOOL_TEXT_LEN}
-use Rattle.rv_word.specs.Plain.{Plain, program_word}
+use Rattle.rv_word.specs.Plain.{program_word}
 use Rattle.tramp_spec.specs.Blocks.{mini_words}
 use Rattle.tramp_spec.specs.Codes.{Code, tool_at, put_words}
 use Rattle.tramp_spec.specs.Jumps.{jump_word}
@@ -16,13 +16,11 @@ use Rattle.machine.specs.Effects.{with_status, at_set, lead_to, mini_linked, min
 use Rattle.machine.specs.Events as events
 use Rattle.machine.specs.Events.{Event, May, MayWrite, HasShape, Apart, HasMini, current_base, row_at, link_at, next_of}
 use Rattle.machine.specs.Instruments.{body_of_block}
-use Rattle.machine.proofs.Lists.{in_map, in_snoc, snoc_new, in_filter, find_gives, get_other, put_words_other}
-use Rattle.machine.proofs.Invariant.{Inv}
-use Rattle.machine.proofs.Homes.{piece_of}
-use Rattle.machine.proofs.Minis.{point_word}
-use Rattle.machine.proofs.Points.{at_hit, at_miss}
+use Rattle.machine.specs.Reached.{IsReached}
+use Rattle.machine.proofs.Effects.{at_hit, at_miss}
+use Rattle.machine.proofs.KeptRows.{linkings_to, kept_there, word_of_point, is_led_to}
+use Rattle.machine.proofs.Lists.{in_map, in_snoc, snoc_new, in_filter, find_gives, find_finds, get_other, put_words_other}
 use Rattle.machine.proofs.Texts.{text_low}
-use Rattle.machine.proofs.Unlink.{unlinks}
 use Rattle.instrument.specs.Books.{is_unlinked, unlinked_at}
 use Rattle.instrument.specs.Handing.{head_of, leading, event_of}
 use Rattle.instrument.specs.declared.entry.Entry.{Entry}
@@ -73,19 +71,15 @@ retired_of Retired e = refl
 pub idle_ok : (code : Code) (rows : List Row) (fr : Fresh) → fr ≡ Idle → FreshOk code rows fr
 idle_ok code rows fr e = subst (FreshOk code rows) (sym e) tt
 
-module _ (c : Core) (s : Plain) (v : Inv c s) (fr : Fresh) (t : Tied c.code c.rows fr) where
+module _ (c : Core) (v : IsReached c) (fr : Fresh) (t : Tied c.code c.rows fr) where
   -- the point of a base block lies below the tool text
   pub point_low : (r : Row) → In r c.rows → r.base ≡ true → (w : ℕ) × (program_word c.program r.point ≡ Some w) × (r.point + 4 ≤ tool_at c.program)
-  point_low r h b =
-      let a = piece_of c.program c.code c.rows v.ps v.clock v.static r h in
-      let w = point_word c.program v.ground c.code c.rows v.ps v.clock v.static a.0 a.1 (record { base = sym (ap (λ (u : Row). u.base) a.2) ∙ b }) in
-      let e : program_word c.program r.point ≡ Some w.0 = ap (λ (u : Row). program_word c.program u.point) a.2 ∙ w.1 in
-      (w.0, e, text_low c.program r.point w.0 e)
+  point_low r h b = let w = word_of_point (linkings_to c v) c (kept_there c v) r h b in (w.0, w.1, text_low c.program r.point w.0 w.1)
 
   -- the words of the text where a block's word was written
   pub text_kept : (b : Row) → In b c.rows → (k : MarkedWord) (o : Row) → In o c.rows → o.base ≡ true → get (insert c.code (link_at b) k) o.point ≡ get c.code o.point
   text_kept b hb k o ho ob =
-      let a = (point_low o ho ob).2 in let l = (row_place c s v b hb).0 in let z = (link_place c s v b hb).0 in
+      let a = (point_low o ho ob).2 in let l = (row_place c v b hb).0 in let z = (link_place c v b hb).0 in
       get_other c.code (link_at b) o.point k (λ e. omega arith)
 
   -- ---- a block is written
@@ -114,7 +108,7 @@ module _ (c : Core) (s : Plain) (v : Inv c s) (fr : Fresh) (t : Tied c.code c.ro
       let row_is : row_of b ≡ block_row b true = ap (λ z. a_row b.point b.at (length b.words) z Written) g.base in
       let w = put_claims b.at b.words (block_row b true) refl g.place.low in (
         record {
-          shape = subst (HasShape c b) (sym g.base) (g.shape, λ r h z e. retired_of r.status (false_from_ne_true _ (λ (n : is_current r.status ≡ true). k.1 r (into_now c s v r h n) z e)));
+          shape = subst (HasShape c b) (sym g.base) (g.shape, λ r h z e. retired_of r.status (false_from_ne_true _ (λ (n : is_current r.status ≡ true). k.1 r (into_now c v r h n) z e)));
           low = g.place.low;
           high = g.place.high;
           apart = λ r h. away r (block_row b true) h (inl refl);
@@ -133,13 +127,13 @@ module _ (c : Core) (s : Plain) (v : Inv c s) (fr : Fresh) (t : Tied c.code c.ro
     to = head_of c.code (current_base c.rows b.point)
 
     bb : (current_base c.rows b.point ≡ Some (k.1)) × In (k.1) c.rows × ((k.1).base ≡ true) × ((k.1).point ≡ b.point) × (is_current (k.1).status ≡ true)
-    bb = base_of c s v b.point k.1 k.2
+    bb = base_of c v b.point k.1 k.2
 
     to_is : head_of c.code (current_base c.rows b.point) ≡ next_of c.code k.1
     to_is = ap (head_of c.code) bb.0
 
     low : (head_of c.code (current_base c.rows b.point) % 4 ≡ 0) × (tool_at c.program ≤ head_of c.code (current_base c.rows b.point)) × (head_of c.code (current_base c.rows b.point) ≤ tool_at c.program + 393216)
-    low = subst (λ n. (n % 4 ≡ 0) × (tool_at c.program ≤ n) × (n ≤ tool_at c.program + 393216)) (sym to_is) (head_low c s v b.point k.1 bb.0)
+    low = subst (λ n. (n % 4 ≡ 0) × (tool_at c.program ≤ n) × (n ≤ tool_at c.program + 393216)) (sym to_is) (head_low c v b.point k.1 bb.0)
 
     abbrev ws : List MarkedWord
     ws = mini_words b.at (body_of_block b) (head_of c.code (current_base c.rows b.point))
@@ -158,13 +152,13 @@ module _ (c : Core) (s : Plain) (v : Inv c s) (fr : Fresh) (t : Tied c.code c.ro
 
     next_old : next_of (put_words b.at ws c.code) k.1 ≡ next_of c.code k.1
     next_old =
-        let z = link_place c s v k.1 bb.1 in
+        let z = link_place c v k.1 bb.1 in
         let lo = z.0 in let hi = z.1 in
         let o : (link_at k.1 < b.at) ⊎ (b.at + 4 * length ws ≤ link_at k.1) = ⊎_elim (λ l. inl (omega arith)) (λ l. inr (omega arith)) (apart_new k.1 bb.1) in
         ap (λ q. events.target_at q (link_at k.1)) (put_words_other b.at ws c.code (link_at k.1) o)
 
     next_is_to : next_of (put_words b.at ws c.code) new ≡ to
-    next_is_to = next_new c s v b g (head_of c.code (current_base c.rows b.point)) low.0 low.1 low.2
+    next_is_to = next_new c v b g (head_of c.code (current_base c.rows b.point)) low.0 low.1 low.2
 
     pub put_mini : May c (event_of c (WriteMini b)) × Leads_to c (after c (event_of c (WriteMini b))) fr (WriteMini b)
     put_mini =
@@ -173,7 +167,7 @@ module _ (c : Core) (s : Plain) (v : Inv c s) (fr : Fresh) (t : Tied c.code c.ro
         let hi = g.place.high in (
           record {
             shape = subst (HasShape c (leading b (head_of c.code (current_base c.rows b.point)))) (sym g.mini)
-                (to, record { aligned = g.aligned; body = body_of_block b; harmless = g.harmless; reached = reach c s v b g (head_of c.code (current_base c.rows b.point)) low.0 low.1 low.2; is = refl });
+                (to, record { aligned = g.aligned; body = body_of_block b; harmless = g.harmless; reached = reach c v b g (head_of c.code (current_base c.rows b.point)) low.0 low.1 low.2; is = refl });
             low = g.place.low;
             high = subst (λ n. b.at + 4 * n ≤ tool_at c.program + TOOL_TEXT_LEN) (sym len_is) g.place.high;
             apart = apart_new;
@@ -217,7 +211,7 @@ module _ (c : Core) (s : Plain) (v : Inv c s) (fr : Fresh) (t : Tied c.code c.ro
         doors = λ r h b l.
             let o = in_map (with_status (at_set m Live)) c.rows r h in
             let ob : (o.0).base ≡ true = sym (ap (λ (u : Row). u.base) o.2) ∙ b in
-            let n : (o.0).at ≡ m → ⊥ = λ i. true≢false (sym ob ∙ (ap (λ (u : Row). u.base) (same_row c s v o.0 w.r o.1 w.is_in (i ∙ sym w.at)) ∙ w.mini)) in
+            let n : (o.0).at ≡ m → ⊥ = λ i. true≢false (sym ob ∙ (ap (λ (u : Row). u.base) (same_row c v o.0 w.r o.1 w.is_in (i ∙ sym w.at)) ∙ w.mini)) in
             let q = t.doors o.0 o.1 ob (sym (at_miss m Live o.0 n) ∙ (sym (ap (λ (u : Row). u.status) o.2) ∙ l)) in
             subst (λ (u : Row). get (lead_to w.b m c.code) u.point ≡ Some (enter (jump_word u.point u.at))) (sym o.2) (text_kept w.b hb (tool (jump_word (link_at w.b) m)) o.0 o.1 ob ∙ q);
         fresh = tt;
@@ -231,7 +225,7 @@ module _ (c : Core) (s : Plain) (v : Inv c s) (fr : Fresh) (t : Tied c.code c.ro
       hb = (find_gives (λ r. r.base && ((r.point == p) && is_current r.status)) c.rows w.b w.current).0
 
       same : (x : Row) → In x c.rows → is_current (at_set m Live x) ≡ is_current x.status
-      same x h = ⊎_elim (λ i. ap is_current (at_hit m Live x i) ∙ sym (ap (λ (u : Row). is_current u.status) (same_row c s v x w.r h w.is_in (i ∙ sym w.at)) ∙ ap is_current w.written)) (λ i. ap is_current (at_miss m Live x i)) (cases_eq x.at m)
+      same x h = ⊎_elim (λ i. ap is_current (at_hit m Live x i) ∙ sym (ap (λ (u : Row). is_current u.status) (same_row c v x w.r h w.is_in (i ∙ sym w.at)) ∙ ap is_current w.written)) (λ i. ap is_current (at_miss m Live x i)) (cases_eq x.at m)
 
   -- ---- a mini block is unlinked
 
@@ -241,11 +235,12 @@ module _ (c : Core) (s : Plain) (v : Inv c s) (fr : Fresh) (t : Tied c.code c.ro
 
     pub found : (h : Row) × (z : Row) × (events.before c m ≡ Some h) × (row_at c.rows m ≡ Some z) × In h c.rows
     found =
-        let u = unlinks c s v m r hr mini ra live in
-        (u.0, u.1, u.2, u.3, (find_gives _ c.rows u.0 u.2).0)
+        let h = is_led_to (linkings_to c v) c (kept_there c v) r hr mini live in
+        let z = find_finds (λ (u : Row). u.at == m) c.rows r hr (eq-eqb _ _ ra) in
+        (h.0, z.0, ap (events.before c) (sym ra) ∙ h.1, z.1, h.2)
 
     same_at : (x : Row) → In x c.rows → x.at ≡ m → x ≡ r
-    same_at x h e = same_row c s v x r h hr (e ∙ sym ra)
+    same_at x h e = same_row c v x r h hr (e ∙ sym ra)
 
     un_a : (x : Row) → In x c.rows → is_current x.status ≡ false → is_current (at_set m Retired x) ≡ false
     un_a x h e = ⊎_elim (λ i. ap is_current (at_hit m Retired x i)) (λ i. ap is_current (at_miss m Retired x i) ∙ e) (cases_eq x.at m)
@@ -284,7 +279,7 @@ module _ (c : Core) (s : Plain) (v : Inv c s) (fr : Fresh) (t : Tied c.code c.ro
         claims = λ rooms es z a k. (
           claims_map (at_set m Retired) c.rows (pending es) a,
           claimed_map c.rows (at_set m Retired) (unlinked_at m) rooms es k part_gone
-              (λ x o h f. ap is_unlinked (cond-false (x.at == m) Unlinked x.hold (ne_eqb _ _ (λ j. pending_at c s v es z a r o hr h (sym f.at ∙ (j ∙ sym ra))))) ∙ f.unlinked),
+              (λ x o h f. ap is_unlinked (cond-false (x.at == m) Unlinked x.hold (ne_eqb _ _ (λ j. pending_at c v es z a r o hr h (sym f.at ∙ (j ∙ sym ra))))) ∙ f.unlinked),
         );
       },
     )

@@ -55,8 +55,8 @@ under_done st k (WriteMini b) es z = under_all st.book.rooms
 under_done st k (LinkMini p m) es z = under_all st.book.rooms
 under_done st k (LinkPoint p m) es z = under_all st.book.rooms
 under_done st k (Free p) es z = λ x h. (x, (in_filter (stays p) st.book.rooms x h).0, same_self x, refl)
-under_done st k (UnlinkMini p m) es z = under_hold (unlinked_at m) st.book.rooms (hold_same st.book.rooms m (unheld_mini st.core k.plain k.inv k.fr st.book.rooms p m es z))
-under_done st k (UnlinkPoint p m) es z = under_hold (unlinked_at m) st.book.rooms (hold_same st.book.rooms m (unheld_point st.core k.plain k.inv k.fr st.book.rooms p m es z))
+under_done st k (UnlinkMini p m) es z = under_hold (unlinked_at m) st.book.rooms (hold_same st.book.rooms m (unheld_mini st.core k.reached k.fr st.book.rooms p m es z))
+under_done st k (UnlinkPoint p m) es z = under_hold (unlinked_at m) st.book.rooms (hold_same st.book.rooms m (unheld_point st.core k.reached k.fr st.book.rooms p m es z))
 
 -- ---- the sites of an instrument
 

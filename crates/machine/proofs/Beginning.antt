@@ -58,7 +58,7 @@ length_words : (n : ℕ) (bytes : List ℕ) → length (words_in n bytes) ≡ n
 length_words zero bytes = refl
 length_words (suc n) bytes = ap suc (length_words n _)
 
-ground : (image : Image) → IsProgram image → Ground (program_of image)
+pub ground : (image : Image) → IsProgram image → Ground (program_of image)
 ground image p =
     let r = text_range image p.image in
     let many : length (words_of (text_of image)) ≡ length (text_of image) / 4 = length_words (length (text_of image) / 4) (text_of image) in

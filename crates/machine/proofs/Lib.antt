@@ -2,6 +2,7 @@ pub mod Levels
 pub mod Replaying
 pub mod Sums
 pub mod Lists
+pub mod Effects
 pub mod Invariant
 pub mod Homes
 pub mod Texts
@@ -25,6 +26,7 @@ pub mod Beginning
 pub mod Erasing
 pub mod Leaving
 pub mod Keeping
+pub mod KeptRows
 pub mod Banked
 pub mod Performed
 pub mod HartPlaces

@@ -8,11 +8,12 @@ use Rattle.tramp_spec.specs.Codes.{Code, tool_at}
 use Rattle.tramp_spec.specs.Jumps.{jump_word}
 use Rattle.tramp_spec.specs.Marks.{tool}
 use Rattle.tramp_spec.specs.declared.mark.MarkedWord.{MarkedWord}
-use Rattle.tramp_spec.proofs.Hops.{Hops, target_is, jump_hops}
+use Rattle.tramp_spec.proofs.Hops.{Hops, jump_hops}
 use Rattle.machine.specs.Cores.{In, Row, Status, Written, Live, Core, is_live, is_current}
 use Rattle.machine.specs.Effects.{with_status, at_set, mini_linked}
-use Rattle.machine.specs.Events.{Apart, link_at, next_of, target_at, current_base}
+use Rattle.machine.specs.Events.{Apart, link_at, next_of, current_base}
 use Rattle.machine.specs.Kept.{Linkings, link_under}
+pub use Rattle.machine.proofs.Effects.{link_is}
 use Rattle.machine.proofs.Lists.{in_map, map_in, get_other, stands_at, get_append}
 use Rattle.machine.proofs.Invariant.{Ground, Piece, IsBase, Linked, LiveOf, BaseShape, MiniShape, ShapedAs, Shaped, Leads, Door, TextWord, Static, Inv}
 use Rattle.machine.proofs.Homes.{piece_of, one_block}
@@ -20,13 +21,6 @@ use Rattle.machine.proofs.Texts.{text_low}
 use Rattle.machine.proofs.Points.{at_hit, at_miss, Current, current_piece, family_of}
 use Rattle.machine.proofs.Follow.{Kept, Numbers, All, NoPiece, Nowhere, reworked}
 use Rattle.machine.proofs.Blocks.{shaped_other, shaped_next, link_in, static_kept, leads_kept, rework, door_of}
-
-pub link_is : (code : Code) (row : Row) (a n w : ℕ) → link_at row ≡ a → Hops a n w → get code a ≡ Some (tool w) → next_of code row ≡ n
-link_is code row a n w e h s =
-    ap (λ z. target_at (get code z) z) e ∙ (ap (λ o. target_at o a) s ∙ jump_to_next)
-  where
-    jump_to_next : target_at (Some (tool w)) a ≡ n
-    jump_to_next = rw (target_is a n w h) refl
 
 -- what a block's word names is its next
 pub next_is : (t : Words) (code : Code) (x : Piece) → Shaped t code x → next_of code x.row ≡ x.next

@@ -11,6 +11,7 @@ use Rattle.tramp_spec.proofs.Hops.{Hops, jump_hops}
 use Rattle.machine.specs.Cores.{In, Row, Status, Written, Live, Retired, Core, is_live, is_current}
 use Rattle.machine.specs.Effects.{at_set, retired_at, point_linked, point_unlinked}
 use Rattle.machine.specs.Events.{is_linked, current_base}
+pub use Rattle.machine.proofs.Effects.{at_hit, at_miss}
 use Rattle.machine.proofs.Lists.{map_in, find_gives, get_same, get_other, same_some}
 use Rattle.machine.proofs.Invariant.{Ground, Piece, IsBase, Linked, Leads, HasFamily, Door, TextWord, Static, Inv}
 use Rattle.machine.proofs.Homes.{piece_of, one_block}
@@ -22,12 +23,6 @@ pub live_true : (s : Status) → is_live s ≡ true → s ≡ Live
 live_true Written e = absurd (true≢false (sym e))
 live_true Live e = refl
 live_true Retired e = absurd (true≢false (sym e))
-
-pub at_hit : (m : ℕ) (s : Status) (r : Row) → r.at ≡ m → at_set m s r ≡ s
-at_hit m s r e = cond-true (r.at == m) s r.status (eq-eqb r.at m e)
-
-pub at_miss : (m : ℕ) (s : Status) (r : Row) → (r.at ≡ m → ⊥) → at_set m s r ≡ r.status
-at_miss m s r e = cond-false (r.at == m) s r.status (ne_eqb r.at m e)
 
 abbrev pub same_next : Piece → ℕ
 same_next q = q.next

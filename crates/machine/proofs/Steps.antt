@@ -11,12 +11,11 @@ use Rattle.rv_exec.proofs.Runs.{run_from-append, LegalFrom-append}
 use Rattle.tramp_spec.specs.Harts.{Hart, Solo, is_tick}
 use Rattle.machine.specs.Cores.{Core, Row, Status}
 use Rattle.machine.specs.Turns.{fetched, may_turn, turn_by, put_back, ticks_by, turn_alone}
-use Rattle.machine.specs.Events.{Event, Turn, Write, LinkMini, UnlinkMini, LinkPoint, UnlinkPoint, Free, Arm, Sample, May, current_base, HasMini}
+use Rattle.machine.specs.Events.{Event, Turn, Write, LinkMini, UnlinkMini, LinkPoint, UnlinkPoint, Free, Arm, Sample, May}
 use Rattle.machine.specs.Effects.{after, owned, written, mini_linked, point_linked, point_unlinked}
-use Rattle.machine.specs.Effects as effects
-use Rattle.machine.specs.Events as events
 use Rattle.machine.specs.Kept.{Linkings, link_under, linkings_after, linkings}
 use Rattle.machine.specs.Replays.{replay, Legal, owns}
+pub use Rattle.machine.proofs.Effects.{Fixed, fixed}
 use Rattle.machine.proofs.Lists.{get_set_same, get_set_other, length_slice_set, same_some}
 use Rattle.machine.proofs.Follow.{Kept, Numbers}
 use Rattle.machine.proofs.Invariant.{Piece, Dynamic, Inv}
@@ -28,43 +27,6 @@ use Rattle.machine.proofs.Unlink.{unlink_mini}
 use Rattle.machine.proofs.Adding.{write}
 use Rattle.machine.proofs.Freeing.{freed}
 use Rattle.machine.proofs.Arming.{arms}
-
--- ---- program and budget stay
-
-abbrev pub Fixed : Core → Core → Type 0
-Fixed c d = (d.program ≡ c.program) × (d.budget ≡ c.budget)
-
-fixed_turn : (o : Option Hart) (c : Core) (h : ℕ) → Fixed c (turn_by o c h)
-fixed_turn None c h = (refl, refl)
-fixed_turn (Some x) c h = (refl, refl)
-
-fixed_link : (o : Option Row) (m : ℕ) (c : Core) → Fixed c (mini_linked o m c)
-fixed_link None m c = (refl, refl)
-fixed_link (Some b) m c = (refl, refl)
-
-fixed_unlink : (o u : Option Row) (m : ℕ) (c : Core) → Fixed c (effects.mini_unlinked o u m c)
-fixed_unlink None u m c = (refl, refl)
-fixed_unlink (Some q) None m c = (refl, refl)
-fixed_unlink (Some q) (Some r) m c = (refl, refl)
-
-fixed_enter : (o : Option Row) (p : ℕ) (c : Core) → Fixed c (point_linked o p c)
-fixed_enter None p c = (refl, refl)
-fixed_enter (Some b) p c = (refl, refl)
-
-fixed_own : (o : Option ℕ) (p : ℕ) (c : Core) → Fixed c (point_unlinked o p c)
-fixed_own None p c = (refl, refl)
-fixed_own (Some w) p c = (refl, refl)
-
-pub fixed : (c : Core) (e : Event) → Fixed c (after c e)
-fixed c (Turn h) = fixed_turn (slice_get c.harts h) c h
-fixed c (Write b) = (refl, refl)
-fixed c (LinkMini p m) = fixed_link (current_base c.rows p) m c
-fixed c (UnlinkMini p m) = fixed_unlink (events.before c m) (events.row_at c.rows m) m c
-fixed c (LinkPoint p) = fixed_enter (current_base c.rows p) p c
-fixed c (UnlinkPoint p) = fixed_own (plain.program_word c.program p) p c
-fixed c (Free p) = (refl, refl)
-fixed c (Arm i) = (refl, refl)
-fixed c (Sample i) = (refl, refl)
 
 -- ---- a turn, among all harts
 
