@@ -1,5 +1,6 @@
 pub mod Fields
 pub mod Table
+pub mod InstrRegisters
 pub mod Words
 pub mod Forms
 pub mod Names

@@ -1,6 +1,7 @@
 -- The word of an instruction: the table read from the other side.
-use Rattle.std.specs.Prelude.{ℕ, ◌+◌, ◌*◌, ◌/◌, ◌%◌, ◌^◌, ◌<◌, ◌≡◌}
+use Rattle.std.specs.Prelude.{ℕ, Option, Some, None, ◌+◌, ◌*◌, ◌/◌, ◌%◌, ◌^◌, ◌<◌, ◌≡◌}
 use Rattle.rv_word.specs.Fields.{extended}
+use Rattle.rv_word.specs.InstrRegisters.{registers_of}
 use Rattle.rv_word.specs.declared.instr.BranchOp.{BranchOp}
 use Rattle.rv_word.specs.declared.instr.BranchOp.TheVariants.{Beq, Bne, Blt, Bge, Bltu, Bgeu}
 use Rattle.rv_word.specs.declared.instr.LoadOp.{LoadOp}
@@ -193,24 +194,29 @@ IsExtended bits n = extended bits (n % 2 ^ bits) ≡ n
 abbrev pub IsJump : ℕ → ℕ → Type 0
 IsJump bits n = IsExtended bits n × (n % 2 ≡ 0)
 
+abbrev pub IsRegister : Option ℕ → Type 0
+IsRegister None = Unit {0}
+IsRegister (Some r) = r < 32
+
+-- what fits beside the registers
+abbrev pub HasNumbers : Instr → Type 0
+HasNumbers (Lui rd imm) = IsExtended 32 imm × (imm % 4096 ≡ 0)
+HasNumbers (Auipc rd imm) = IsExtended 32 imm × (imm % 4096 ≡ 0)
+HasNumbers (Jal rd offset) = IsJump 21 offset
+HasNumbers (Jalr rd rs1 offset) = IsExtended 12 offset
+HasNumbers (Branch op rs1 rs2 offset) = IsJump 13 offset
+HasNumbers (Load op rd rs1 offset) = IsExtended 12 offset
+HasNumbers (Store op rs1 rs2 offset) = IsExtended 12 offset
+HasNumbers (OpImm op rd rs1 imm) = IsExtended 12 imm
+HasNumbers (ShiftImm op rd rs1 by) = by < 64
+HasNumbers (Addiw rd rs1 imm) = IsExtended 12 imm
+HasNumbers (ShiftImm32 op rd rs1 by) = by < 32
+HasNumbers (Fence rd rs1 high) = (rd < 32) × (rs1 < 32) × (high < 4096)
+HasNumbers (Lr width rd rs1 order) = order < 4
+HasNumbers (Sc width rd rs1 rs2 order) = order < 4
+HasNumbers (Amo op width rd rs1 rs2 order) = order < 4
+HasNumbers i = Unit {0}
+
 -- what has a word: each number fits its field
 abbrev pub HasWord : Instr → Type 0
-HasWord (Lui rd imm) = (rd < 32) × IsExtended 32 imm × (imm % 4096 ≡ 0)
-HasWord (Auipc rd imm) = (rd < 32) × IsExtended 32 imm × (imm % 4096 ≡ 0)
-HasWord (Jal rd offset) = (rd < 32) × IsJump 21 offset
-HasWord (Jalr rd rs1 offset) = (rd < 32) × (rs1 < 32) × IsExtended 12 offset
-HasWord (Branch op rs1 rs2 offset) = (rs1 < 32) × (rs2 < 32) × IsJump 13 offset
-HasWord (Load op rd rs1 offset) = (rd < 32) × (rs1 < 32) × IsExtended 12 offset
-HasWord (Store op rs1 rs2 offset) = (rs1 < 32) × (rs2 < 32) × IsExtended 12 offset
-HasWord (OpImm op rd rs1 imm) = (rd < 32) × (rs1 < 32) × IsExtended 12 imm
-HasWord (ShiftImm op rd rs1 by) = (rd < 32) × (rs1 < 32) × (by < 64)
-HasWord (Addiw rd rs1 imm) = (rd < 32) × (rs1 < 32) × IsExtended 12 imm
-HasWord (ShiftImm32 op rd rs1 by) = (rd < 32) × (rs1 < 32) × (by < 32)
-HasWord (Op op rd rs1 rs2) = (rd < 32) × (rs1 < 32) × (rs2 < 32)
-HasWord (Op32 op rd rs1 rs2) = (rd < 32) × (rs1 < 32) × (rs2 < 32)
-HasWord (Fence rd rs1 high) = (rd < 32) × (rs1 < 32) × (high < 4096)
-HasWord Ecall = Unit {0}
-HasWord Ebreak = Unit {0}
-HasWord (Lr width rd rs1 order) = (rd < 32) × (rs1 < 32) × (order < 4)
-HasWord (Sc width rd rs1 rs2 order) = (rd < 32) × (rs1 < 32) × (rs2 < 32) × (order < 4)
-HasWord (Amo op width rd rs1 rs2 order) = (rd < 32) × (rs1 < 32) × (rs2 < 32) × (order < 4)
+HasWord i = IsRegister (registers_of i).rd × IsRegister (registers_of i).rs1 × IsRegister (registers_of i).rs2 × HasNumbers i
