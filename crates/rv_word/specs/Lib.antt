@@ -1,4 +1,5 @@
 pub mod Fields
+pub mod Codes
 pub mod Table
 pub mod InstrRegisters
 pub mod Words
