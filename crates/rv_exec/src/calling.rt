@@ -1,7 +1,7 @@
 //! System calls.
 
 ghost use Rattle.std.specs.Prelude.{◌≡◌, ◌≤◌, List, ℕ, Option, None, min};
-ghost use Rattle.rv_word.specs.Exec.{prog_of, system_call, minus, written_is};
+ghost use Rattle.rv_word.specs.Exec.{system_call, minus, written_is};
 ghost use Rattle.rv_exec.specs.Gives.{Gives, state_from, next_after};
 ghost use Rattle.rv_word.specs.Memory.{bytes_at};
 

@@ -1,5 +1,5 @@
 ghost use Rattle.std.specs.Prelude.{◌≡◌, ◌<◌, length, None, is_none};
-ghost use Rattle.rv_word.specs.Exec.{exec_of, prog_of};
+ghost use Rattle.rv_word.specs.Exec.{exec_of};
 ghost use Rattle.rv_exec.specs.Gives.{Gives, state_from, next_after};
 
 use crate::flat::{Flat, flattened};

@@ -1,5 +1,5 @@
 ghost use Rattle.std.specs.Prelude.{◌<◌, length};
-ghost use Rattle.rv_word.specs.Exec.{exec_of, prog_of};
+ghost use Rattle.rv_word.specs.Exec.{exec_of};
 ghost use Rattle.rv_exec.specs.Gives.{Gives, state_from};
 
 use crate::decoded::Decoded;

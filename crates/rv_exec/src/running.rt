@@ -2,7 +2,7 @@
 //! arm; what the arms do stands beside it.
 
 ghost use Rattle.std.specs.Prelude.{◌≡◌, ◌<◌, length, None, is_none, IfSome};
-ghost use Rattle.rv_word.specs.Exec.{exec_decoded, prog_of};
+ghost use Rattle.rv_word.specs.Exec.{exec_decoded};
 ghost use Rattle.rv_word.specs.Words.{HasWord};
 ghost use Rattle.rv_exec.specs.Flat.{instr_of};
 ghost use Rattle.rv_exec.specs.Gives.{Gives, state_from, next_after};

@@ -2,7 +2,7 @@
 //! the hart goes on, and else notes the cause of the stop.
 
 ghost use Rattle.std.specs.Prelude.{true, ◌≡◌, ◌<◌, ◌≤◌, length, List, ℕ, Option, None, is_none};
-ghost use Rattle.rv_word.specs.Exec.{Prog, perform, prog_of, next};
+ghost use Rattle.rv_word.specs.Exec.{Prog, perform, next};
 ghost use Rattle.rv_word.specs.Registers.{reg, with_reg};
 ghost use Rattle.rv_word.specs.Values.{imm_value, shift_value, shift_word_value, reg_value, reg_32_value, store_len};
 ghost use Rattle.rv_word.specs.declared.action.Action.TheVariants.{Jump, BranchTo, ReadMemory, WriteMemory};
