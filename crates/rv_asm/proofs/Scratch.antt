@@ -1,5 +1,5 @@
 -- Whether an instruction's word names x31 doesn't depend on its number.
-use Rattle.std.proofs.Common.{◌≡◌, ℕ, ◌+◌, ◌*◌, ◌/◌, ◌%◌, ◌^◌, ◌<◌, ◌==◌, ◌||◌, Bool, false, refl, sym, ap, ◌∙◌, arith}
+use Rattle.std.proofs.Common.{◌≡◌, ℕ, ◌+◌, ◌*◌, ◌/◌, ◌%◌, ◌^◌, ◌<◌, ◌==◌, ◌||◌, Bool, true, false, refl, sym, ap, ◌∙◌, arith}
 use Rattle.rv_word.specs.declared.instr.Instr.{Instr}
 use Rattle.rv_word.specs.declared.instr.Instr.TheVariants.{Lui, Auipc, Jal, Jalr, Branch, Load, Store, OpImm, ShiftImm, Addiw, ShiftImm32, Op, Op32, Fence, Ecall, Ebreak, Lr, Sc, Amo}
 use Rattle.rv_word.specs.declared.instr.BranchOp.{BranchOp}
@@ -15,7 +15,8 @@ use Rattle.rv_word.specs.declared.instr.ShiftOp.TheVariants as shift
 use Rattle.rv_word.specs.Fields.{extended, opcode_of, rd_of, funct3_of, rs1_of, rs2_of, funct7_of}
 use Rattle.rv_word.specs.Table.{decode_of}
 use Rattle.rv_word.specs.Names.{has_scratch}
-use Rattle.rv_word.specs.Words.{r_form, i_form, u_form, j_form, word_of as coded, branch_code, load_code, store_code, imm_code, shift_code, shift_top}
+use Rattle.rv_word.specs.Codes.{branch_code, load_code, store_code, imm_code}
+use Rattle.rv_word.specs.Words.{r_form, i_form, u_form, j_form, word_of as coded, shift_code, shift_top}
 use Rattle.rv_asm.specs.SecondPass.{with_number}
 use Rattle.rv_asm.proofs.FormatFields.{u_opcode, u_rd, j_opcode, j_rd, i_opcode, i_rd, i_funct3, i_rs1, i_top, r_opcode, r_rd, r_funct3, r_rs1, r_rs2, r_funct7}
 
@@ -30,21 +31,28 @@ two w = (rd_of w == 31) || (rs1_of w == 31)
 abbrev sources : ℕ → Bool
 sources w = (rs1_of w == 31) || (rs2_of w == 31)
 
+or_none : (b : Bool) → (b || false) ≡ b
+or_none true = refl
+or_none false = refl
+
+two_named : (w : ℕ) → ((rd_of w == 31) || ((rs1_of w == 31) || false)) ≡ two w
+two_named w = ap (λ b. (rd_of w == 31) || b) (or_none (rs1_of w == 31))
+
 at_lui : (w : ℕ) → opcode_of w ≡ 0x37 → has_scratch w ≡ one w
 unfolding decode_of
-at_lui w e = rw e refl
+at_lui w e = rw e (or_none (rd_of w == 31))
 
 at_auipc : (w : ℕ) → opcode_of w ≡ 0x17 → has_scratch w ≡ one w
 unfolding decode_of
-at_auipc w e = rw e refl
+at_auipc w e = rw e (or_none (rd_of w == 31))
 
 at_jal : (w : ℕ) → opcode_of w ≡ 0x6f → has_scratch w ≡ one w
 unfolding decode_of
-at_jal w e = rw e refl
+at_jal w e = rw e (or_none (rd_of w == 31))
 
 at_jalr : (w : ℕ) → opcode_of w ≡ 0x67 → funct3_of w ≡ 0 → has_scratch w ≡ two w
 unfolding decode_of
-at_jalr w e c = rw (e, c) refl
+at_jalr w e c = rw (e, c) (two_named w)
 
 at_branch : (op : BranchOp) (w : ℕ) → opcode_of w ≡ 0x63 → funct3_of w ≡ branch_code op → has_scratch w ≡ sources w
 unfolding decode_of
@@ -57,13 +65,13 @@ at_branch Bgeu w e c = rw (e, c) refl
 
 at_load : (op : LoadOp) (w : ℕ) → opcode_of w ≡ 0x03 → funct3_of w ≡ load_code op → has_scratch w ≡ two w
 unfolding decode_of
-at_load Lb w e c = rw (e, c) refl
-at_load Lh w e c = rw (e, c) refl
-at_load Lw w e c = rw (e, c) refl
-at_load Ld w e c = rw (e, c) refl
-at_load Lbu w e c = rw (e, c) refl
-at_load Lhu w e c = rw (e, c) refl
-at_load Lwu w e c = rw (e, c) refl
+at_load Lb w e c = rw (e, c) (two_named w)
+at_load Lh w e c = rw (e, c) (two_named w)
+at_load Lw w e c = rw (e, c) (two_named w)
+at_load Ld w e c = rw (e, c) (two_named w)
+at_load Lbu w e c = rw (e, c) (two_named w)
+at_load Lhu w e c = rw (e, c) (two_named w)
+at_load Lwu w e c = rw (e, c) (two_named w)
 
 at_store : (op : StoreOp) (w : ℕ) → opcode_of w ≡ 0x23 → funct3_of w ≡ store_code op → has_scratch w ≡ sources w
 unfolding decode_of
@@ -74,28 +82,28 @@ at_store Sd w e c = rw (e, c) refl
 
 at_imm : (op : ImmOp) (w : ℕ) → opcode_of w ≡ 0x13 → funct3_of w ≡ imm_code op → has_scratch w ≡ two w
 unfolding decode_of
-at_imm Addi w e c = rw (e, c) refl
-at_imm Slti w e c = rw (e, c) refl
-at_imm Sltiu w e c = rw (e, c) refl
-at_imm Xori w e c = rw (e, c) refl
-at_imm Ori w e c = rw (e, c) refl
-at_imm Andi w e c = rw (e, c) refl
+at_imm Addi w e c = rw (e, c) (two_named w)
+at_imm Slti w e c = rw (e, c) (two_named w)
+at_imm Sltiu w e c = rw (e, c) (two_named w)
+at_imm Xori w e c = rw (e, c) (two_named w)
+at_imm Ori w e c = rw (e, c) (two_named w)
+at_imm Andi w e c = rw (e, c) (two_named w)
 
 at_shift : (op : ShiftOp) (w : ℕ) → opcode_of w ≡ 0x13 → funct3_of w ≡ shift_code op → w / 2 ^ 26 ≡ shift_top op / 2 → has_scratch w ≡ two w
 unfolding decode_of
-at_shift shift.Sll w e c t = rw (e, c, t) refl
-at_shift shift.Srl w e c t = rw (e, c, t) refl
-at_shift shift.Sra w e c t = rw (e, c, t) refl
+at_shift shift.Sll w e c t = rw (e, c, t) (two_named w)
+at_shift shift.Srl w e c t = rw (e, c, t) (two_named w)
+at_shift shift.Sra w e c t = rw (e, c, t) (two_named w)
 
 at_addiw : (w : ℕ) → opcode_of w ≡ 0x1b → funct3_of w ≡ 0 → has_scratch w ≡ two w
 unfolding decode_of
-at_addiw w e c = rw (e, c) refl
+at_addiw w e c = rw (e, c) (two_named w)
 
 at_shift_32 : (op : ShiftOp) (w : ℕ) → opcode_of w ≡ 0x1b → funct3_of w ≡ shift_code op → funct7_of w ≡ shift_top op → has_scratch w ≡ two w
 unfolding decode_of
-at_shift_32 shift.Sll w e c t = rw (e, c, t) refl
-at_shift_32 shift.Srl w e c t = rw (e, c, t) refl
-at_shift_32 shift.Sra w e c t = rw (e, c, t) refl
+at_shift_32 shift.Sll w e c t = rw (e, c, t) (two_named w)
+at_shift_32 shift.Srl w e c t = rw (e, c, t) (two_named w)
+at_shift_32 shift.Sra w e c t = rw (e, c, t) (two_named w)
 
 -- ---- what an instruction's word names
 

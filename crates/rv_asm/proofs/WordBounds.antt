@@ -12,7 +12,8 @@ use Rattle.rv_word.specs.declared.instr.AtomicWidth.{AtomicWidth}
 use Rattle.rv_word.specs.declared.instr.AtomicWidth.TheVariants as width
 use Rattle.rv_word.specs.declared.instr.ShiftOp.{ShiftOp}
 use Rattle.rv_word.specs.declared.instr.ShiftOp.TheVariants as shift
-use Rattle.rv_word.specs.Words.{r_form, i_form, u_form, j_form, word_of as coded, branch_code, load_code, store_code, imm_code, shift_code, shift_top, reg_code, reg_top, reg_32_code, reg_32_top, amo_code, width_code}
+use Rattle.rv_word.specs.Codes.{branch_code, load_code, store_code, imm_code, reg_codes, reg_32_codes, amo_code, width_code}
+use Rattle.rv_word.specs.Words.{r_form, i_form, u_form, j_form, word_of as coded, shift_code, shift_top}
 use Rattle.rv_asm.proofs.Scratch.{branch_small, load_small, store_small, imm_small, shift_small}
 
 r_below : (o rd c rs1 rs2 t : ℕ) → o < 128 → c < 8 → t < 128 → r_form o rd c rs1 rs2 t < 2 ^ 32
@@ -32,7 +33,7 @@ top_small shift.Sll = omega arith
 top_small shift.Srl = omega arith
 top_small shift.Sra = omega arith
 
-reg_small : (op : RegOp) → reg_code op < 8
+reg_small : (op : RegOp) → (reg_codes op).1 < 8
 reg_small reg.Add = omega arith
 reg_small reg.Sll = omega arith
 reg_small reg.Slt = omega arith
@@ -52,7 +53,7 @@ reg_small reg.Divu = omega arith
 reg_small reg.Rem = omega arith
 reg_small reg.Remu = omega arith
 
-reg_top_small : (op : RegOp) → reg_top op < 128
+reg_top_small : (op : RegOp) → (reg_codes op).0 < 128
 reg_top_small reg.Add = omega arith
 reg_top_small reg.Sll = omega arith
 reg_top_small reg.Slt = omega arith
@@ -72,7 +73,7 @@ reg_top_small reg.Divu = omega arith
 reg_top_small reg.Rem = omega arith
 reg_top_small reg.Remu = omega arith
 
-reg_32_small : (op : RegOp32) → reg_32_code op < 8
+reg_32_small : (op : RegOp32) → (reg_32_codes op).1 < 8
 reg_32_small reg32.Addw = omega arith
 reg_32_small reg32.Sllw = omega arith
 reg_32_small reg32.Srlw = omega arith
@@ -84,7 +85,7 @@ reg_32_small reg32.Divuw = omega arith
 reg_32_small reg32.Remw = omega arith
 reg_32_small reg32.Remuw = omega arith
 
-reg_32_top_small : (op : RegOp32) → reg_32_top op < 128
+reg_32_top_small : (op : RegOp32) → (reg_32_codes op).0 < 128
 reg_32_top_small reg32.Addw = omega arith
 reg_32_top_small reg32.Sllw = omega arith
 reg_32_top_small reg32.Srlw = omega arith
@@ -126,8 +127,8 @@ below (OpImm op rd rs1 imm) = i_below 0x13 rd (imm_code op) rs1 imm (omega arith
 below (ShiftImm op rd rs1 by) = i_below 0x13 rd (shift_code op) rs1 (by % 64 + shift_top op * 32) (omega arith) (shift_small op)
 below (Addiw rd rs1 imm) = i_below 0x1b rd 0 rs1 imm (omega arith) (omega arith)
 below (ShiftImm32 op rd rs1 by) = r_below 0x1b rd (shift_code op) rs1 by (shift_top op) (omega arith) (shift_small op) (top_small op)
-below (Op op rd rs1 rs2) = r_below 0x33 rd (reg_code op) rs1 rs2 (reg_top op) (omega arith) (reg_small op) (reg_top_small op)
-below (Op32 op rd rs1 rs2) = r_below 0x3b rd (reg_32_code op) rs1 rs2 (reg_32_top op) (omega arith) (reg_32_small op) (reg_32_top_small op)
+below (Op op rd rs1 rs2) = r_below 0x33 rd (reg_codes op).1 rs1 rs2 (reg_codes op).0 (omega arith) (reg_small op) (reg_top_small op)
+below (Op32 op rd rs1 rs2) = r_below 0x3b rd (reg_32_codes op).1 rs1 rs2 (reg_32_codes op).0 (omega arith) (reg_32_small op) (reg_32_top_small op)
 below (Fence rd rs1 high) = i_below 0x0f rd 0 rs1 high (omega arith) (omega arith)
 below Ecall = omega arith
 below Ebreak = omega arith

@@ -1,16 +1,28 @@
--- What a word's outcome leaves of the state before it.
+-- What a word leaves of the state before it.
 use Rattle.std.specs.Prelude.{ℕ, ◌≡◌, List, Option, Some, None, Result, Ok, Err, length}
-use Rattle.rv_word.specs.Exec.{Prog, Outcome, Done, done, next}
+use Rattle.rv_word.specs.Exec.{Prog, Outcome, Done, done, next, prog_of}
+use Rattle.rv_word.specs.Memory.{Memory}
 use Rattle.rv_word.specs.Registers.{with_reg}
 use Rattle.rv_word.specs.declared.outcome.Cause.{Cause}
 use Rattle.rv_word.specs.declared.outcome.Next.{Next}
 use Rattle.rv_word.specs.declared.outcome.Next.TheVariants.{Go, Stop}
 
--- The outcome of a word that a hart with these registers executes leaves these other ones, and what all share, and says
--- how the hart goes on. Each hart keeps its place among the reservations.
-pub record Gives (outcome : Outcome) (regs : List ℕ) (prog : Prog) (next : Next) (new_regs : List ℕ) (new_prog : Prog) : Type 0 where
-  pub state : done outcome regs ≡ record { next = next; regs = new_regs; prog = new_prog }
-  pub harts : length new_prog.resv ≡ length prog.resv
+-- the registers of a hart, and what all harts share
+pub record State : Type 0 where
+  pub regs : List ℕ
+  pub prog : Prog
+
+abbrev pub state_of : List ℕ → Prog → State
+state_of regs p = record { regs = regs; prog = p }
+
+-- the same from its parts
+abbrev pub state_from : List ℕ → Memory → List (Option ℕ) → List ℕ → State
+state_from regs mem resv out = state_of regs (prog_of mem resv out)
+
+-- What a hart does leaves of a state a new one, and says how the hart goes on. Each hart keeps its place among the reservations.
+pub record Gives (does : List ℕ → Prog → Outcome) (old : State) (next : Next) (new : State) : Type 0 where
+  pub state : done (does old.regs old.prog) old.regs ≡ record { next = next; regs = new.regs; prog = new.prog }
+  pub harts : length new.prog.resv ≡ length old.prog.resv
 
 -- how a hart goes on, from the cause of its stop and its pc
 abbrev pub next_after : Option Cause → ℕ → Next

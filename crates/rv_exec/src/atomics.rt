@@ -8,7 +8,7 @@ ghost use Rattle.rv_word.specs.Words.{HasWord};
 ghost use Rattle.rv_word.specs.declared.action.Action.TheVariants.{LoadReserved, StoreConditional, AtomicAccess};
 ghost use Rattle.rv_exec.specs.AtomicAccesses.{IsAtomicAccess};
 ghost use Rattle.rv_exec.specs.Flat.{instr_of};
-ghost use Rattle.rv_exec.specs.Gives.{Gives, answering, next_after};
+ghost use Rattle.rv_exec.specs.Gives.{Gives, state_from, answering, next_after};
 
 use crate::flat::Flat;
 use crate::outcomes::{cause_of, next_pc};
@@ -212,7 +212,7 @@ pub fn access(
     requires hart { hart < length resv.old }
     requires stop { stop.old ≡ None }
     ensures harts { length resv.new ≡ length resv.old }
-    ensures state { (out : List ℕ) → Gives (exec_decoded (instr_of flat.now) pc hart regs.old (prog_of mem.old resv.old out)) regs.old (prog_of mem.old resv.old out) (next_after stop.new result) regs.new (prog_of mem.new resv.new out) }
+    ensures state { (out : List ℕ) → Gives (exec_decoded (instr_of flat.now) pc hart) (state_from regs.old mem.old resv.old out) (next_after stop.new result) (state_from regs.new mem.new resv.new out) }
 {
     match *flat {
         Flat::Lr(width, rd, rs1, _) => {

@@ -1,6 +1,6 @@
 ghost use Rattle.std.specs.Prelude.{◌≡◌, ◌<◌, length, None, is_none};
-ghost use Rattle.rv_word.specs.Exec.{exec_of, prog_of};
-ghost use Rattle.rv_exec.specs.Gives.{Gives, next_after};
+ghost use Rattle.rv_word.specs.Exec.{exec_of};
+ghost use Rattle.rv_exec.specs.Gives.{Gives, state_from, next_after};
 
 use crate::flat::{Flat, flattened};
 use crate::output::Output;
@@ -70,7 +70,7 @@ impl Decoded {
         requires stop { stop.old ≡ None }
         requires hart { hart < length resv.old }
         ensures goes { result ≡ is_none stop.new }
-        ensures state { Gives (exec_of self.now pc.old hart regs.old (prog_of mem.old resv.old out.old)) regs.old (prog_of mem.old resv.old out.old) (next_after stop.new pc.new) regs.new (prog_of mem.new resv.new out.new) }
+        ensures state { Gives (exec_of self.now pc.old hart) (state_from regs.old mem.old resv.old out.old) (next_after stop.new pc.new) (state_from regs.new mem.new resv.new out.new) }
     {
         self.flat
             .run::<Decoded>(hart, pc, stop, regs, mem, resv, out)

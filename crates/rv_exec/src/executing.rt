@@ -1,6 +1,6 @@
 ghost use Rattle.std.specs.Prelude.{◌<◌, length};
-ghost use Rattle.rv_word.specs.Exec.{exec_of, prog_of};
-ghost use Rattle.rv_exec.specs.Gives.{Gives};
+ghost use Rattle.rv_word.specs.Exec.{exec_of};
+ghost use Rattle.rv_exec.specs.Gives.{Gives, state_from};
 
 use crate::decoded::Decoded;
 use crate::output::Output;
@@ -22,7 +22,7 @@ pub fn exec(
     out: &mut Output,
 ) -> Next
     requires { hart < length resv.old }
-    ensures { Gives (exec_of word pc hart regs.old (prog_of mem.old resv.old out.old)) regs.old (prog_of mem.old resv.old out.old) result regs.new (prog_of mem.new resv.new out.new) }
+    ensures { Gives (exec_of word pc hart) (state_from regs.old mem.old resv.old out.old) result (state_from regs.new mem.new resv.new out.new) }
 {
     let mut next = pc;
     let mut stop = None;

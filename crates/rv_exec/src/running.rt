@@ -2,10 +2,10 @@
 //! arm; what the arms do stands beside it.
 
 ghost use Rattle.std.specs.Prelude.{◌≡◌, ◌<◌, length, None, is_none, IfSome};
-ghost use Rattle.rv_word.specs.Exec.{exec_decoded, prog_of};
+ghost use Rattle.rv_word.specs.Exec.{exec_decoded};
 ghost use Rattle.rv_word.specs.Words.{HasWord};
 ghost use Rattle.rv_exec.specs.Flat.{instr_of};
-ghost use Rattle.rv_exec.specs.Gives.{Gives, next_after};
+ghost use Rattle.rv_exec.specs.Gives.{Gives, state_from, next_after};
 
 use crate::atomics::access;
 use crate::calling::call;
@@ -46,7 +46,7 @@ impl Flat {
         requires hart { hart < length resv.old }
         requires stop { stop.old ≡ None }
         ensures goes { result ≡ is_none stop.new }
-        ensures state { Gives (exec_decoded (instr_of self.now) pc.old hart regs.old (prog_of mem.old resv.old out.old)) regs.old (prog_of mem.old resv.old out.old) (next_after stop.new pc.new) regs.new (prog_of mem.new resv.new out.new) }
+        ensures state { Gives (exec_decoded (instr_of self.now) pc.old hart) (state_from regs.old mem.old resv.old out.old) (next_after stop.new pc.new) (state_from regs.new mem.new resv.new out.new) }
     {
         match *self {
             Flat::Illegal => {

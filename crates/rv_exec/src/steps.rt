@@ -2,11 +2,11 @@
 //! the hart goes on, and else notes the cause of the stop.
 
 ghost use Rattle.std.specs.Prelude.{true, ◌≡◌, ◌<◌, ◌≤◌, length, List, ℕ, Option, None, is_none};
-ghost use Rattle.rv_word.specs.Exec.{Prog, perform, prog_of, next};
+ghost use Rattle.rv_word.specs.Exec.{Prog, perform, next};
 ghost use Rattle.rv_word.specs.Registers.{reg, with_reg};
 ghost use Rattle.rv_word.specs.Values.{imm_value, shift_value, shift_word_value, reg_value, reg_32_value, store_len};
 ghost use Rattle.rv_word.specs.declared.action.Action.TheVariants.{Jump, BranchTo, ReadMemory, WriteMemory};
-ghost use Rattle.rv_exec.specs.Gives.{Gives, next_after};
+ghost use Rattle.rv_exec.specs.Gives.{Gives, state_from, state_of, next_after};
 
 use crate::outcomes::{cause_of, next_pc};
 use crate::regs::Regs;
@@ -99,7 +99,7 @@ pub fn jump(rd: u32, target: u64, pc: &mut u64, stop: &mut Option<Cause>, regs: 
     requires rd { rd < 32 }
     requires stop { stop.old ≡ None }
     ensures goes { result ≡ is_none stop.new }
-    ensures state { (p : Prog) → Gives (perform 0 (Jump rd target) pc.old regs.old p) regs.old p (next_after stop.new pc.new) regs.new p }
+    ensures state { (p : Prog) → Gives (perform 0 (Jump rd target) pc.old) (state_of regs.old p) (next_after stop.new pc.new) (state_of regs.new p) }
 {
     if target % 4 != 0 {
         *stop = Some(Cause::Misaligned);
@@ -116,7 +116,7 @@ pub fn jump(rd: u32, target: u64, pc: &mut u64, stop: &mut Option<Cause>, regs: 
 pub fn branch(taken: bool, target: u64, pc: &mut u64, stop: &mut Option<Cause>) -> bool
     requires { stop.old ≡ None }
     ensures goes { result ≡ is_none stop.new }
-    ensures state { (p : Prog) (regs : List ℕ) → Gives (perform 0 (BranchTo taken target) pc.old regs p) regs p (next_after stop.new pc.new) regs p }
+    ensures state { (p : Prog) (regs : List ℕ) → Gives (perform 0 (BranchTo taken target) pc.old) (state_of regs p) (next_after stop.new pc.new) (state_of regs p) }
 {
     if !taken {
         *pc = next_pc(*pc);
@@ -144,7 +144,7 @@ fn read_anywhere(
     requires rd { rd < 32 }
     requires stop { stop.old ≡ None }
     ensures goes { result ≡ is_none stop.new }
-    ensures state { (pc : ℕ) (resv : List (Option ℕ)) (out : List ℕ) → Gives (perform 0 (ReadMemory op rd at) pc regs.old (prog_of mem.now resv out)) regs.old (prog_of mem.now resv out) (next_after stop.new (next pc)) regs.new (prog_of mem.now resv out) }
+    ensures state { (pc : ℕ) (resv : List (Option ℕ)) (out : List ℕ) → Gives (perform 0 (ReadMemory op rd at) pc) (state_from regs.old mem.now resv out) (next_after stop.new (next pc)) (state_from regs.new mem.now resv out) }
 {
     match mem.load(at, load_width(op)) {
         Ok(n) => {
@@ -173,7 +173,7 @@ pub fn read(
     requires rd { rd < 32 }
     requires stop { stop.old ≡ None }
     ensures goes { result ≡ is_none stop.new }
-    ensures state { (resv : List (Option ℕ)) (out : List ℕ) → Gives (perform 0 (ReadMemory op rd at) pc.old regs.old (prog_of mem.now resv out)) regs.old (prog_of mem.now resv out) (next_after stop.new pc.new) regs.new (prog_of mem.now resv out) }
+    ensures state { (resv : List (Option ℕ)) (out : List ℕ) → Gives (perform 0 (ReadMemory op rd at) pc.old) (state_from regs.old mem.now resv out) (next_after stop.new pc.new) (state_from regs.new mem.now resv out) }
 {
     if let Some(n) = mem.quick_load(at, load_width(op)) {
         regs.set(rd, load_result(op, n));
@@ -204,7 +204,7 @@ fn write_anywhere(
     requires stop { stop.old ≡ None }
     ensures harts { length resv.new ≡ length resv.old }
     ensures goes { result ≡ is_none stop.new }
-    ensures state { (pc : ℕ) (regs out : List ℕ) → Gives (perform hart (WriteMemory len at value) pc regs (prog_of mem.old resv.old out)) regs (prog_of mem.old resv.old out) (next_after stop.new (next pc)) regs (prog_of mem.new resv.new out) }
+    ensures state { (pc : ℕ) (regs out : List ℕ) → Gives (perform hart (WriteMemory len at value) pc) (state_from regs mem.old resv.old out) (next_after stop.new (next pc)) (state_from regs mem.new resv.new out) }
 {
     match mem.store(at, len, value) {
         Ok(()) => {
@@ -235,7 +235,7 @@ pub fn write(
     requires stop { stop.old ≡ None }
     ensures harts { length resv.new ≡ length resv.old }
     ensures goes { result ≡ is_none stop.new }
-    ensures state { (regs out : List ℕ) → Gives (perform hart (WriteMemory (store_len op) at value) pc.old regs (prog_of mem.old resv.old out)) regs (prog_of mem.old resv.old out) (next_after stop.new pc.new) regs (prog_of mem.new resv.new out) }
+    ensures state { (regs out : List ℕ) → Gives (perform hart (WriteMemory (store_len op) at value) pc.old) (state_from regs mem.old resv.old out) (next_after stop.new pc.new) (state_from regs mem.new resv.new out) }
 {
     let len = store_width(op);
     if mem.quick_store(at, len, value) {

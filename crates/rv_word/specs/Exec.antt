@@ -1,6 +1,7 @@
 -- The meaning of one word: what its instruction asks, and what the machine does then.
 use Rattle.std.specs.Prelude.{ℕ, ◌+◌, ◌-◌, ◌*◌, ◌/◌, ◌%◌, ◌^◌, ◌==◌, ◌||◌, nat_lt, if◌then◌else◌, Option, Some, None, Result, Ok, Err, List, [], ◌∷◌, ◌++◌, Bool, true, false, length, min, slice_set, slice_get}
 use Rattle.rv_word.specs.Table.{decode_of}
+use Rattle.rv_word.specs.InstrRegisters.{registers_of}
 use Rattle.rv_word.specs.Memory.{Memory, load, store, bytes_at}
 use Rattle.rv_word.specs.Registers.{reg, with_reg}
 use Rattle.rv_word.specs.Values.{wrap, imm_value, shift_value, shift_word_value, reg_value, reg_32_value, low_word, taken, load_len, loaded, store_len, atomic_len, answered, left_by}
@@ -30,49 +31,10 @@ pub data Outcome : Type 0 where
 
 -- ---- what an instruction asks
 
--- the register of the first operand, and x0 where there is none
-abbrev pub first_operand : Instr → ℕ
-first_operand (Lui rd imm) = 0
-first_operand (Auipc rd imm) = 0
-first_operand (Jal rd offset) = 0
-first_operand (Jalr rd rs1 offset) = rs1
-first_operand (Branch op rs1 rs2 offset) = rs1
-first_operand (Load op rd rs1 offset) = rs1
-first_operand (Store op rs1 rs2 offset) = rs1
-first_operand (OpImm op rd rs1 imm) = rs1
-first_operand (ShiftImm op rd rs1 by) = rs1
-first_operand (Addiw rd rs1 imm) = rs1
-first_operand (ShiftImm32 op rd rs1 by) = rs1
-first_operand (Op op rd rs1 rs2) = rs1
-first_operand (Op32 op rd rs1 rs2) = rs1
-first_operand (Fence rd rs1 high) = 0
-first_operand Ecall = 0
-first_operand Ebreak = 0
-first_operand (Lr width rd rs1 order) = rs1
-first_operand (Sc width rd rs1 rs2 order) = rs1
-first_operand (Amo op width rd rs1 rs2 order) = rs1
-
--- the register of the second operand, and x0 where there is none
-abbrev pub second_operand : Instr → ℕ
-second_operand (Branch op rs1 rs2 offset) = rs2
-second_operand (Store op rs1 rs2 offset) = rs2
-second_operand (Op op rd rs1 rs2) = rs2
-second_operand (Op32 op rd rs1 rs2) = rs2
-second_operand (Sc width rd rs1 rs2 order) = rs2
-second_operand (Amo op width rd rs1 rs2 order) = rs2
-second_operand (Lui rd imm) = 0
-second_operand (Auipc rd imm) = 0
-second_operand (Jal rd offset) = 0
-second_operand (Jalr rd rs1 offset) = 0
-second_operand (Load op rd rs1 offset) = 0
-second_operand (OpImm op rd rs1 imm) = 0
-second_operand (ShiftImm op rd rs1 by) = 0
-second_operand (Addiw rd rs1 imm) = 0
-second_operand (ShiftImm32 op rd rs1 by) = 0
-second_operand (Fence rd rs1 high) = 0
-second_operand Ecall = 0
-second_operand Ebreak = 0
-second_operand (Lr width rd rs1 order) = 0
+-- an operand's value, and 0 where the instruction has no such register
+abbrev pub operand : List ℕ → Option ℕ → ℕ
+operand regs None = 0
+operand regs (Some r) = reg regs r
 
 -- what the instruction at pc asks, a and b being its operands' values
 unfoldable pub action : Instr → ℕ → ℕ → ℕ → Action
@@ -98,7 +60,7 @@ action (Amo op width rd rs1 rs2 order) pc a b = AtomicAccess op width rd a b
 
 -- what the instruction at pc asks with these registers
 abbrev pub asked : Instr → ℕ → List ℕ → Action
-asked i pc regs = action i pc (reg regs (first_operand i)) (reg regs (second_operand i))
+asked i pc regs = action i pc (operand regs (registers_of i).rs1) (operand regs (registers_of i).rs2)
 
 -- ---- stops, and the next word
 

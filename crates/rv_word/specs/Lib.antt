@@ -1,5 +1,7 @@
 pub mod Fields
+pub mod Codes
 pub mod Table
+pub mod InstrRegisters
 pub mod Words
 pub mod Forms
 pub mod Names

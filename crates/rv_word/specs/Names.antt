@@ -2,32 +2,19 @@
 use Rattle.std.specs.Prelude.{ℕ, zero, suc, ◌+◌, ◌%◌, ◌^◌, ◌==◌, ◌&&◌, ◌||◌, not, Bool, false, if◌then◌else◌, Option, Some, None, List, [], ◌∷◌, length, drop, take, ◌/◌}
 use Rattle.std.specs.Int.{w32, from_le_bytes}
 use Rattle.std.specs.Option.{option_map_or}
+use Rattle.rv_word.specs.InstrRegisters.{registers_of}
 use Rattle.rv_word.specs.Table.{decode_of}
 use Rattle.rv_word.specs.Memory.{in_range}
 use Rattle.rv_word.specs.declared.instr.Instr.{Instr}
-use Rattle.rv_word.specs.declared.instr.Instr.TheVariants.{Lui, Auipc, Jal, Jalr, Branch, Load, Store, OpImm, ShiftImm, Addiw, ShiftImm32, Op, Op32, Fence, Ecall, Ebreak, Lr, Sc, Amo}
+use Rattle.rv_word.specs.declared.instr.Instr.TheVariants.{Jal, Jalr, Branch}
 
--- one of the registers of the instruction is r; a fence's are free bits
+abbrev pub is_register : Option ℕ → ℕ → Bool
+is_register None r = false
+is_register (Some n) r = n == r
+
+-- one of the registers of the instruction is r
 abbrev pub names : ℕ → Instr → Bool
-names r (Lui rd imm) = rd == r
-names r (Auipc rd imm) = rd == r
-names r (Jal rd offset) = rd == r
-names r (Jalr rd rs1 offset) = (rd == r) || (rs1 == r)
-names r (Branch op rs1 rs2 offset) = (rs1 == r) || (rs2 == r)
-names r (Load op rd rs1 offset) = (rd == r) || (rs1 == r)
-names r (Store op rs1 rs2 offset) = (rs1 == r) || (rs2 == r)
-names r (OpImm op rd rs1 imm) = (rd == r) || (rs1 == r)
-names r (ShiftImm op rd rs1 by) = (rd == r) || (rs1 == r)
-names r (Addiw rd rs1 imm) = (rd == r) || (rs1 == r)
-names r (ShiftImm32 op rd rs1 by) = (rd == r) || (rs1 == r)
-names r (Op op rd rs1 rs2) = (rd == r) || (rs1 == r) || (rs2 == r)
-names r (Op32 op rd rs1 rs2) = (rd == r) || (rs1 == r) || (rs2 == r)
-names r (Fence rd rs1 high) = false
-names r Ecall = false
-names r Ebreak = false
-names r (Lr width rd rs1 order) = (rd == r) || (rs1 == r)
-names r (Sc width rd rs1 rs2 order) = (rd == r) || (rs1 == r) || (rs2 == r)
-names r (Amo op width rd rs1 rs2 order) = (rd == r) || (rs1 == r) || (rs2 == r)
+names r i = is_register (registers_of i).rd r || (is_register (registers_of i).rs1 r || is_register (registers_of i).rs2 r)
 
 abbrev pub has_scratch : ℕ → Bool
 has_scratch w = option_map_or (names 31) (decode_of w) false

@@ -1,25 +1,12 @@
 -- The table of instructions: which word is which.
 use Rattle.std.specs.Prelude.{ℕ, ◌/◌, ◌%◌, ◌^◌, ◌==◌, if◌then◌else◌, Option, Some, None, List, [], ◌∷◌}
 use Rattle.std.specs.Option.{option_map}
+use Rattle.rv_word.specs.Codes.{branch_op_of, load_op_of, store_op_of, imm_op_of, reg_op_of, reg_op_32_of, width_of, amo_op_of}
 use Rattle.rv_word.specs.Fields.{opcode_of, rd_of, funct3_of, rs1_of, rs2_of, funct7_of, high12_of, i_imm_of, s_imm_of, b_imm_of, u_imm_of, j_imm_of}
-use Rattle.rv_word.specs.declared.instr.BranchOp.{BranchOp}
-use Rattle.rv_word.specs.declared.instr.BranchOp.TheVariants.{Beq, Bne, Blt, Bge, Bltu, Bgeu}
-use Rattle.rv_word.specs.declared.instr.LoadOp.{LoadOp}
-use Rattle.rv_word.specs.declared.instr.LoadOp.TheVariants.{Lb, Lh, Lw, Ld, Lbu, Lhu, Lwu}
-use Rattle.rv_word.specs.declared.instr.StoreOp.{StoreOp}
-use Rattle.rv_word.specs.declared.instr.StoreOp.TheVariants.{Sb, Sh, Sw, Sd}
-use Rattle.rv_word.specs.declared.instr.ImmOp.{ImmOp}
-use Rattle.rv_word.specs.declared.instr.ImmOp.TheVariants.{Addi, Slti, Sltiu, Xori, Ori, Andi}
 use Rattle.rv_word.specs.declared.instr.ShiftOp.{ShiftOp}
 use Rattle.rv_word.specs.declared.instr.ShiftOp.TheVariants as shift
-use Rattle.rv_word.specs.declared.instr.RegOp.{RegOp}
-use Rattle.rv_word.specs.declared.instr.RegOp.TheVariants as reg
-use Rattle.rv_word.specs.declared.instr.RegOp32.{RegOp32}
-use Rattle.rv_word.specs.declared.instr.RegOp32.TheVariants as reg32
 use Rattle.rv_word.specs.declared.instr.AmoOp.{AmoOp}
-use Rattle.rv_word.specs.declared.instr.AmoOp.TheVariants as amo
 use Rattle.rv_word.specs.declared.instr.AtomicWidth.{AtomicWidth}
-use Rattle.rv_word.specs.declared.instr.AtomicWidth.TheVariants.{Word, Doubleword}
 use Rattle.rv_word.specs.declared.instr.Instr.{Instr}
 use Rattle.rv_word.specs.declared.instr.Instr.TheVariants.{Lui, Auipc, Jal, Jalr, Branch, Load, Store, OpImm, ShiftImm, Addiw, ShiftImm32, Op, Op32, Fence, Ecall, Ebreak, Lr, Sc, Amo}
 
@@ -27,54 +14,6 @@ use Rattle.rv_word.specs.declared.instr.Instr.TheVariants.{Lui, Auipc, Jal, Jalr
 abbrev pub row : {A : Type 0} → ℕ → List (ℕ × A) → Option A
 row code [] = None
 row code (r ∷ rs) = if code == r.0 then Some r.1 else row code rs
-
-abbrev pub branch_ops : List (ℕ × BranchOp)
-branch_ops = (0, Beq) ∷ (1, Bne) ∷ (4, Blt) ∷ (5, Bge) ∷ (6, Bltu) ∷ (7, Bgeu) ∷ []
-
-abbrev pub load_ops : List (ℕ × LoadOp)
-load_ops = (0, Lb) ∷ (1, Lh) ∷ (2, Lw) ∷ (3, Ld) ∷ (4, Lbu) ∷ (5, Lhu) ∷ (6, Lwu) ∷ []
-
-abbrev pub store_ops : List (ℕ × StoreOp)
-store_ops = (0, Sb) ∷ (1, Sh) ∷ (2, Sw) ∷ (3, Sd) ∷ []
-
-abbrev pub imm_ops : List (ℕ × ImmOp)
-imm_ops = (0, Addi) ∷ (2, Slti) ∷ (3, Sltiu) ∷ (4, Xori) ∷ (6, Ori) ∷ (7, Andi) ∷ []
-
-abbrev pub base_ops : List (ℕ × RegOp)
-base_ops = (0, reg.Add) ∷ (1, reg.Sll) ∷ (2, reg.Slt) ∷ (3, reg.Sltu) ∷ (4, reg.Xor) ∷ (5, reg.Srl) ∷ (6, reg.Or) ∷ (7, reg.And) ∷ []
-
-abbrev pub other_ops : List (ℕ × RegOp)
-other_ops = (0, reg.Sub) ∷ (5, reg.Sra) ∷ []
-
-abbrev pub mul_ops : List (ℕ × RegOp)
-mul_ops = (0, reg.Mul) ∷ (1, reg.Mulh) ∷ (2, reg.Mulhsu) ∷ (3, reg.Mulhu) ∷ (4, reg.Div) ∷ (5, reg.Divu) ∷ (6, reg.Rem) ∷ (7, reg.Remu) ∷ []
-
--- by funct7 and funct3
-abbrev pub reg_op_of : ℕ → ℕ → Option RegOp
-reg_op_of funct7 code =
-    if funct7 == 0 then row code base_ops
-    else if funct7 == 0x20 then row code other_ops
-    else if funct7 == 1 then row code mul_ops
-    else None
-
-abbrev pub base_ops_32 : List (ℕ × RegOp32)
-base_ops_32 = (0, reg32.Addw) ∷ (1, reg32.Sllw) ∷ (5, reg32.Srlw) ∷ []
-
-abbrev pub other_ops_32 : List (ℕ × RegOp32)
-other_ops_32 = (0, reg32.Subw) ∷ (5, reg32.Sraw) ∷ []
-
-abbrev pub mul_ops_32 : List (ℕ × RegOp32)
-mul_ops_32 = (0, reg32.Mulw) ∷ (4, reg32.Divw) ∷ (5, reg32.Divuw) ∷ (6, reg32.Remw) ∷ (7, reg32.Remuw) ∷ []
-
-abbrev pub reg_op_32_of : ℕ → ℕ → Option RegOp32
-reg_op_32_of funct7 code =
-    if funct7 == 0 then row code base_ops_32
-    else if funct7 == 0x20 then row code other_ops_32
-    else if funct7 == 1 then row code mul_ops_32
-    else None
-
-abbrev pub atomic_widths : List (ℕ × AtomicWidth)
-atomic_widths = (2, Word) ∷ (3, Doubleword) ∷ []
 
 abbrev pub lui_of : ℕ → Option Instr
 lui_of w = Some (Lui (rd_of w) (u_imm_of w))
@@ -89,13 +28,13 @@ abbrev pub jalr_of : ℕ → Option Instr
 jalr_of w = if funct3_of w == 0 then Some (Jalr (rd_of w) (rs1_of w) (i_imm_of w)) else None
 
 abbrev pub branch_of : ℕ → Option Instr
-branch_of w = option_map (λ op. Branch op (rs1_of w) (rs2_of w) (b_imm_of w)) (row (funct3_of w) branch_ops)
+branch_of w = option_map (λ op. Branch op (rs1_of w) (rs2_of w) (b_imm_of w)) (branch_op_of (funct3_of w))
 
 abbrev pub load_of : ℕ → Option Instr
-load_of w = option_map (λ op. Load op (rd_of w) (rs1_of w) (i_imm_of w)) (row (funct3_of w) load_ops)
+load_of w = option_map (λ op. Load op (rd_of w) (rs1_of w) (i_imm_of w)) (load_op_of (funct3_of w))
 
 abbrev pub store_of : ℕ → Option Instr
-store_of w = option_map (λ op. Store op (rs1_of w) (rs2_of w) (s_imm_of w)) (row (funct3_of w) store_ops)
+store_of w = option_map (λ op. Store op (rs1_of w) (rs2_of w) (s_imm_of w)) (store_op_of (funct3_of w))
 
 abbrev pub right_shifts : ℕ → List (ℕ × ShiftOp)
 right_shifts arithmetic = (0, shift.Srl) ∷ (arithmetic, shift.Sra) ∷ []
@@ -117,7 +56,7 @@ abbrev pub op_imm_of : ℕ → Option Instr
 op_imm_of w =
     if funct3_of w == 1 then shift_of w (row (w / 2 ^ 26) left_shifts)
     else if funct3_of w == 5 then shift_of w (right_shift_of 16 (w / 2 ^ 26))
-    else option_map (λ op. OpImm op (rd_of w) (rs1_of w) (i_imm_of w)) (row (funct3_of w) imm_ops)
+    else option_map (λ op. OpImm op (rd_of w) (rs1_of w) (i_imm_of w)) (imm_op_of (funct3_of w))
 
 abbrev pub op_imm_32_of : ℕ → Option Instr
 op_imm_32_of w =
@@ -152,21 +91,16 @@ lr_of width w = if rs2_of w == 0 then Some (Lr width (rd_of w) (rs1_of w) (order
 abbrev pub sc_of : AtomicWidth → ℕ → Option Instr
 sc_of width w = Some (Sc width (rd_of w) (rs1_of w) (rs2_of w) (order_of w))
 
-abbrev pub amo_of : AmoOp → AtomicWidth → ℕ → Option Instr
-amo_of op width w = Some (Amo op width (rd_of w) (rs1_of w) (rs2_of w) (order_of w))
+abbrev pub amo_of : AtomicWidth → Option AmoOp → ℕ → Option Instr
+amo_of width op w = option_map (λ o. Amo o width (rd_of w) (rs1_of w) (rs2_of w) (order_of w)) op
 
-abbrev pub atomic_ops : List (ℕ × (AtomicWidth → ℕ → Option Instr))
-atomic_ops =
-    (0, amo_of amo.Add) ∷ (1, amo_of amo.Swap) ∷ (2, lr_of) ∷ (3, sc_of) ∷ (4, amo_of amo.Xor) ∷ (8, amo_of amo.Or) ∷ (12, amo_of amo.And)
-    ∷ (16, amo_of amo.Min) ∷ (20, amo_of amo.Max) ∷ (24, amo_of amo.Minu) ∷ (28, amo_of amo.Maxu) ∷ []
-
-abbrev pub atomic_by : Option AtomicWidth → Option (AtomicWidth → ℕ → Option Instr) → ℕ → Option Instr
-atomic_by (Some width) (Some f) w = f width w
-atomic_by (Some width) None w = None
-atomic_by None f w = None
+-- LR and SC have the codes 2 and 3
+abbrev pub atomic_by : Option AtomicWidth → ℕ → ℕ → Option Instr
+atomic_by None code w = None
+atomic_by (Some width) code w = if code == 2 then lr_of width w else if code == 3 then sc_of width w else amo_of width (amo_op_of code) w
 
 abbrev pub atomic_of : ℕ → Option Instr
-atomic_of w = atomic_by (row (funct3_of w) atomic_widths) (row (w / 2 ^ 27) atomic_ops) w
+atomic_of w = atomic_by (width_of (funct3_of w)) (w / 2 ^ 27) w
 
 -- what stands under each opcode
 abbrev pub opcodes : List (ℕ × (ℕ → Option Instr))

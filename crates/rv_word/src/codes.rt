@@ -1,7 +1,8 @@
 //! The codes of the operations in a word's fields.
 
 ghost use Rattle.std.specs.Prelude.{◌≡◌};
-ghost use Rattle.rv_word.specs.Words.{branch_code, load_code, store_code, imm_code, shift_code, shift_top, reg_code, reg_top, reg_32_code, reg_32_top, amo_code, width_code};
+ghost use Rattle.rv_word.specs.Codes.{branch_code, load_code, store_code, imm_code, reg_codes, reg_32_codes, amo_code, width_code};
+ghost use Rattle.rv_word.specs.Words.{shift_code, shift_top};
 
 use crate::instr::{AmoOp, AtomicWidth, BranchOp, ImmOp, LoadOp, RegOp, RegOp32, ShiftOp, StoreOp};
 
@@ -77,7 +78,7 @@ pub fn shift_high(op: ShiftOp) -> u32
 }
 
 pub fn reg_bits(op: RegOp) -> u32
-    ensures { result ≡ reg_code op }
+    ensures { result ≡ (reg_codes op).1 }
 {
     match op {
         RegOp::Add => 0,
@@ -102,7 +103,7 @@ pub fn reg_bits(op: RegOp) -> u32
 }
 
 pub fn reg_high(op: RegOp) -> u32
-    ensures { result ≡ reg_top op }
+    ensures { result ≡ (reg_codes op).0 }
 {
     match op {
         RegOp::Add => 0,
@@ -127,7 +128,7 @@ pub fn reg_high(op: RegOp) -> u32
 }
 
 pub fn reg_32_bits(op: RegOp32) -> u32
-    ensures { result ≡ reg_32_code op }
+    ensures { result ≡ (reg_32_codes op).1 }
 {
     match op {
         RegOp32::Addw => 0,
@@ -144,7 +145,7 @@ pub fn reg_32_bits(op: RegOp32) -> u32
 }
 
 pub fn reg_32_high(op: RegOp32) -> u32
-    ensures { result ≡ reg_32_top op }
+    ensures { result ≡ (reg_32_codes op).0 }
 {
     match op {
         RegOp32::Addw => 0,

@@ -1,15 +1,16 @@
 //! From a word to its instruction.
 
-ghost use Rattle.std.specs.Prelude.{◌≡◌, IfSome};
+ghost use Rattle.std.specs.Prelude.{◌≡◌, ◌/◌, ◌^◌, IfSome};
 ghost use Rattle.rv_word.specs.Words.{word_of, HasWord};
+ghost use Rattle.rv_word.specs.Codes.{amo_op_of};
 ghost use Rattle.rv_word.specs.Table.{decode_of, branch_of, load_of, store_of, op_imm_of, op_imm_32_of, op_of, op_32_of, fence_of, system_of, lr_of, sc_of, amo_of, atomic_of, jalr_of};
 
 use crate::fields::{
     b_imm, funct3, funct7, high12, i_imm, j_imm, opcode, order, rd, rs1, rs2, s_imm, u_imm,
 };
-use crate::instr::{AmoOp, AtomicWidth, Instr, ShiftOp};
+use crate::instr::{AtomicWidth, Instr, ShiftOp};
 use crate::operations::{
-    atomic_width, branch_op, imm_op, load_op, reg_op, reg_op_32, right_shift, store_op,
+    amo_op, atomic_width, branch_op, imm_op, load_op, reg_op, reg_op_32, right_shift, store_op,
 };
 
 fn branch(word: u32) -> Option<Instr>
@@ -194,11 +195,11 @@ fn store_conditional(width: AtomicWidth, word: u32) -> Option<Instr>
     })
 }
 
-fn amo(op: AmoOp, width: AtomicWidth, word: u32) -> Option<Instr>
-    ensures { result ≡ amo_of op width word }
+fn amo(width: AtomicWidth, word: u32) -> Option<Instr>
+    ensures { result ≡ amo_of width (amo_op_of (word / 2 ^ 27)) word }
 {
     Some(Instr::Amo {
-        op,
+        op: amo_op(word >> 27)?,
         width,
         rd: rd(word),
         rs1: rs1(word),
@@ -212,18 +213,9 @@ fn atomic(word: u32) -> Option<Instr>
 {
     let width = atomic_width(funct3(word))?;
     match word >> 27 {
-        0 => amo(AmoOp::Add, width, word),
-        1 => amo(AmoOp::Swap, width, word),
         2 => load_reserved(width, word),
         3 => store_conditional(width, word),
-        4 => amo(AmoOp::Xor, width, word),
-        8 => amo(AmoOp::Or, width, word),
-        12 => amo(AmoOp::And, width, word),
-        16 => amo(AmoOp::Min, width, word),
-        20 => amo(AmoOp::Max, width, word),
-        24 => amo(AmoOp::Minu, width, word),
-        28 => amo(AmoOp::Maxu, width, word),
-        _ => None,
+        _ => amo(width, word),
     }
 }
 

@@ -1,12 +1,13 @@
 //! The operations by the codes of a word's fields.
 
 ghost use Rattle.std.specs.Prelude.{◌≡◌};
-ghost use Rattle.rv_word.specs.Table.{branch_ops, load_ops, store_ops, reg_op_of, reg_op_32_of, atomic_widths, imm_ops, row, right_shift_of};
+ghost use Rattle.rv_word.specs.Codes.{branch_op_of, load_op_of, store_op_of, imm_op_of, reg_op_of, reg_op_32_of, width_of, amo_op_of};
+ghost use Rattle.rv_word.specs.Table.{right_shift_of};
 
-use crate::instr::{AtomicWidth, BranchOp, ImmOp, LoadOp, RegOp, RegOp32, ShiftOp, StoreOp};
+use crate::instr::{AmoOp, AtomicWidth, BranchOp, ImmOp, LoadOp, RegOp, RegOp32, ShiftOp, StoreOp};
 
 pub fn branch_op(code: u32) -> Option<BranchOp>
-    ensures { result ≡ row code branch_ops }
+    ensures { result ≡ branch_op_of code }
 {
     match code {
         0 => Some(BranchOp::Beq),
@@ -20,7 +21,7 @@ pub fn branch_op(code: u32) -> Option<BranchOp>
 }
 
 pub fn load_op(code: u32) -> Option<LoadOp>
-    ensures { result ≡ row code load_ops }
+    ensures { result ≡ load_op_of code }
 {
     match code {
         0 => Some(LoadOp::Lb),
@@ -35,7 +36,7 @@ pub fn load_op(code: u32) -> Option<LoadOp>
 }
 
 pub fn store_op(code: u32) -> Option<StoreOp>
-    ensures { result ≡ row code store_ops }
+    ensures { result ≡ store_op_of code }
 {
     match code {
         0 => Some(StoreOp::Sb),
@@ -47,7 +48,7 @@ pub fn store_op(code: u32) -> Option<StoreOp>
 }
 
 pub fn imm_op(code: u32) -> Option<ImmOp>
-    ensures { result ≡ row code imm_ops }
+    ensures { result ≡ imm_op_of code }
 {
     match code {
         0 => Some(ImmOp::Addi),
@@ -105,11 +106,28 @@ pub fn reg_op_32(funct7: u32, code: u32) -> Option<RegOp32>
 }
 
 pub fn atomic_width(code: u32) -> Option<AtomicWidth>
-    ensures { result ≡ row code atomic_widths }
+    ensures { result ≡ width_of code }
 {
     match code {
         2 => Some(AtomicWidth::Word),
         3 => Some(AtomicWidth::Doubleword),
+        _ => None,
+    }
+}
+
+pub fn amo_op(code: u32) -> Option<AmoOp>
+    ensures { result ≡ amo_op_of code }
+{
+    match code {
+        0 => Some(AmoOp::Add),
+        1 => Some(AmoOp::Swap),
+        4 => Some(AmoOp::Xor),
+        8 => Some(AmoOp::Or),
+        12 => Some(AmoOp::And),
+        16 => Some(AmoOp::Min),
+        20 => Some(AmoOp::Max),
+        24 => Some(AmoOp::Minu),
+        28 => Some(AmoOp::Maxu),
         _ => None,
     }
 }

@@ -2,13 +2,14 @@
 use Rattle.std.proofs.Common.{◌≡◌, ◌≢◌, ℕ, ◌%◌, List, Option, Some, None, Result, Ok, Err, refl, ap, sym, ◌∙◌, subst, arith, Bool, true, false, cond}
 use Rattle.std.specs.Prelude.{◌==◌, ◌||◌, min}
 use Rattle.std.specs.Option.{option_map_or}
-use Rattle.std.proofs.lemmas.Grind.{common_steps}
+use Rattle.std.proofs.lemmas.Bool.{eqb-false}
 use Rattle.rv_word.specs.Memory.{load, store, bytes_at}
 use Rattle.rv_word.specs.Registers.{reg, with_reg}
-use Rattle.rv_word.specs.Names.{names, has_scratch}
+use Rattle.rv_word.specs.InstrRegisters.{registers_of}
+use Rattle.rv_word.specs.Names.{is_register, names, has_scratch}
 use Rattle.rv_word.specs.Table.{decode_of}
 use Rattle.rv_word.specs.Values.{load_len, loaded, atomic_len, left_by, answered}
-use Rattle.rv_word.specs.Exec.{Prog, Outcome, Stops, Goes, first_operand, second_operand, action, asked, or_stop, next, jump_to, without_reservation, conditional, atomic, perform, written, written_is, system_call, exec_instr, exec_decoded, exec_of, answers, minus}
+use Rattle.rv_word.specs.Exec.{Prog, Outcome, Stops, Goes, operand, action, asked, or_stop, next, jump_to, without_reservation, conditional, atomic, perform, written, written_is, system_call, exec_instr, exec_decoded, exec_of, answers, minus}
 use Rattle.rv_word.specs.declared.outcome.MemStop.{MemStop}
 use Rattle.rv_word.specs.declared.outcome.Cause.TheVariants.{Exit, Misaligned}
 use Rattle.rv_word.specs.declared.instr.AtomicWidth.{AtomicWidth}
@@ -135,16 +136,18 @@ performs h x pc a b p s = by (is_straight x) refl
     by false e = turned x e
 
 -- operands that aren't x31
-first_other : (i : Instr) → names 31 i ≡ false → first_operand i ≢ 31
-first_other i n = grind (arith, common_steps)
+same_operand : (o : Option ℕ) (a b : List ℕ) → is_register o 31 ≡ false → Alike a b → operand a o ≡ operand b o
+same_operand None a b n s = refl
+same_operand (Some r) a b n s = agree_but a b r s.first s.second s.agree (eqb-false r 31 n)
 
-second_other : (i : Instr) → names 31 i ≡ false → second_operand i ≢ 31
-second_other i n = grind (arith, common_steps)
+neither : (x y z : Bool) → (x || (y || z)) ≡ false → (y ≡ false) × (z ≡ false)
+neither x y z e = (grind arith, grind arith)
 
 pub asks_same : (i : Instr) (pc : ℕ) (a b : List ℕ) → names 31 i ≡ false → Alike a b → asked i pc a ≡ asked i pc b
 asks_same i pc a b n s =
-    ap (λ x. action i pc x (reg a (second_operand i))) (agree_but a b (first_operand i) s.first s.second s.agree (first_other i n))
-    ∙ ap (λ y. action i pc (reg b (first_operand i)) y) (agree_but a b (second_operand i) s.first s.second s.agree (second_other i n))
+    let r = registers_of i in
+    let others = neither (is_register r.rd 31) (is_register r.rs1 31) (is_register r.rs2 31) n in
+    ap (λ x. action i pc x (operand a r.rs2)) (same_operand r.rs1 a b others.0 s) ∙ ap (λ y. action i pc (operand b r.rs1) y) (same_operand r.rs2 a b others.1 s)
 
 pub execs_instr : (i : Instr) (pc h : ℕ) (a b : List ℕ) (p : Prog) → names 31 i ≡ false → Alike a b → Same (exec_instr i pc h a p) (exec_instr i pc h b p)
 execs_instr i pc h a b p n s =
