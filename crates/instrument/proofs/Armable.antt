@@ -1,5 +1,5 @@
 -- Instruments that can be armed: what keeps this of the listed ones, and which plans make such.
-use Rattle.std.proofs.Common.{◌≡◌, ◌≤◌, List, [], ◌∷◌, ◌++◌, Option, Some, None, length, sym, subst, ⊎_elim, map}
+use Rattle.std.proofs.Common.{◌≡◌, List, [], ◌∷◌, ◌++◌, Option, Some, None, sym, subst, ⊎_elim, map}
 use Rattle.std.specs.Prelude.{Bool, IfSome, filter, find}
 use Rattle.pn_types.specs.declared.placed.Placed.{Placed}
 use Rattle.pn_types.specs.declared.plan.Plan.{Plan}
