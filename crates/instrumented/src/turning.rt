@@ -26,7 +26,7 @@ impl InstrumentedMachine {
 
     /// Each hart that is inside a trampoline, by number, takes turns until it is outside or stopped. It answers how many turns
     /// these were, and takes no memory. Then no hart is inside.
-    pub fn settle(&mut self) -> Taken
+    pub fn take_settling(&mut self) -> Taken
         ensures settled { self.new ≡ record self.old { state = taken (settling self.old.state.core) self.old.state } }
         ensures turns { result.turns ≡ length (settling self.old.state.core) }
         ensures ticks { result.ticks ≡ length (owns (settling self.old.state.core) self.old.state.core) }

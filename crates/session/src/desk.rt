@@ -152,7 +152,7 @@ impl Desk {
         ensures idle { self.new.idle < self.old.idle + 2 ^ 32 }
         ensures no_less { self.old.time ≤ self.new.time }
     {
-        let taken = self.machine.settle();
+        let taken = self.machine.take_settling();
         self.time += u64::from(taken.ticks);
         self.idle += u64::from(taken.turns.saturating_sub(taken.ticks));
     }
