@@ -1,5 +1,5 @@
 -- What the statements of a checked configuration are within.
-use Rattle.std.specs.Prelude.{◌≡◌, ℕ, ◌<◌, ◌≤◌, Bool, true, false, Some, List, length}
+use Rattle.std.specs.Prelude.{◌≡◌, ◌<◌, ◌≤◌, Bool, true, false, Some, List, length}
 use Rattle.std.specs.List.{AllByRecursion}
 use Rattle.mdl_ast.specs.Small.{IsSmallRight, greatest_number}
 use Rattle.mdl_ast.specs.declared.action.Action.{Action}
