@@ -1,11 +1,7 @@
 -- One address or one procedure further.
-use Rattle.std.proofs.Common.{◌≡◌, ℕ, suc, ◌+◌, ◌<◌, List, [], ◌∷◌, ◌++◌, length, drop, get_or, map, Bool, true, false, cond, ap, sym, ◌∙◌, append_assoc}
+use Rattle.std.proofs.Common.{◌≡◌, ℕ, suc, ◌+◌, List, [], ◌∷◌, ◌++◌, map, Bool, true, false, cond, ap, sym, ◌∙◌, append_assoc}
 use Rattle.std.specs.List.{filter, range_with_len}
-use Rattle.std.proofs.lemmas.List.{at_drop_more}
 use Rattle.pn_types.specs.declared.code.Point.{Point}
-use Rattle.pn_types.specs.declared.code.Proc.{Proc}
-use Rattle.rv_word.specs.Plain.{Words}
-use Rattle.code_points.specs.Points.{points_in, points_from}
 
 -- what passes is added, before what is to come
 taken : (test : Point → Bool) (q : Point) (done new rest : List Point) → test q ≡ true → new ≡ done ++ q ∷ [] → new ++ rest ≡ done ++ cond (test q) (q ∷ rest) rest

@@ -1,5 +1,6 @@
 -- Items without a fault, one after another.
 use Rattle.std.proofs.Common.{◌≡◌, ℕ, zero, suc, ◌+◌, ◌||◌, ◌&&◌, not, cond, Bool, true, false, Option, Some, None, List, [], ◌∷◌, ◌++◌, length, fold, bytes_eq, is_some, slice_get, nat_lt, nat_le, ◌==◌, codes, refl, sym, ap, ◌∙◌, subst}
+use Rattle.std.specs.Prelude.{option_to_list}
 use Rattle.std.specs.List.{list_any, filter, count_by}
 use Rattle.std.specs.Option.{option_and_then, option_map}
 use Rattle.std.proofs.lemmas.List.{append_assoc, append-nil}
@@ -12,7 +13,7 @@ use Rattle.mdl_ast.specs.declared.metric.Constraint.{Constraint as TheConstraint
 use Rattle.mdl_ast.specs.declared.items.Include.{Include as TheInclude}
 use Rattle.mdl_ast.specs.declared.items.Hypothesis.{Hypothesis as TheHypothesis}
 use Rattle.mdl_check.specs.Placed.{Entry, entry}
-use Rattle.mdl_check.specs.Names.{constraint_in, constraint_named, metric_name, number_from, metric_number}
+use Rattle.mdl_check.specs.Names.{as_constraint, constraints_in, constraint_named, metric_name, number_from, metric_number}
 use Rattle.mdl_check.specs.Rules.{is_on, are_two_on, is_repeated, is_unknown, is_wrong, is_misused, is_astray, tick_behind, parent_place, parents_of, parent_at, leads_to, is_cyclic, fault_of}
 use Rattle.mdl_check.specs.Checking.{fault_from}
 use Rattle.mdl_check.specs.declared.fault.CheckKind.{CheckKind}
@@ -112,15 +113,15 @@ module _ (q : Entry → Bool)
       by true p k = ap (λ (r : Bool). q e || r) k
       by false p k = ap (λ (r : Bool). r || list_any q es) (passes_none e.line e.item e.focus p) ∙ k
 
-no_constraint : (name : List ℕ) (item : Item) → is_other item ≡ false → constraint_in name item ≡ None
-no_constraint name (Include i) e = refl
-no_constraint name (Sync s) e = refl
-no_constraint name (Metric m) e = refl
-no_constraint name (Constraint c) e = absurd cc
-no_constraint name (Hypothesis h) e = refl
-no_constraint name (Search s) e = refl
-no_constraint name (Phase p) e = refl
-no_constraint name (Wish w) e = refl
+no_constraint : (item : Item) → is_other item ≡ false → as_constraint item ≡ None
+no_constraint (Include i) e = refl
+no_constraint (Sync s) e = refl
+no_constraint (Metric m) e = refl
+no_constraint (Constraint c) e = absurd cc
+no_constraint (Hypothesis h) e = refl
+no_constraint (Search s) e = refl
+no_constraint (Phase p) e = refl
+no_constraint (Wish w) e = refl
 
 no_metric : (item : Item) → is_other item ≡ false → metric_name item ≡ None
 no_metric (Include i) e = refl
@@ -142,17 +143,14 @@ no_tick tick (Search s) e = refl
 no_tick tick (Phase p) e = absurd cc
 no_tick tick (Wish w) e = refl
 
-abbrev or_else : Option TheConstraint → Option TheConstraint → Option TheConstraint
-or_else o p = elim o [ Some c ↦ Some c | None ↦ p ]
-
-constraint_of_others : (es : List Entry) (name : List ℕ) → constraint_named es name ≡ constraint_named (others es) name
-constraint_of_others [] name = refl
-constraint_of_others (e ∷ es) name = by (is_other e.item) refl (constraint_of_others es name)
+constraints_of_others : (es : List Entry) → constraints_in es ≡ constraints_in (others es)
+constraints_of_others [] = refl
+constraints_of_others (e ∷ es) = by (is_other e.item) refl (constraints_of_others es)
   where
-    by : (b : Bool) → is_other e.item ≡ b → constraint_named es name ≡ constraint_named (others es) name →
-        or_else (constraint_in name e.item) (constraint_named es name) ≡ constraint_named (cond b (e ∷ others es) (others es)) name
-    by true p k = ap (or_else (constraint_in name e.item)) k
-    by false p k = ap (λ (o : Option TheConstraint). or_else o (constraint_named es name)) (no_constraint name e.item p) ∙ k
+    by : (b : Bool) → is_other e.item ≡ b → constraints_in es ≡ constraints_in (others es) →
+        option_to_list (as_constraint e.item) ++ constraints_in es ≡ constraints_in (cond b (e ∷ others es) (others es))
+    by true p k = ap (λ (cs : List TheConstraint). option_to_list (as_constraint e.item) ++ cs) k
+    by false p k = ap (λ (o : Option TheConstraint). option_to_list o ++ constraints_in es) (no_constraint e.item p) ∙ k
 
 abbrev counted : List ℕ → ℕ → Option (List ℕ) → Option ℕ → Option ℕ → Option ℕ
 counted name k o here next = elim o [ None ↦ here | Some own ↦ cond (bytes_eq name own) (Some k) next ]
@@ -186,8 +184,8 @@ other_include true n e h = h
 other_include false n e h = absurd cc
 
 module _ (all before : List Entry) where
-  named_alike : constraint_named all ≡ constraint_named (others all)
-  named_alike = λ i name. constraint_of_others all name i
+  named_alike : constraint_named (constraints_in all) ≡ constraint_named (constraints_in (others all))
+  named_alike = ap constraint_named (constraints_of_others all)
 
   two_alike : (path : List ℕ) (names : List (List ℕ)) → are_two_on all path names ≡ are_two_on (others all) path names
   two_alike path names = ap (λ (f : List ℕ → Option TheConstraint). nat_lt 1 (count_by (λ name. is_on path (f name)) names)) named_alike

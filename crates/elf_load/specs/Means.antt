@@ -1,22 +1,9 @@
--- What is answered where a file is checked and read.
-use Rattle.std.specs.Prelude.{◌≡◌, ◌≢◌, Option, Some, None, List, ℕ, Result, Ok, Err, MatchResult}
-use Rattle.elf_form.specs.Meaning.{Tables, meaning_with}
+-- What is answered where a file is read.
+use Rattle.std.specs.Prelude.{◌≡◌, ◌≢◌, Result, Ok, Err, MatchResult}
 use Rattle.elf_form.specs.declared.fault.ElfFault.{ElfFault}
 use Rattle.elf_form.specs.declared.fault.ElfFault.TheVariants.{NoMemory}
 use Rattle.pn_types.specs.declared.image.Image.{Image}
 
--- the answer is a fault exactly where the checks give one, and then that one
-abbrev pub Checks : {A : Type 0} → Result A ElfFault → Option ElfFault → Type 0
-Checks result fault = MatchResult result (λ _. fault ≡ None) (λ e. fault ≡ Some e)
-
--- the same, but want of memory may come before a fault
-abbrev pub ChecksOrWants : {A : Type 0} → Result A ElfFault → Option ElfFault → Type 0
-ChecksOrWants result fault = MatchResult result (λ _. fault ≡ None) (λ e. e ≢ NoMemory → fault ≡ Some e)
-
 -- the answer is what a file means, unless memory is wanting
 abbrev pub Means : Result Image ElfFault → Result Image ElfFault → Type 0
 Means result meaning = MatchResult result (λ image. meaning ≡ Ok image) (λ e. e ≢ NoMemory → meaning ≡ Err e)
-
--- the same of a file with these tables
-abbrev pub MeansWith : List ℕ → Tables → Result Image ElfFault → Type 0
-MeansWith b t result = Means result (meaning_with b t)

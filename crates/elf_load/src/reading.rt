@@ -4,7 +4,8 @@ ghost use Rattle.pn_types.specs.GoodNames.{is_good_name};
 ghost use Rattle.elf_form.specs.Meaning.{meaning_of};
 ghost use Rattle.elf_form.specs.Accepted.{IsAccepted, names_len};
 ghost use Rattle.elf_form.specs.Headers.{header_fault};
-ghost use Rattle.elf_load.specs.Means.{Means, MeansWith};
+ghost use Rattle.elf_load.specs.Checks.{MeansWith};
+ghost use Rattle.elf_load.specs.Means.{Means};
 
 use crate::segments::{check_segments, loads_of, segments_of};
 use crate::symbols::checked_symbols;

@@ -6,7 +6,7 @@ ghost use Rattle.elf_form.specs.Segments.{loads_from, load_faults, shared_with, 
 ghost use Rattle.elf_form.specs.Faults.{first_fault};
 ghost use Rattle.elf_form.specs.Meaning.{segments_of};
 ghost use Rattle.elf_load.specs.Placed.{IsPlaced};
-ghost use Rattle.elf_load.specs.Means.{Checks};
+ghost use Rattle.elf_load.specs.Checks.{Checks};
 
 use crate::tables::part;
 use elf_form::{ElfFault, Load, ProgramHeader};

@@ -5,7 +5,7 @@ ghost use Rattle.std.specs.List.{list_all};
 ghost use Rattle.elf_form.specs.Symbols.{is_ended, is_short, section_bytes, symbol_of, symbol_table, strings_of, symbols_from, with_program_last, symbols_fault, symbols_of, table_fault, table_symbols};
 ghost use Rattle.elf_form.specs.Accepted.{names_len};
 ghost use Rattle.pn_types.specs.GoodNames.{program_module};
-ghost use Rattle.elf_load.specs.Means.{ChecksOrWants};
+ghost use Rattle.elf_load.specs.Checks.{ChecksOrWants};
 
 use crate::names::{ended_len, is_program, module_at, name_at};
 use crate::tables::{part, symbol_entries};

@@ -4,7 +4,7 @@ ghost use Rattle.std.specs.Prelude.{◌≡◌, ◌≤◌, ◌+◌, ◌*◌, ◌/
 ghost use Rattle.elf_form.specs.Fields.{header_of, part, program_headers_of, section_headers_of};
 ghost use Rattle.elf_form.specs.Headers.{header_fault, has_short_tables};
 ghost use Rattle.elf_form.specs.Symbols.{entries_of, is_short};
-ghost use Rattle.elf_load.specs.Means.{Checks};
+ghost use Rattle.elf_load.specs.Checks.{Checks};
 
 use elf_form::{
     ElfFault, Header, ProgramHeader, SectionHeader, SymbolEntry, begins_as_elf, header_of,

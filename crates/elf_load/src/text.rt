@@ -5,7 +5,7 @@ ghost use Rattle.std.specs.List.{All, list_any};
 ghost use Rattle.elf_form.specs.Segments.{is_around};
 ghost use Rattle.elf_form.specs.Texts.{intrudes, text_range, segment_around, is_two_texts, range_bytes, range_fault, text_fault, is_entry};
 ghost use Rattle.elf_load.specs.Placed.{IsPlaced};
-ghost use Rattle.elf_load.specs.Means.{Checks};
+ghost use Rattle.elf_load.specs.Checks.{Checks};
 
 use crate::tables::part;
 use elf_form::{ElfFault, Load, SectionHeader, TextRange};

@@ -9,8 +9,8 @@ use Rattle.first_places.proofs.Somewhere.{stands_somewhere}
 use Rattle.mdl_ast.specs.declared.items.Item.{Item}
 use Rattle.mdl_ast.specs.declared.metric.Constraint.{Constraint as TheConstraint}
 use Rattle.mdl_check.specs.Placed.{Entry}
-use Rattle.mdl_check.specs.Names.{hypothesis_name, is_named, metric_name, number_from, metric_number, as_constraint, constraint_named, hypothesis_place, stands}
-use Rattle.mdl_check.specs.Indexes.{names_in, metric_names, constraint_names, constraints_in, places_from}
+use Rattle.mdl_check.specs.Names.{hypothesis_name, is_named, metric_name, number_from, metric_number, as_constraint, constraint_named, constraints_in, hypothesis_place, stands}
+use Rattle.mdl_check.specs.Indexes.{names_in, metric_names, constraint_names, places_from}
 
 -- ---- the first of a name
 
@@ -82,24 +82,16 @@ metric_is name es = position_from-zero (bytes_eq name) (metric_names es) ∙ sym
 
 -- ---- constraints
 
-first_constraint : (name : List ℕ) (es : List Entry) → constraint_named es name ≡ first_of name (constraint_names es) (constraints_in es)
+first_constraint : (name : List ℕ) (es : List Entry) → constraint_named (constraints_in es) name ≡ first_of name (constraint_names es) (constraints_in es)
 first_constraint name [] = refl
 first_constraint name (e ∷ es) = by (as_constraint e.item) (first_constraint name es)
   where
-    or_else : Option TheConstraint → Option TheConstraint
-    or_else o = elim o [ Some c ↦ Some c | None ↦ constraint_named es name ]
-
-    either : (c : TheConstraint) (b : Bool) → constraint_named es name ≡ first_of name (constraint_names es) (constraints_in es) →
-        or_else (cond b (Some c) None) ≡ cond b (Some c) (first_of name (constraint_names es) (constraints_in es))
-    either c true h = refl
-    either c false h = h
-
-    by : (o : Option TheConstraint) → constraint_named es name ≡ first_of name (constraint_names es) (constraints_in es) →
-        or_else (elim o [ None ↦ None | Some c ↦ if bytes_eq name c.name then Some c else None ]) ≡ first_of name (option_to_list (option_map (λ c. c.name) o) ++ constraint_names es) (option_to_list o ++ constraints_in es)
+    by : (o : Option TheConstraint) → constraint_named (constraints_in es) name ≡ first_of name (constraint_names es) (constraints_in es) →
+        constraint_named (option_to_list o ++ constraints_in es) name ≡ first_of name (option_to_list (option_map (λ c. c.name) o) ++ constraint_names es) (option_to_list o ++ constraints_in es)
     by None h = h
-    by (Some c) h = either c (bytes_eq name c.name) h
+    by (Some c) h = ap (cond (bytes_eq name c.name) (Some c)) h
 
-pub constraint_is : (name : List ℕ) (es : List Entry) → option_and_then (slice_get (constraints_in es)) (first_place name (constraint_names es)) ≡ constraint_named es name
+pub constraint_is : (name : List ℕ) (es : List Entry) → option_and_then (slice_get (constraints_in es)) (first_place name (constraint_names es)) ≡ constraint_named (constraints_in es) name
 constraint_is name es = found name (constraint_names es) (constraints_in es) ∙ sym (first_constraint name es)
 
 -- ---- hypotheses
@@ -143,12 +135,12 @@ pub metric_at : (name : List ℕ) (es all : List Entry) (names : List (List ℕ)
 metric_at name es all names are same = ap (first_place name) are ∙ metric_is name es ∙ ap (λ (l : List Entry). metric_number l name) same
 
 pub constraint_at : (name : List ℕ) (es all : List Entry) (names : List (List ℕ)) (uses : List TheConstraint) (o : Option ℕ) → names ≡ constraint_names es → uses ≡ constraints_in es → es ≡ all → o ≡ first_place name names →
-    option_and_then (slice_get uses) o ≡ constraint_named all name
+    option_and_then (slice_get uses) o ≡ constraint_named (constraints_in all) name
 constraint_at name es all names uses o are values same h =
     ap (option_and_then (slice_get uses)) (h ∙ ap (first_place name) are)
     ∙ ap (λ (l : List TheConstraint). option_and_then (slice_get l) (first_place name (constraint_names es))) values
     ∙ constraint_is name es
-    ∙ ap (λ (l : List Entry). constraint_named l name) same
+    ∙ ap (λ (l : List Entry). constraint_named (constraints_in l) name) same
 
 pub hypothesis_at : (name : List ℕ) (es all : List Entry) (names : List (List ℕ)) (places : List ℕ) (o : Option ℕ) → names ≡ names_in hypothesis_name es → places ≡ places_from 0 es → es ≡ all → o ≡ first_place name names →
     option_and_then (slice_get places) o ≡ hypothesis_place all name

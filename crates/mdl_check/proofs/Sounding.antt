@@ -1,5 +1,6 @@
 -- What has no fault is sound.
 use Rattle.std.proofs.Common.{◌≡◌, ℕ, ◌||◌, ◌&&◌, not, cond, Bool, true, false, Option, Some, None, List, [], ◌∷◌, ◌++◌, map, flat_map, length, bytes_eq, codes, is_some, refl, sym, ap, ◌∙◌, subst}
+use Rattle.std.specs.Prelude.{option_to_list}
 use Rattle.std.specs.List.{list_any, filter, AllByRecursion}
 use Rattle.std.proofs.lemmas.Bool.{or_parts}
 use Rattle.mdl_ast.specs.Small.{AreSmall, HasSmall}
@@ -10,10 +11,10 @@ use Rattle.mdl_ast.specs.declared.metric.Metric.{Metric as TheMetric}
 use Rattle.mdl_ast.specs.declared.metric.Constraint.{Constraint as TheConstraint}
 use Rattle.mdl_check.specs.Placed.{PlacedItem, Entry, placed, is_taken, included, with_included, placed_items}
 use Rattle.mdl_check.specs.Rules.{is_repeated, is_unknown, is_wrong, is_cyclic, is_astray, is_misused, parents_of, fault_of, misuse, own_variable, has_bad_value}
-use Rattle.mdl_check.specs.Names.{constraint_in, constraint_named}
+use Rattle.mdl_check.specs.Names.{as_constraint, constraints_in, constraint_named}
 use Rattle.mdl_check.specs.Statements.{have}
 use Rattle.mdl_check.specs.Checking.{AreEntries, placed_of, fault_from, first_fault, metric_of, constraint_of, checked_of}
-use Rattle.mdl_check.specs.Sound.{Fits, OfEach, IsSoundMetric, IsSoundConstraint, TakesFitting, IsSound, first_named}
+use Rattle.mdl_check.specs.Sound.{Fits, OfEach, IsSoundMetric, IsSoundConstraint, TakesFitting, IsSound}
 use Rattle.mdl_check.proofs.Fitting.{none_of, all_map, all_zip, each_fits}
 use Rattle.mdl_check.specs.declared.fault.CheckKind.{CheckKind}
 use Rattle.mdl_check.specs.declared.fault.CheckKind.TheVariants.{TwiceNamed, UnknownName, WrongKind, CyclicParent, BadFocus}
@@ -64,7 +65,7 @@ record RightMetric (all : List Entry) (m : TheMetric) : Type 0 where
   pub own : have uses.OtherName (Some m.name) m.blocks ≡ false
   pub kind : have (misuse m.timer) (Some m.name) m.blocks ≡ false
   pub high : have uses.HighArgument None m.blocks ≡ false
-  pub taken : list_any (λ name. is_misused m.timer (constraint_named all name)) m.constraints ≡ false
+  pub taken : list_any (λ name. is_misused m.timer (constraint_named (constraints_in all) name)) m.constraints ≡ false
 
 record RightConstraint (c : TheConstraint) : Type 0 where
   pub small : AreSmall c.blocks
@@ -78,12 +79,12 @@ Sound all line item = AllByRecursion (RightMetric all) (metric_of line item) × 
 right_metric : (all before : List Entry) (line : ℕ) (m : TheMetric) → is_unknown all (Metric m) ≡ false → is_wrong all before (Metric m) ≡ false → HasSmall (Metric m) → RightMetric all (record m { line = line })
 right_metric all before line m known right small =
     let kind : Bool = have (misuse m.timer) (Some m.name) m.blocks in
-    let taken : Bool = list_any (λ name. is_misused m.timer (constraint_named all name)) m.constraints in
+    let taken : Bool = list_any (λ name. is_misused m.timer (constraint_named (constraints_in all) name)) m.constraints in
     let value : Bool = have uses.ObjectValue None m.blocks in
     let a = or_parts (kind || taken || value) (have uses.HighArgument None m.blocks) right in
     let b = or_parts (kind || taken) value a.0 in
     let c = or_parts kind taken b.0 in
-    let k = or_parts (list_any (λ name. not (is_some (constraint_named all name))) m.constraints) (have uses.OtherName (Some m.name) m.blocks) known in
+    let k = or_parts (list_any (λ name. not (is_some (constraint_named (constraints_in all) name))) m.constraints) (have uses.OtherName (Some m.name) m.blocks) known in
     record { small = small; own = k.1; kind = c.0; high = a.1; taken = c.1 }
 
 right_constraint : (all before : List Entry) (line : ℕ) (c : TheConstraint) → is_unknown all (Constraint c) ≡ false → is_wrong all before (Constraint c) ≡ false → HasSmall (Constraint c) → RightConstraint (record c { line = line })
@@ -125,61 +126,55 @@ record SameButLine (d c : TheConstraint) : Type 0 where
   pub replace : d.replace ≡ c.replace
   pub blocks : d.blocks ≡ c.blocks
 
-data Here (name : List ℕ) (item : Item) (rest : List TheConstraint) (c : TheConstraint) : Type 0 where
-  Found : (d : TheConstraint) → constraint_in name item ≡ Some d → SameButLine d c → Here name item rest c
-  Later : constraint_in name item ≡ None → first_named rest name ≡ Some c → Here name item rest c
-
-here : (name : List ℕ) (line : ℕ) (item : Item) (rest : List TheConstraint) (c : TheConstraint) → first_named (constraint_of line item ++ rest) name ≡ Some c → Here name item rest c
-here name line (Include i) rest c h = Later refl h
-here name line (Sync s) rest c h = Later refl h
-here name line (Metric m) rest c h = Later refl h
-here name line (Constraint x) rest c h = by (bytes_eq name x.name) refl h
-  where
-    by : (b : Bool) → bytes_eq name x.name ≡ b → cond b (Some (record x { line = line })) (first_named rest name) ≡ Some c → Here name (Constraint x) rest c
-    by true p g =
-        let same : record x { line = line } ≡ c = cc in
-        Found x (ap (λ (b : Bool). cond b (Some x) None) p) (record { replace = ap (λ (y : TheConstraint). y.replace) same; blocks = ap (λ (y : TheConstraint). y.blocks) same })
-    by false p g = Later (ap (λ (b : Bool). cond b (Some x) None) p) g
-here name line (Hypothesis x) rest c h = Later refl h
-here name line (Search s) rest c h = Later refl h
-here name line (Phase p) rest c h = Later refl h
-here name line (Wish w) rest c h = Later refl h
-
-record Named (es : List Entry) (name : List ℕ) (c : TheConstraint) : Type 0 where
+-- the constraint of a name among these is the same
+record Named (cs : List TheConstraint) (name : List ℕ) (c : TheConstraint) : Type 0 where
   pub item : TheConstraint
-  pub found : constraint_named es name ≡ Some item
+  pub found : constraint_named cs name ≡ Some item
   pub same : SameButLine item c
 
-skips : (e : Entry) (es : List Entry) (name : List ℕ) → constraint_in name e.item ≡ None → constraint_named (e ∷ es) name ≡ constraint_named es name
-skips e es name h = rw (h, constraint_named) refl
+-- one more item
+named_more : (name : List ℕ) (line : ℕ) (item : Item) (rest cs : List TheConstraint) (c : TheConstraint) → (constraint_named rest name ≡ Some c → Named cs name c)
+    → constraint_named (constraint_of line item ++ rest) name ≡ Some c → Named (option_to_list (as_constraint item) ++ cs) name c
+named_more name line (Include i) rest cs c later h = later h
+named_more name line (Sync s) rest cs c later h = later h
+named_more name line (Metric m) rest cs c later h = later h
+named_more name line (Constraint x) rest cs c later h = by (bytes_eq name x.name) refl h
+  where
+    by : (b : Bool) → bytes_eq name x.name ≡ b → cond b (Some (record x { line = line })) (constraint_named rest name) ≡ Some c → Named (x ∷ cs) name c
+    by true p g =
+        let same : record x { line = line } ≡ c = cc in
+        record {
+          item = x;
+          found = ap (λ (b : Bool). cond b (Some x) (constraint_named cs name)) p;
+          same = record { replace = ap (λ (y : TheConstraint). y.replace) same; blocks = ap (λ (y : TheConstraint). y.blocks) same };
+        }
+    by false p g = let r = later g in record { item = r.item; found = ap (λ (b : Bool). cond b (Some x) (constraint_named cs name)) p ∙ r.found; same = r.same }
+named_more name line (Hypothesis x) rest cs c later h = later h
+named_more name line (Search s) rest cs c later h = later h
+named_more name line (Phase p) rest cs c later h = later h
+named_more name line (Wish w) rest cs c later h = later h
 
-takes : (e : Entry) (es : List Entry) (name : List ℕ) (d : TheConstraint) → constraint_in name e.item ≡ Some d → constraint_named (e ∷ es) name ≡ Some d
-takes e es name d h = rw (h, constraint_named) refl
-
-named_in : (es : List Entry) (name : List ℕ) (c : TheConstraint) → first_named (flat_map (λ e. constraint_of e.line e.item) es) name ≡ Some c → Named es name c
+named_in : (es : List Entry) (name : List ℕ) (c : TheConstraint) → constraint_named (flat_map (λ e. constraint_of e.line e.item) es) name ≡ Some c → Named (constraints_in es) name c
 named_in [] name c h = cc
-named_in (e ∷ es) name c h = elim (here name e.line e.item (flat_map (λ e. constraint_of e.line e.item) es) c h) [
-  | Found d p same ↦ record { item = d; found = takes e es name d p; same = same }
-  | Later p g ↦ let r = named_in es name c g in record { item = r.item; found = skips e es name p ∙ r.found; same = r.same }
-]
+named_in (e ∷ es) name c h = named_more name e.line e.item (flat_map (λ e. constraint_of e.line e.item) es) (constraints_in es) c (named_in es name c) h
 
-of_named : (P : TheConstraint → Type 0) (cs : List TheConstraint) (name : List ℕ) (c : TheConstraint) → AllByRecursion P cs → first_named cs name ≡ Some c → P c
+of_named : (P : TheConstraint → Type 0) (cs : List TheConstraint) (name : List ℕ) (c : TheConstraint) → AllByRecursion P cs → constraint_named cs name ≡ Some c → P c
 of_named P [] name c h e = cc
 of_named P (x ∷ cs) name c h e = by (bytes_eq name x.name) (of_named P cs name c h.1) e
   where
-    by : (b : Bool) → (first_named cs name ≡ Some c → P c) → cond b (Some x) (first_named cs name) ≡ Some c → P c
+    by : (b : Bool) → (constraint_named cs name ≡ Some c → P c) → cond b (Some x) (constraint_named cs name) ≡ Some c → P c
     by true later g = let same : x ≡ c = cc in subst P same h.0
     by false later g = later g
 
 -- the replacements of a metric fit it
 taken_fits : (all : List Entry) (m : TheMetric) (cs : List TheConstraint) → cs ≡ flat_map (λ e. constraint_of e.line e.item) all → AllByRecursion RightConstraint cs → RightMetric all m → TakesFitting cs m
 taken_fits all m cs same right r =
-    all_map (λ name. is_misused m.timer (constraint_named all name) ≡ false) (λ name. (c : TheConstraint) → first_named cs name ≡ Some c → c.replace ≡ true → OfEach (Fits m.timer) c.blocks)
-    one m.constraints (none_of (λ name. is_misused m.timer (constraint_named all name)) m.constraints r.taken)
+    all_map (λ name. is_misused m.timer (constraint_named (constraints_in all) name) ≡ false) (λ name. (c : TheConstraint) → constraint_named cs name ≡ Some c → c.replace ≡ true → OfEach (Fits m.timer) c.blocks)
+    one m.constraints (none_of (λ name. is_misused m.timer (constraint_named (constraints_in all) name)) m.constraints r.taken)
   where
-    one : (name : List ℕ) → is_misused m.timer (constraint_named all name) ≡ false → (c : TheConstraint) → first_named cs name ≡ Some c → c.replace ≡ true → OfEach (Fits m.timer) c.blocks
+    one : (name : List ℕ) → is_misused m.timer (constraint_named (constraints_in all) name) ≡ false → (c : TheConstraint) → constraint_named cs name ≡ Some c → c.replace ≡ true → OfEach (Fits m.timer) c.blocks
     one name h c e replace =
-        let n = named_in all name c (ap (λ (l : List TheConstraint). first_named l name) (sym same) ∙ e) in
+        let n = named_in all name c (ap (λ (l : List TheConstraint). constraint_named l name) (sym same) ∙ e) in
         let right_c = of_named RightConstraint cs name c right e in
         let misused : is_misused m.timer (Some n.item) ≡ false = ap (is_misused m.timer) (sym n.found) ∙ h in
         let as_c : c.replace && have (misuse m.timer) None c.blocks ≡ false =

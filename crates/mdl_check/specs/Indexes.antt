@@ -3,9 +3,8 @@ use Rattle.std.specs.Prelude.{ℕ, ◌≡◌, ◌+◌, ◌||◌, true, false, Op
 use Rattle.std.specs.List.{list_any}
 use Rattle.std.specs.Option.{option_map}
 use Rattle.mdl_ast.specs.declared.items.Item.{Item}
-use Rattle.mdl_ast.specs.declared.metric.Constraint.{Constraint as TheConstraint}
 use Rattle.mdl_check.specs.Placed.{Entry}
-use Rattle.mdl_check.specs.Names.{variable_name, hypothesis_name, phase_name, metric_name, as_constraint}
+use Rattle.mdl_check.specs.Names.{variable_name, hypothesis_name, phase_name, metric_name, as_constraint, constraints_in}
 use Rattle.mdl_check.specs.Rules.{is_include, is_search, last_tick, tick_behind}
 use Rattle.mdl_check.specs.Sights.{AreShown, ShowsMore}
 use Rattle.mdl_check.specs.Checking.{metric_of, constraint_of, hypothesis_of, phase_of, search_behind, search_in, wish_of}
@@ -22,9 +21,6 @@ names_in own es = flat_map (λ e. option_to_list (own e.item)) es
 
 abbrev pub metric_names : List Entry → List (List ℕ)
 metric_names es = flat_map (λ e. option_to_list (metric_name e.item)) es
-
-abbrev pub constraints_in : List Entry → List TheConstraint
-constraints_in es = flat_map (λ e. option_to_list (as_constraint e.item)) es
 
 abbrev pub constraint_names : List Entry → List (List ℕ)
 constraint_names es = flat_map (λ e. option_to_list (option_map (λ c. c.name) (as_constraint e.item))) es

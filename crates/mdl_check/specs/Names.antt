@@ -1,5 +1,5 @@
 -- What items are named, and which items names lead to.
-use Rattle.std.specs.Prelude.{ℕ, ◌+◌, if◌then◌else◌, Bool, false, Option, Some, None, List, [], ◌∷◌, position}
+use Rattle.std.specs.Prelude.{ℕ, ◌+◌, if◌then◌else◌, Bool, false, Option, Some, None, List, [], ◌∷◌, flat_map, option_to_list, position}
 use Rattle.std.specs.List.{list_any}
 use Rattle.std.specs.Str.{bytes_eq}
 use Rattle.mdl_ast.specs.declared.items.Item.{Item}
@@ -35,14 +35,14 @@ abbrev pub as_constraint : Item → Option TheConstraint
 as_constraint (Constraint c) = Some c
 as_constraint item = None
 
--- the constraint, if the item is one of this name
-abbrev pub constraint_in : List ℕ → Item → Option TheConstraint
-constraint_in name item = elim (as_constraint item) [ None ↦ None | Some c ↦ if bytes_eq name c.name then Some c else None ]
+-- the constraints among items
+abbrev pub constraints_in : List Entry → List TheConstraint
+constraints_in es = flat_map (λ e. option_to_list (as_constraint e.item)) es
 
--- the first constraint of this name
-abbrev pub constraint_named : List Entry → List ℕ → Option TheConstraint
+-- of these constraints the first of this name
+abbrev pub constraint_named : List TheConstraint → List ℕ → Option TheConstraint
 constraint_named [] name = None
-constraint_named (e ∷ es) name = elim (constraint_in name e.item) [ Some c ↦ Some c | None ↦ constraint_named es name ]
+constraint_named (c ∷ cs) name = if bytes_eq name c.name then Some c else constraint_named cs name
 
 -- what an item is to a search for a metric: the metric of this name, another metric, or none
 abbrev pub metric_name : Item → Option (List ℕ)

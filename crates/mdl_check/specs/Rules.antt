@@ -13,7 +13,7 @@ use Rattle.mdl_ast.specs.declared.items.Wish.{Wish as TheWish}
 use Rattle.mdl_ast.specs.declared.metric.Constraint.{Constraint as TheConstraint}
 use Rattle.mdl_ast.specs.declared.metric.Metric.{Metric as TheMetric}
 use Rattle.mdl_check.specs.Placed.{Entry}
-use Rattle.mdl_check.specs.Names.{variable_name, hypothesis_name, phase_name, stands, constraint_named, metric_number, hypothesis_place}
+use Rattle.mdl_check.specs.Names.{variable_name, hypothesis_name, phase_name, stands, constraints_in, constraint_named, metric_number, hypothesis_place}
 use Rattle.mdl_check.specs.Statements.{have}
 use Rattle.mdl_check.specs.declared.uses.Use.{Use}
 use Rattle.mdl_check.specs.declared.uses.Use.TheVariants as uses
@@ -37,7 +37,7 @@ is_on path (Some c) = bytes_eq path c.path
 
 -- two of the constraints of these names are of this axis
 abbrev pub are_two_on : List Entry → List ℕ → List (List ℕ) → Bool
-are_two_on all path names = nat_lt 1 (count_by (λ name. is_on path (constraint_named all name)) names)
+are_two_on all path names = nat_lt 1 (count_by (λ name. is_on path (constraint_named (constraints_in all) name)) names)
 
 abbrev pub is_same_number : Option ℕ → Option ℕ → Bool
 is_same_number None None = true
@@ -100,7 +100,7 @@ is_orphan all None = false
 is_orphan all (Some parent) = not (stands hypothesis_name parent all)
 
 abbrev pub is_metric_unknown : List Entry → TheMetric → Bool
-is_metric_unknown all m = list_any (λ name. not (is_some (constraint_named all name))) m.constraints || have uses.OtherName (Some m.name) m.blocks
+is_metric_unknown all m = list_any (λ name. not (is_some (constraint_named (constraints_in all) name))) m.constraints || have uses.OtherName (Some m.name) m.blocks
 
 abbrev pub is_hypothesis_unknown : List Entry → TheHypothesis → Bool
 is_hypothesis_unknown all h = not (is_some (metric_number all h.metric)) || is_orphan all h.parent || not (list_all is_axis h.axes)
@@ -143,7 +143,7 @@ last_tick before = fold (λ tick e. tick_behind tick e.item) 0 before
 abbrev pub is_metric_wrong : List Entry → TheMetric → Bool
 is_metric_wrong all m =
     have (misuse m.timer) (Some m.name) m.blocks
-    || list_any (λ name. is_misused m.timer (constraint_named all name)) m.constraints
+    || list_any (λ name. is_misused m.timer (constraint_named (constraints_in all) name)) m.constraints
     || have uses.ObjectValue None m.blocks
     || have uses.HighArgument None m.blocks
 

@@ -1,7 +1,6 @@
 -- What the statements of a checked configuration are within.
-use Rattle.std.specs.Prelude.{◌≡◌, ℕ, ◌<◌, ◌≤◌, Bool, true, false, if◌then◌else◌, Option, Some, None, List, [], ◌∷◌, length}
+use Rattle.std.specs.Prelude.{◌≡◌, ◌<◌, ◌≤◌, Bool, true, false, Some, List, length}
 use Rattle.std.specs.List.{AllByRecursion}
-use Rattle.std.specs.Str.{bytes_eq}
 use Rattle.mdl_ast.specs.Small.{IsSmallRight, greatest_number}
 use Rattle.mdl_ast.specs.declared.action.Action.{Action}
 use Rattle.mdl_ast.specs.declared.action.Action.TheVariants.{Up, Down, Put, Start, Stop}
@@ -11,6 +10,7 @@ use Rattle.mdl_ast.specs.declared.action.Statement.{Statement}
 use Rattle.mdl_ast.specs.declared.block.Block.{Block}
 use Rattle.mdl_ast.specs.declared.metric.Metric.{Metric}
 use Rattle.mdl_ast.specs.declared.metric.Constraint.{Constraint}
+use Rattle.mdl_check.specs.Names.{constraint_named}
 use Rattle.mdl_check.specs.declared.checked.Checked.{Checked}
 
 -- a condition on a variable that is a counter, or on one of the arguments 0 to 7
@@ -45,14 +45,9 @@ IsSoundMetric m = OfEach (Fits m.timer) m.blocks
 abbrev pub IsSoundConstraint : Constraint → Type 0
 IsSoundConstraint c = c.replace ≡ false → OfEach (Fits false) c.blocks
 
--- of these constraints the first of this name
-abbrev pub first_named : List Constraint → List ℕ → Option Constraint
-first_named [] name = None
-first_named (c ∷ cs) name = if bytes_eq name c.name then Some c else first_named cs name
-
 -- the statements of each replacement that the metric takes fit it
 abbrev pub TakesFitting : List Constraint → Metric → Type 0
-TakesFitting cs m = AllByRecursion (λ name. (c : Constraint) → first_named cs name ≡ Some c → c.replace ≡ true → OfEach (Fits m.timer) c.blocks) m.constraints
+TakesFitting cs m = AllByRecursion (λ name. (c : Constraint) → constraint_named cs name ≡ Some c → c.replace ≡ true → OfEach (Fits m.timer) c.blocks) m.constraints
 
 pub record IsSound (c : Checked) : Type 0 where
   pub metrics : AllByRecursion IsSoundMetric c.metrics

@@ -2,7 +2,7 @@
 
 ghost use Rattle.std.specs.Prelude.{◌≡◌, ◌<◌, ◌++◌, [], IfSome, OnOk, Some, length, option_to_list, slice_get};
 ghost use Rattle.std.specs.Option.{option_map};
-ghost use Rattle.mdl_check.specs.Names.{constraint_named, metric_number, hypothesis_name, hypothesis_place, stands, as_constraint};
+ghost use Rattle.mdl_check.specs.Names.{constraints_in, constraint_named, metric_number, hypothesis_name, hypothesis_place, stands, as_constraint};
 ghost use Rattle.mdl_check.specs.Rules.{is_misused, is_on};
 ghost use Rattle.mdl_check.specs.Indexes.{IsKept, KeepsMore, place_if};
 
@@ -211,7 +211,7 @@ impl<'e, 'a> Index<'e, 'a> {
 
     /// The first constraint of this name.
     pub(crate) fn constraint_named(&self, name: &[u8]) -> Option<&ConstraintUse<'a>>
-        ensures { option_map (λ used. used.now) result ≡ constraint_named self.now name.now }
+        ensures { option_map (λ used. used.now) result ≡ constraint_named (constraints_in self.now) name.now }
     {
         let number = self.kept.constraints.lookup(name)?;
         constraint_at(&self.kept.uses, number)

@@ -1,7 +1,7 @@
 //! What is named or asked for twice.
 
 ghost use Rattle.std.specs.Prelude.{◌≡◌};
-ghost use Rattle.mdl_check.specs.Names.{constraint_named};
+ghost use Rattle.mdl_check.specs.Names.{constraints_in, constraint_named};
 ghost use Rattle.mdl_check.specs.Rules.{is_on, are_two_on, is_metric_repeated, is_phase_repeated, is_wish_repeated, is_repeated};
 
 use crate::before::Before;
@@ -11,7 +11,7 @@ use pn_types::{Focus, Text};
 
 /// Whether the constraint of this name is one of this axis.
 fn is_on(index: &Index<'_, '_>, path: &[u8], name: &Text) -> bool
-    ensures { result ≡ is_on path.now (constraint_named index.now name.now) }
+    ensures { result ≡ is_on path.now (constraint_named (constraints_in index.now) name.now) }
 {
     match index.constraint_named(name.bytes()) {
         Some(constraint) => constraint.is_on(path),

@@ -4,7 +4,7 @@ ghost use Rattle.std.specs.Prelude.{◌≡◌, ◌&&◌, ◌||◌, not, is_some,
 ghost use Rattle.std.specs.List.{list_any, list_all};
 ghost use Rattle.std.specs.Option.{option_map};
 ghost use Rattle.std.specs.Str.{bytes_eq};
-ghost use Rattle.mdl_check.specs.Names.{constraint_named};
+ghost use Rattle.mdl_check.specs.Names.{constraints_in, constraint_named};
 ghost use Rattle.mdl_check.specs.Statements.{have};
 ghost use Rattle.mdl_check.specs.declared.uses.Use.TheVariants as uses;
 ghost use Rattle.mdl_check.specs.Rules.{own_variable, is_axis, is_orphan, is_metric_unknown, is_hypothesis_unknown, is_unknown, misuse, is_misused, has_bad_value, is_metric_wrong, is_constraint_wrong, is_wrong, is_astray};
@@ -49,7 +49,7 @@ fn is_orphan(index: &Index<'_, '_>, parent: &Option<Text>) -> bool
 }
 
 fn has_unknown_constraint(index: &Index<'_, '_>, names: &[Text]) -> bool
-    ensures { result ≡ list_any (λ name. not (is_some (constraint_named index.now name))) names.now }
+    ensures { result ≡ list_any (λ name. not (is_some (constraint_named (constraints_in index.now) name))) names.now }
 {
     names
         .iter()
@@ -100,7 +100,7 @@ fn misuse(timer: bool) -> Use
 
 /// Whether the constraint of this name is a replacement that uses `$metric` as one of the other kind.
 fn is_misused(index: &Index<'_, '_>, timer: bool, name: &Text) -> bool
-    ensures { result ≡ is_misused timer (constraint_named index.now name.now) }
+    ensures { result ≡ is_misused timer (constraint_named (constraints_in index.now) name.now) }
 {
     match index.constraint_named(name.bytes()) {
         Some(constraint) => constraint.is_misused(timer),
@@ -109,7 +109,7 @@ fn is_misused(index: &Index<'_, '_>, timer: bool, name: &Text) -> bool
 }
 
 fn has_misused(index: &Index<'_, '_>, timer: bool, names: &[Text]) -> bool
-    ensures { result ≡ list_any (λ name. is_misused timer (constraint_named index.now name)) names.now }
+    ensures { result ≡ list_any (λ name. is_misused timer (constraint_named (constraints_in index.now) name)) names.now }
 {
     names.iter().any(|name| is_misused(index, timer, name))
 }

@@ -7,7 +7,8 @@ use Rattle.pn_types.specs.declared.focus.Axis.TheVariants.{Code, SyncObject}
 use Rattle.pn_types.specs.declared.focus.Focus.{Focus}
 use Rattle.mdl_ast.specs.declared.metric.Metric.{Metric}
 use Rattle.mdl_ast.specs.declared.metric.Constraint.{Constraint}
-use Rattle.mdl_check.specs.Sound.{Fits, OfEach, IsSoundConstraint, IsSoundMetric, TakesFitting, first_named}
+use Rattle.mdl_check.specs.Names.{constraint_named}
+use Rattle.mdl_check.specs.Sound.{Fits, OfEach, IsSoundConstraint, IsSoundMetric, TakesFitting}
 use Rattle.mdl_plan.specs.Active.{Active, active_of, both, constraint_for, in_hierarchy, is_below, wanted}
 use Rattle.mdl_plan.specs.Pieces.{replacing, replacement, counting, base_blocks}
 use Rattle.mdl_plan.specs.declared.fault.PlanFault.{PlanFault}
@@ -18,16 +19,16 @@ pub record Suits (m : Metric) (c : Constraint) : Type 0 where
   pub replaces : c.replace ≡ true → OfEach (Fits m.timer) c.blocks
 
 module _ (cs : List Constraint) (m : Metric) where
-  named_sound : (xs : List Constraint) (name : List ℕ) (c : Constraint) → AllByRecursion IsSoundConstraint xs → first_named xs name ≡ Some c → IsSoundConstraint c
+  named_sound : (xs : List Constraint) (name : List ℕ) (c : Constraint) → AllByRecursion IsSoundConstraint xs → constraint_named xs name ≡ Some c → IsSoundConstraint c
   named_sound [] name c h e = cc
   named_sound (x ∷ xs) name c h e = by (bytes_eq name x.name) (named_sound xs name c h.1) e
     where
-      by : (b : Bool) → (first_named xs name ≡ Some c → IsSoundConstraint c) → cond b (Some x) (first_named xs name) ≡ Some c → IsSoundConstraint c
+      by : (b : Bool) → (constraint_named xs name ≡ Some c → IsSoundConstraint c) → cond b (Some x) (constraint_named xs name) ≡ Some c → IsSoundConstraint c
       by true later g = let same : x ≡ c = cc in subst IsSoundConstraint same h.0
       by false later g = later g
 
   abbrev Taken : List ℕ → Type 0
-  Taken name = (c : Constraint) → first_named cs name ≡ Some c → c.replace ≡ true → OfEach (Fits m.timer) c.blocks
+  Taken name = (c : Constraint) → constraint_named cs name ≡ Some c → c.replace ≡ true → OfEach (Fits m.timer) c.blocks
 
   in_named : (path : List ℕ) (o : Option Constraint) (c : Constraint) → in_hierarchy path o ≡ Some c → o ≡ Some c
   in_named path None c e = cc
@@ -39,13 +40,13 @@ module _ (cs : List Constraint) (m : Metric) where
 
   for_suits : (path : List ℕ) (names : List (List ℕ)) (c : Constraint) → AllByRecursion IsSoundConstraint cs → AllByRecursion Taken names → constraint_for cs path names ≡ Some c → Suits m c
   for_suits path [] c sound taken e = cc
-  for_suits path (name ∷ names) c sound taken e = by (in_hierarchy path (first_named cs name)) refl (for_suits path names c sound taken.1) e
+  for_suits path (name ∷ names) c sound taken e = by (in_hierarchy path (constraint_named cs name)) refl (for_suits path names c sound taken.1) e
     where
-      by : (o : Option Constraint) → in_hierarchy path (first_named cs name) ≡ o → (constraint_for cs path names ≡ Some c → Suits m c) → option_or o (constraint_for cs path names) ≡ Some c → Suits m c
+      by : (o : Option Constraint) → in_hierarchy path (constraint_named cs name) ≡ o → (constraint_for cs path names ≡ Some c → Suits m c) → option_or o (constraint_for cs path names) ≡ Some c → Suits m c
       by None p later g = later g
       by (Some x) p later g =
           let same : x ≡ c = cc in
-          let named : first_named cs name ≡ Some c = in_named path (first_named cs name) c (p ∙ ap (λ (y : Constraint). Some y) same) in
+          let named : constraint_named cs name ≡ Some c = in_named path (constraint_named cs name) c (p ∙ ap (λ (y : Constraint). Some y) same) in
           record { counts = named_sound cs name c sound named; replaces = taken.0 c named }
 
 -- an active constraint suits the metric

@@ -9,7 +9,7 @@ use Rattle.pn_types.specs.declared.focus.CodePart.TheVariants.{All, Module, Proc
 use Rattle.pn_types.specs.declared.focus.Focus.{Focus}
 use Rattle.mdl_ast.specs.declared.metric.Metric.{Metric}
 use Rattle.mdl_ast.specs.declared.metric.Constraint.{Constraint}
-use Rattle.mdl_check.specs.Sound.{first_named}
+use Rattle.mdl_check.specs.Names.{constraint_named}
 use Rattle.mdl_plan.specs.declared.fault.PlanFault.{PlanFault}
 use Rattle.mdl_plan.specs.declared.fault.PlanFault.TheVariants.{NoConstraint}
 
@@ -21,7 +21,7 @@ in_hierarchy path (Some c) = if bytes_eq path c.path then Some c else None
 -- of the constraints of these names the first of this hierarchy
 abbrev pub constraint_for : List Constraint → List ℕ → List (List ℕ) → Option Constraint
 constraint_for cs path [] = None
-constraint_for cs path (name ∷ names) = option_or (in_hierarchy path (first_named cs name)) (constraint_for cs path names)
+constraint_for cs path (name ∷ names) = option_or (in_hierarchy path (constraint_named cs name)) (constraint_for cs path names)
 
 -- the focus is below the root of the code
 abbrev pub is_below : CodePart → Bool

@@ -2,7 +2,7 @@
 
 ghost use Rattle.std.specs.Prelude.{◌≡◌, ◌≤◌, ◌++◌, IfOk, OnOk, codes, is_some, length, map};
 ghost use Rattle.std.specs.Option.{option_map, option_or};
-ghost use Rattle.mdl_check.specs.Sound.{first_named};
+ghost use Rattle.mdl_check.specs.Names.{constraint_named};
 ghost use Rattle.mdl_plan.specs.Active.{active_of, constraint_for, in_hierarchy, is_below, wanted};
 ghost use Rattle.std.specs.Result.{result_map_both};
 ghost use Rattle.mdl_plan.specs.Pieces.{counters, counting, replacement, replacing};
@@ -22,7 +22,6 @@ pub(crate) struct Active<'a> {
 
 impl<'a> Model for Active<'a> {
     ghost use Rattle.std.specs.Option.{option_map};
-    ghost use Rattle.mdl_check.specs.Sound.{first_named};
     ghost use Rattle.mdl_plan.specs.Active.{Active};
 
     ghost Value = { Active };
@@ -32,7 +31,7 @@ impl<'a> Model for Active<'a> {
 
 /// The first constraint of this name.
 fn constraint_named<'a>(constraints: &'a [Constraint], name: &[u8]) -> Option<&'a Constraint>
-    ensures { option_map (λ c. c.now) result ≡ first_named constraints.now name.now }
+    ensures { option_map (λ c. c.now) result ≡ constraint_named constraints.now name.now }
 {
     for constraint in constraints {
         if name == constraint.name.bytes() {

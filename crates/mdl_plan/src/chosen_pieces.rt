@@ -1,6 +1,6 @@
 //! The pieces that are chosen at the points of each kind of each procedure.
 
-ghost use Rattle.std.specs.Prelude.{◌≡◌, ◌<◌, ◌^◌, [], IfOk, OnOk, if◌then◌else◌, length, slice_index_or};
+ghost use Rattle.std.specs.Prelude.{◌≡◌, [], IfOk, OnOk, if◌then◌else◌, slice_index_or};
 ghost use Rattle.mdl_plan.specs.Choosing.{is_chosen, is_kind};
 ghost use Rattle.mdl_plan.specs.Numbers.{Added, AreNumbers};
 ghost use Rattle.mdl_plan.specs.ChosenPieces.{has_numbers, numbers_if, HavePlaces, AreChosen};

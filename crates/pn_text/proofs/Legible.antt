@@ -8,7 +8,7 @@ use Rattle.pn_text.specs.Bytes.{is_white_space}
 use Rattle.pn_text.specs.Blanks.{blank_len}
 use Rattle.pn_text.specs.Tokens.{lexeme, lexeme_at}
 use Rattle.pn_text.specs.Scans.{Rest, behind, behind_blanks, token_at, onto, scan, tokens_of}
-use Rattle.pn_text.specs.Words.{Word, word_of, words_of, Reads, is_word}
+use Rattle.pn_text.specs.Words.{Word, word_of, Reads, is_word}
 use Rattle.pn_text.specs.Writing.{word_text, goes_on, stand_apart, written, words_in, follow, are_legible}
 use Rattle.pn_text.specs.declared.place.Place.{Place}
 use Rattle.pn_text.specs.declared.lexeme.Lexeme.{Lexeme}

@@ -1,5 +1,5 @@
 -- The tokens of a text ascend, none is empty, and all stand in the text.
-use Rattle.std.proofs.Common.{◌≡◌, ℕ, zero, suc, ◌+◌, ◌<◌, ◌≤◌, ◌==◌, not, cond, Bool, true, false, codes, Option, Some, None, Result, Ok, Err, List, [], ◌∷◌, length, take, refl, ◌∙◌, ap, arith}
+use Rattle.std.proofs.Common.{◌≡◌, ℕ, zero, suc, ◌+◌, ◌≤◌, ◌==◌, not, cond, Bool, true, false, codes, Option, Some, None, Result, Ok, Err, List, [], ◌∷◌, length, take, refl, ◌∙◌, ap, arith}
 use Rattle.std.proofs.lemmas.List.{length-drop, length-take-le}
 use Rattle.std.proofs.lemmas.Bool.{cond_both}
 use Rattle.pn_text.specs.Bytes.{is_white_space, begins_with}

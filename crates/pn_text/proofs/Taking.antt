@@ -1,6 +1,6 @@
 -- What the next token says of the tokens that are to come.
-use Rattle.std.proofs.Common.{◌≡◌, ℕ, ◌<◌, ◌≤◌, Some, None, Ok, Err, List, [], ◌∷◌, refl, ap}
-use Rattle.pn_text.specs.Scans.{Ending, AtEnd, AtFault, Scan, at_ending, first_in, next_of, rest_of, place_in, place_of, AreSpans}
+use Rattle.std.proofs.Common.{◌≡◌, Some, None, Ok, Err, List, [], ◌∷◌, refl, ap}
+use Rattle.pn_text.specs.Scans.{Ending, AtEnd, AtFault, Scan, at_ending, first_in, next_of, rest_of, place_in, place_of}
 use Rattle.pn_text.specs.declared.token.Token.{Token}
 use Rattle.pn_text.specs.declared.token.LexFault.{LexFault}
 

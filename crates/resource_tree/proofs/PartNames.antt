@@ -6,7 +6,7 @@ use Rattle.std.specs.Option.{option_map}
 use Rattle.pn_types.specs.GoodNames.{is_name_byte, is_good_name}
 use Rattle.pn_types.specs.declared.focus.CodePart.TheVariants.{Module, Procedure}
 use Rattle.resource_tree.specs.FocusTexts.{below_text}
-use Rattle.resource_tree.specs.Foci.{code_named, is_named, path_of, hart_named, object_named, hart_names}
+use Rattle.resource_tree.specs.Foci.{code_named, is_named, path_of, object_named}
 use Rattle.resource_tree.specs.Resources.{CodeNodes, ProcNode, ObjectNode}
 use Rattle.resource_tree.proofs.FormStates.{both}
 use Rattle.resource_tree.proofs.Parts.{or_parts}

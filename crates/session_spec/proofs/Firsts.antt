@@ -13,7 +13,7 @@ use Rattle.pn_types.specs.declared.settings.Start.{Start}
 use Rattle.pn_types.specs.declared.settings.Start.TheVariants.{Cold, Warm}
 use Rattle.mdl_ast.specs.declared.metric.Constraint.{Constraint}
 use Rattle.mdl_ast.specs.declared.metric.Metric.{Metric}
-use Rattle.mdl_check.specs.Sound.{first_named}
+use Rattle.mdl_check.specs.Names.{constraint_named}
 use Rattle.mdl_plan.specs.Active.{Active, active_of, both, constraint_for, in_hierarchy, is_below, wanted}
 use Rattle.mdl_plan.specs.Pieces.{base_initially, counters, counting, replacement, replacing}
 use Rattle.mdl_plan.specs.Plans.{at_first, counter_var, opens_of, scene_of, sites_of, vars_of}
@@ -36,11 +36,11 @@ module _ (N : ℕ → Type 0) where
 
   -- ---- the constraints that a focus makes active
 
-  named : (cs : List Constraint) (name : List ℕ) → AllByRecursion Holds cs → IfSome (first_named cs name)
+  named : (cs : List Constraint) (name : List ℕ) → AllByRecursion Holds cs → IfSome (constraint_named cs name)
   named [] name k = tt
   named (c ∷ cs) name k = by (bytes_eq name c.name) (named cs name k.1)
     where
-      by : (b : Bool) → IfSome (first_named cs name) → IfSome (cond b (Some c) (first_named cs name))
+      by : (b : Bool) → IfSome (constraint_named cs name) → IfSome (cond b (Some c) (constraint_named cs name))
       by true rest = k.0
       by false rest = rest
 
@@ -59,7 +59,7 @@ module _ (N : ℕ → Type 0) where
   for_path : (cs : List Constraint) (path : List ℕ) (names : List (List ℕ)) → AllByRecursion Holds cs → IfSome (constraint_for cs path names)
   for_path cs path [] k = tt
   for_path cs path (name ∷ names) k =
-      or_else (in_hierarchy path (first_named cs name)) (constraint_for cs path names) (in_path path (first_named cs name) (named cs name k)) (for_path cs path names k)
+      or_else (in_hierarchy path (constraint_named cs name)) (constraint_for cs path names) (in_path path (constraint_named cs name) (named cs name k)) (for_path cs path names k)
 
   if_wanted : (axis : Axis) (below : Bool) (o r : Option Constraint) → IfSome o → wanted axis below o ≡ Ok r → IfSome r
   if_wanted axis false o r k e = let none : None ≡ r = cc in subst IfSome none tt
