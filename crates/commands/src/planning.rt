@@ -16,14 +16,15 @@ use crate::configuration::bad_configuration;
 use crate::files::text_of;
 use crate::finding::{Found, find};
 use crate::inputs::read_inputs;
+use crate::running::bad_pick;
 use crate::texts::Texts;
 use command_words::PlanRequest;
 use mdl_ast::Metric;
 use mdl_plan::{PlanFault, PlanIndex, plan};
 use outside::Files;
-use pn_types::{Focus, Image, PickCause, Text};
+use pn_types::{Focus, Image, PickCause};
 use prim_code::predicted;
-use refusals::{ConfKind, Fault, Refusal};
+use refusals::{ConfKind, Refusal};
 use report::plan_text;
 use std::alloc::Global;
 
