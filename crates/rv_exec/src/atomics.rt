@@ -117,7 +117,8 @@ fn load_reserved(
     Ok(answer(width, old))
 }
 
-/// An SC. It clears the hart's reservation, also where it stops. It answers 0 where it stored, and 1 where the hart had no reservation.
+/// An SC. It clears the hart's reservation, also where it stops. It answers 0 where it stored, and 1 where the hart had no
+/// reservation.
 #[tactic(auto, unfolding(rv_word::specs::Exec::perform))]
 fn store_conditional(
     width: AtomicWidth,
