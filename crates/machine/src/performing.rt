@@ -100,7 +100,8 @@ fn store(value: u64, at: u64, pc: &mut u64, stop: &mut Option<Cause>, bank: &mut
 }
 
 /// Performs a slot's word at pc, by a hart that isn't stopped. It leaves the next pc, or the cause for which the hart stops, and
-/// says whether the hart goes on. A stop changes nothing else. It takes no memory.
+/// says whether the hart goes on. A stop changes nothing else, but that the program's SC clears the hart's reservation also where it
+/// stops. It takes no memory.
 #[inline(always)]
 #[tactic(auto, using(crate::proofs::Performed::run_fits, crate::proofs::Performed::load_fits, crate::proofs::Performed::store_fits, crate::proofs::Performed::access_fits))]
 pub fn perform(

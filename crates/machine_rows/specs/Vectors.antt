@@ -1,8 +1,8 @@
 -- What a vector says of a word, and when it is so here.
-use Rattle.std.specs.Prelude.{◌≡◌, ℕ, ◌+◌, ◌/◌, ◌%◌, ◌^◌, ◌==◌, if◌then◌else◌, Bool, true, false, Option, Some, None, List, replicate, slice_set, option_map}
+use Rattle.std.specs.Prelude.{◌≡◌, ℕ, ◌+◌, ◌/◌, ◌%◌, ◌^◌, ◌==◌, if◌then◌else◌, Bool, true, false, Option, Some, None, List, replicate, option_map}
 use Rattle.std.specs.Result.{result_ok}
 use Rattle.rv_asm.specs.Tokens.{◌>>=◌}
-use Rattle.rv_word.specs.Exec.{Prog, Outcome, Stops, Goes, set_mem, exec_of}
+use Rattle.rv_word.specs.Exec.{Prog, Outcome, Stops, Goes, set_mem, without_reservation, exec_of}
 use Rattle.rv_word.specs.Memory.{Memory, load, store}
 use Rattle.rv_word.specs.Registers.{reg, with_reg}
 use Rattle.rv_word.specs.Table.{decode_of}
@@ -34,10 +34,6 @@ accessed (Lr width rd rs1 order) first = Some first
 accessed (Sc width rd rs1 rs2 order) first = Some first
 accessed (Amo op width rd rs1 rs2 order) first = Some first
 accessed other first = None
-
--- hart h has no reservation
-abbrev pub freed : Prog → ℕ → Prog
-freed p h = set_mem p p.mem (slice_set p.resv h None)
 
 -- these eight bytes stand at the address that is accessed
 abbrev pub prepared : Prog → Option ℕ → Option ℕ → Option Prog
@@ -88,7 +84,7 @@ result_left other word pc next_pc regs bytes = Some (reg regs (register word RD)
 abbrev pub left_by : Prog → ℕ → ℕ → Setting → Option Left
 left_by p h word s = do
   i ← decode_of word
-  ready ← prepared (freed p h) (accessed i s.first) s.memory
+  ready ← prepared (without_reservation h p) (accessed i s.first) s.memory
   before ← reserved s.reserved i s.pc h (registers word s) ready
   after ← gone (exec_of word s.pc h before.regs before.prog)
   bytes ← bytes_left after.prog.mem (accessed i s.first)

@@ -1,8 +1,7 @@
 -- What a word leaves of the state before it.
-use Rattle.std.specs.Prelude.{ℕ, ◌≡◌, List, Option, Some, None, Result, Ok, Err, length}
-use Rattle.rv_word.specs.Exec.{Prog, Outcome, Done, done, next, prog_of}
+use Rattle.std.specs.Prelude.{ℕ, ◌≡◌, List, Option, Some, None, length}
+use Rattle.rv_word.specs.Exec.{Prog, Outcome, done, prog_of}
 use Rattle.rv_word.specs.Memory.{Memory}
-use Rattle.rv_word.specs.Registers.{with_reg}
 use Rattle.rv_word.specs.declared.outcome.Cause.{Cause}
 use Rattle.rv_word.specs.declared.outcome.Next.{Next}
 use Rattle.rv_word.specs.declared.outcome.Next.TheVariants.{Go, Stop}
@@ -28,8 +27,3 @@ pub record Gives (does : List ℕ → Prog → Outcome) (old : State) (next : Ne
 abbrev pub next_after : Option Cause → ℕ → Next
 next_after None pc = Go pc
 next_after (Some cause) pc = Stop cause
-
--- what a word at pc leaves that puts a value into rd, or stops
-abbrev pub answering : Result ℕ Cause → ℕ → ℕ → List ℕ → Prog → Done
-answering (Ok value) rd pc regs p = record { next = Go (next pc); regs = with_reg regs rd value; prog = p }
-answering (Err cause) rd pc regs p = record { next = Stop cause; regs = regs; prog = p }

@@ -6,9 +6,9 @@ ghost use Rattle.rv_word.specs.Memory.{load};
 ghost use Rattle.rv_word.specs.Values.{atomic_len, answered, less_signed, less_unsigned, left_by};
 ghost use Rattle.rv_word.specs.Words.{HasWord};
 ghost use Rattle.rv_word.specs.declared.action.Action.TheVariants.{LoadReserved, StoreConditional, AtomicAccess};
-ghost use Rattle.rv_exec.specs.AtomicAccesses.{IsAtomicAccess};
+ghost use Rattle.rv_exec.specs.AtomicAccesses.{IsAtomicAccess, answering};
 ghost use Rattle.rv_exec.specs.Flat.{instr_of};
-ghost use Rattle.rv_exec.specs.Gives.{Gives, state_from, answering, next_after};
+ghost use Rattle.rv_exec.specs.Gives.{Gives, state_from, next_after};
 
 use crate::flat::Flat;
 use crate::outcomes::{cause_of, next_pc};
@@ -117,7 +117,8 @@ fn load_reserved(
     Ok(answer(width, old))
 }
 
-/// An SC. It clears the hart's reservation, also where it stops. It answers 0 where it stored, and 1 where the hart had no reservation.
+/// An SC. It clears the hart's reservation, also where it stops. It answers 0 where it stored, and 1 where the hart had no
+/// reservation.
 #[tactic(auto, unfolding(rv_word::specs::Exec::perform))]
 fn store_conditional(
     width: AtomicWidth,

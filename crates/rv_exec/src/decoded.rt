@@ -54,8 +54,8 @@ impl Decoded {
     }
 
     /// Executes the word at pc, by a hart that isn't stopped. It leaves the next pc, or the cause for which the hart
-    /// stops, and says whether the hart goes on. A stop changes nothing else, but that an SC clears the hart's reservation also where it stops.
-    /// It takes no memory.
+    /// stops, and says whether the hart goes on. A stop changes nothing else, but that an SC clears the hart's
+    /// reservation also where it stops. It takes no memory.
     #[inline(always)]
     pub fn run(
         &self,

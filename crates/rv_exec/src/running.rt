@@ -28,8 +28,8 @@ pub trait Caller {}
 
 impl Flat {
     /// Executes the instruction at pc, by a hart that isn't stopped. It leaves the next pc, or the cause for which the hart
-    /// stops, and says whether the hart goes on. A stop changes nothing else, but that an SC clears the hart's reservation also where it stops.
-    /// It takes no memory.
+    /// stops, and says whether the hart goes on. A stop changes nothing else, but that an SC clears the hart's
+    /// reservation also where it stops. It takes no memory.
     #[inline(always)]
     #[tactic(auto, unfolding(rv_word::specs::Exec::action, rv_word::specs::Exec::perform))]
     pub fn run<C: Caller>(

@@ -56,8 +56,8 @@ fn image(alloc: Global) -> Result<Image, NoMemory>
 
 impl Machine {
     ghost use Rattle.machine_rows.specs.Machines.{prog_in, Reaches};
-    ghost use Rattle.machine_rows.specs.Vectors.{Agrees, bytes_left, freed, gone, left_by, prepared, reserved};
-    ghost use Rattle.rv_word.specs.Exec.{exec_of};
+    ghost use Rattle.machine_rows.specs.Vectors.{Agrees, bytes_left, gone, left_by, prepared, reserved};
+    ghost use Rattle.rv_word.specs.Exec.{exec_of, without_reservation};
 
     /// The machine at its start.
     pub fn new(alloc: Global) -> Result<Machine, NoMemory> {
@@ -72,7 +72,7 @@ impl Machine {
     /// Clears the reservation.
     fn free(&mut self)
         ensures hart { self.new.hart ≡ self.old.hart }
-        ensures freed { prog_in self.new ≡ freed (prog_in self.old) self.old.hart }
+        ensures freed { prog_in self.new ≡ without_reservation self.old.hart (prog_in self.old) }
     {
         self.reservations.set(self.hart, None);
     }
