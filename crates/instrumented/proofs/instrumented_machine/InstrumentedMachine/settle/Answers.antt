@@ -9,11 +9,11 @@ use Rattle.instrumented.proofs.instrumented_machine.InstrumentedMachine.settle.G
 pub invariant_of-self : goal.invariant_of-self
 invariant_of-self c =
     let s = c.self.inside in
-    (turns_kept (settling (s.machine).core) s.machine c.settle.new.self s.placer c.self.invariant (settling_all (s.machine).core) (settling_legal (state_of s.machine s.placer) c.self.invariant.reached) c.settle.ensures.settled).1
+    (turns_kept (settling (s.machine).core) s.machine c.take_settling.new.self s.placer c.self.invariant (settling_all (s.machine).core) (settling_legal (state_of s.machine s.placer) c.self.invariant.reached) c.take_settling.ensures.settled).1
 
 pub returns-clause-settled : goal.returns-clause-settled
 returns-clause-settled c =
     let s = c.self.inside in
-    let kept = turns_kept (settling (s.machine).core) s.machine c.settle.new.self s.placer c.self.invariant (settling_all (s.machine).core) (settling_legal (state_of s.machine s.placer) c.self.invariant.reached) c.settle.ensures.settled in
+    let kept = turns_kept (settling (s.machine).core) s.machine c.take_settling.new.self s.placer c.self.invariant (settling_all (s.machine).core) (settling_legal (state_of s.machine s.placer) c.self.invariant.reached) c.take_settling.ensures.settled in
     ap (λ (x : Instrumented). record { state = x; ready = (s.placer).ready }) kept.0
     ∙ ap (λ (d : InstrumentedData). record d { state = taken (settling d.state.core) d.state }) c.self.view_is
