@@ -13,6 +13,7 @@ use Rattle.machine.specs.Places.{holds}
 use Rattle.machine.specs.Replays.{Legal}
 use Rattle.machine.specs.States.{Machine, with_core}
 use Rattle.machine.proofs.Inside.{any_true}
+use Rattle.machine.proofs.KeptRows.{tool_high}
 use Rattle.instrument.specs.Books.{freed_point}
 use Rattle.instrument.specs.Handing.{event_of, is_barred}
 use Rattle.instrument.specs.Placements as placements
@@ -48,7 +49,7 @@ module _ (m : Instrumented) (r : IsReached m) where
       let good : GoodMini m.core.program b = s.0 in
       let ok : Ok (stage (filter is_now m.core.rows) k.fr) (WriteMini b) = s.1 in
       let high = (good.place).high in
-      let top = ((k.inv).ground).high in
+      let top = tool_high m.core k.reached in
       record {
         some = good.some;
         low = omega arith;
