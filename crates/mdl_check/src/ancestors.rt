@@ -110,6 +110,7 @@ fn clears(
     requires { IsAncestry parents.now (map (λ l. l.items) children.old.items) clear.old.items }
     ensures { IsAncestry parents.now (map (λ l. l.items) children.new.items) clear.new.items }
 {
+    // The clauses speak of it, and what no line reads isn't known to the prover.
     let _parents = parents;
     if is_clear(clear.as_slice(), place) {
         return false;

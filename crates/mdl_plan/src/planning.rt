@@ -78,9 +78,9 @@ fn planned(
 /// points ascend, the tool's code measures the plan: the conditions are on counters of the plan and on the arguments 0 to
 /// 7, a statement counts a counter or starts and stops a timer, and no number in it is 2^31 or above.
 ///
-/// The tree's procedures are the index's, and so are the points, by address. The work is n log n in the points of the
-/// procedures that the insertions select, and linear in the constraints, which are looked through for each of the two that the
-/// metric names; four lists of a number for each procedure are set to 0.
+/// The tree's procedures are the index's, and the points are theirs, by address. The work is n log n in the points of the
+/// procedures that the insertions select, and linear in the configuration's constraints, which are looked through for each
+/// name that the metric has of them; four lists of a number for each procedure are set to 0.
 pub fn plan(
     alloc: Global,
     checked: &Checked,

@@ -143,6 +143,7 @@ impl CodeTree {
         requires { HasFewMembers (length self.now.procs) self.now.modules }
         ensures { result ≡ length (procs_of_module self.now number) }
     {
+        // A read field brings in the invariant, which bounds the members.
         let _paths = &self.paths;
         self.members(number).len() as u32
     }

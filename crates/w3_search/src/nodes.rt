@@ -101,6 +101,7 @@ impl Nodes {
         ensures list { result.now ≡ self.now }
         ensures few { length self.now ≤ MAX_NODES }
     {
+        // A read field brings in the invariant, which bounds the nodes.
         let _few = &self.index;
         self.list.as_slice()
     }
