@@ -142,6 +142,6 @@ is_run i s lasts k =
       owns = t.owned;
       time = k.time;
       budget = subst KeepsBudget (sym w.core) (budget_is_kept i.image i.settings.harts i.settings.budget es t.program w.legal);
-      run = subst (IsLegal i.image i.settings.harts i.settings.budget) (sym t.owned) e.legal;
+      legal_run = subst (IsLegal i.image i.settings.harts i.settings.budget) (sym t.owned) e.legal;
       same = subst (λ c. SameProgram c (run i.image i.settings.harts s.owns)) (sym w.core) (subst (λ l. SameProgram (replay es (start_core i.image i.settings.harts i.settings.budget)) (run i.image i.settings.harts l)) (sym t.owned) e.same);
     }

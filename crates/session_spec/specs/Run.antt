@@ -19,5 +19,5 @@ pub record IsRun (i : Inputs) (s : State) : Type 0 where
   pub owns : s.owns ≡ owns events (start_core i.image i.settings.harts i.settings.budget)
   pub time : s.kept.time ≡ length s.owns
   pub budget : KeepsBudget (s.kept.machine).core
-  pub run : IsLegal i.image i.settings.harts i.settings.budget s.owns
+  pub legal_run : IsLegal i.image i.settings.harts i.settings.budget s.owns
   pub same : SameProgram (s.kept.machine).core (run i.image i.settings.harts s.owns)
