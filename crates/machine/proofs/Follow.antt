@@ -70,10 +70,13 @@ follows_rework ps f n fam age up fa ag =
 
 -- where no family or age changes
 pub still : (ps : List Piece) (f : Row → Status) (n : Piece → ℕ) (clock : ℕ) → ((x : Piece) → In x ps → Linked (rework f n (λ q. q.family) (λ q. q.age) x) → Linked x) → (l : Linkings) → Numbers l ps clock → Numbers l (map (rework f n (λ q. q.family) (λ q. q.age)) ps) clock
-still ps f n clock back l k = (k.0, λ y h ly.
-    let r = in_map (rework f n (λ q. q.family) (λ q. q.age)) ps y h in
-    let o = k.1 r.0 r.1 (back r.0 r.1 (subst Linked r.2 ly)) in
-    subst (λ (z : Piece). (z.age ≡ l.number z.row.at) × (z.family ≡ l.under z.row.at)) (sym r.2) o)
+still ps f n clock back l k = (
+  k.0,
+  λ y h ly.
+      let r = in_map (rework f n (λ q. q.family) (λ q. q.age)) ps y h in
+      let o = k.1 r.0 r.1 (back r.0 r.1 (subst Linked r.2 ly)) in
+      subst (λ (z : Piece). (z.age ≡ l.number z.row.at) × (z.family ≡ l.under z.row.at)) (sym r.2) o,
+)
 
 -- an event that changes words and statuses alone
 pub reworked : (c : Core) (s : Plain) (v : Inv c s) (f : Row → Status) (n fam age : Piece → ℕ) (but : ℕ → Type 0) (more : Linkings → Linkings) (code : Code) (clock : ℕ) → 0 < clock

@@ -214,14 +214,16 @@ module _ (l : Linkings) (c : Core) (s : Plain) (v : Inv c s) (told : Numbers l v
   family_block r h b w =
       let p = listed r h in
       let k = is_linked p.0 r p.2 b w in
-      let f = (v.static).families p.0 p.1 k in
-      ((f.0).row, record {
-        listed = among f.0 (f.1).is_in;
-        base = ((f.1).base).base;
-        under = ap (λ (z : Row). l.under z.at) p.2 ∙ (family_is p.0 p.1 k ∙ sym (f.1).at);
-        point = ap (λ (z : Row). z.point) p.2 ∙ sym (f.1).point;
-        current = λ e. (v.static).used p.0 f.0 p.1 k f.1 (ap (λ (z : Row). z.status) (sym p.2) ∙ e);
-      })
+      let f = (v.static).families p.0 p.1 k in (
+        (f.0).row,
+        record {
+          listed = among f.0 (f.1).is_in;
+          base = ((f.1).base).base;
+          under = ap (λ (z : Row). l.under z.at) p.2 ∙ (family_is p.0 p.1 k ∙ sym (f.1).at);
+          point = ap (λ (z : Row). z.point) p.2 ∙ sym (f.1).point;
+          current = λ e. (v.static).used p.0 f.0 p.1 k f.1 (ap (λ (z : Row). z.status) (sym p.2) ∙ e);
+        },
+      )
 
   way_of : (r : Row) → In r c.rows → r.base ≡ false → WasLinked r → LeadsDown l c (l.under r.at) (l.number r.at) (next_of c.code r) (is_live r.status)
   way_of r h b w =

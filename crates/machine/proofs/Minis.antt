@@ -281,9 +281,12 @@ module _ (c : Core) (s : Plain) (v : Inv c s) (p m : ℕ) (b r : Row) (eb : curr
 
   -- the linking of the mini block is the newest
   numbers : (l : Linkings) → Numbers l v.ps v.clock → Numbers (link_under (Some (pb.d).row) m l) (map (rework f n fam age) v.ps) (v.clock + 1)
-  numbers l k = (ap (λ z. z + 1) k.0, λ y h ly.
-      let r = in_map (rework f n fam age) v.ps y h in
-      subst (λ (z : Piece). (z.age ≡ (link_under (Some (pb.d).row) m l).number z.row.at) × (z.family ≡ (link_under (Some (pb.d).row) m l).under z.row.at)) (sym r.2) (told r.0 r.1 (subst Linked r.2 ly)))
+  numbers l k = (
+    ap (λ z. z + 1) k.0,
+    λ y h ly.
+        let r = in_map (rework f n fam age) v.ps y h in
+        subst (λ (z : Piece). (z.age ≡ (link_under (Some (pb.d).row) m l).number z.row.at) × (z.family ≡ (link_under (Some (pb.d).row) m l).under z.row.at)) (sym r.2) (told r.0 r.1 (subst Linked r.2 ly)),
+  )
     where
       told : (x : Piece) → In x v.ps → Linked (rework f n fam age x) → (age x ≡ cond (x.row.at == m) (l.count + 1) (l.number x.row.at)) × (fam x ≡ cond (x.row.at == m) (pb.d).row.at (l.under x.row.at))
       told x h lx = ⊎_elim

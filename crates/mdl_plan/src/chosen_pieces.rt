@@ -121,11 +121,7 @@ impl ChosenPieces {
     }
 
     /// The places of the points of the procedures for which a piece is chosen, ascending.
-    pub(crate) fn places(
-        &self,
-        alloc: Global,
-        by_proc: &PointPlaces,
-    ) -> Result<Vec<u32>, NoMemory>
+    pub(crate) fn places(&self, alloc: Global, by_proc: &PointPlaces) -> Result<Vec<u32>, NoMemory>
         ensures { IfOk result (λ places. HavePlaces self.now by_proc.now places.items) }
     {
         let mut places = Vec::new(alloc);

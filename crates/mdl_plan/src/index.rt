@@ -149,11 +149,7 @@ impl PlanIndex {
     /// # Errors
     ///
     /// `NoMemory` where memory is wanting.
-    pub fn new(
-        alloc: Global,
-        procs: Seq<Proc>,
-        points: Seq<Point>,
-    ) -> Result<PlanIndex, NoMemory>
+    pub fn new(alloc: Global, procs: Seq<Proc>, points: Seq<Point>) -> Result<PlanIndex, NoMemory>
         requires procs { length procs < 2 ^ 32 }
         requires points { length points < 2 ^ 32 }
         ensures { IfOk result (λ index. index ≡ record { procs = procs; points = points }) }

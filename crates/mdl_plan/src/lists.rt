@@ -91,11 +91,7 @@ fn numbers_of(rows: &[Row], row: usize) -> &[usize]
 }
 
 /// Adds the places of the points of the rows' procedures.
-fn add_places(
-    places: &mut Vec<u32>,
-    by_proc: &PointPlaces,
-    rows: &[Row],
-) -> Result<(), NoMemory>
+fn add_places(places: &mut Vec<u32>, by_proc: &PointPlaces, rows: &[Row]) -> Result<(), NoMemory>
     ensures { OnOk result (places.new.items ≡ places.old.items ++ flat_map (λ row. slice_index_or by_proc.now row.proc_no []) rows.now) }
 {
     for row in rows {
