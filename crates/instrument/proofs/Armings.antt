@@ -12,13 +12,13 @@ use Rattle.machine.specs.Events as events
 use Rattle.machine.specs.Events.{Event, May, MayArm}
 use Rattle.machine.specs.Instruments.{InForce}
 use Rattle.machine.proofs.Lists.{in_map, map_in, find_gives}
-use Rattle.instrument.specs.Placements.{is_leaving, with_state, instrument_at, armed}
+use Rattle.instrument.specs.Placements.{is_leaving, with_state, armed}
 use Rattle.instrument.specs.declared.instrument.Instrument.{Instrument}
 use Rattle.instrument.specs.Placements as placements
 use Rattle.tramp_spec.specs.Slots as slots
 use Rattle.machine.specs.Instruments as instruments
 use Rattle.instrument.specs.Scenes as scenes
-use Rattle.instrument.specs.Scenes.{Scene, Told, told, arms, CanArm, IsTurnOrSample, Happens, Arms}
+use Rattle.instrument.specs.Scenes.{Scene, told, arms, CanArm, IsTurnOrSample, Happens, Arms}
 use Rattle.instrument.specs.declared.number.State as states
 use Rattle.instrument.specs.declared.number.State.TheVariants.{Placing, Armed}
 use Rattle.instrument.proofs.Steps.{State, Happened, LeavesBlocks}

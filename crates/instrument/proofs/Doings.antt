@@ -9,7 +9,7 @@ use Rattle.tramp_spec.specs.Marks.{own, enter}
 use Rattle.machine.specs.Cores.{In, Row, Written, Live, Retired, Core, is_current}
 use Rattle.machine.specs.Effects.{with_status, at_set, retired_at, is_kept, point_linked, point_unlinked, mini_linked, mini_unlinked, after}
 use Rattle.machine.specs.Events as events
-use Rattle.machine.specs.Events.{May, current_base, row_at, is_linked, next_of}
+use Rattle.machine.specs.Events.{May, current_base, row_at, is_linked}
 use Rattle.machine.specs.Kept.{IsOpen}
 use Rattle.machine.specs.Reached.{IsReached}
 use Rattle.machine.proofs.Effects.{at_hit, at_miss}

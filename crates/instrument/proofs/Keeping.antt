@@ -5,7 +5,7 @@ use Rattle.std.proofs.lemmas.Bool.{true≢false, cases_eq, cond-true, cond-false
 use Rattle.machine.specs.Cores.{In, Row, Status, Live, Core}
 use Rattle.machine.specs.Effects.{with_status, at_set, after}
 use Rattle.machine.specs.Events as events
-use Rattle.machine.specs.Events.{Event, May, IsQuiet}
+use Rattle.machine.specs.Events.{May}
 use Rattle.machine.specs.Reached.{IsReached}
 use Rattle.machine.proofs.Effects.{fixed}
 use Rattle.machine.proofs.Lists.{in_map, in_filter}

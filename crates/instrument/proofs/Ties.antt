@@ -14,7 +14,7 @@ use Rattle.tramp_spec.specs.declared.mark.MarkedWord.{MarkedWord}
 use Rattle.machine.specs.Cores.{In, Row, Status, Written, Live, Retired, Core, is_current}
 use Rattle.machine.specs.Effects.{with_status, at_set, lead_to, mini_linked, mini_unlinked, row_of, after}
 use Rattle.machine.specs.Events as events
-use Rattle.machine.specs.Events.{Event, May, MayWrite, HasShape, Apart, HasMini, current_base, row_at, link_at, next_of}
+use Rattle.machine.specs.Events.{May, HasShape, Apart, current_base, row_at, link_at, next_of}
 use Rattle.machine.specs.Instruments.{body_of_block}
 use Rattle.machine.specs.Reached.{IsReached}
 use Rattle.machine.proofs.Effects.{at_hit, at_miss}

@@ -8,7 +8,7 @@ use Rattle.tramp_spec.specs.declared.block.Block.{Block}
 use Rattle.machine.specs.Cores.{Core}
 use Rattle.machine.specs.Effects.{after}
 use Rattle.machine.specs.Events as events
-use Rattle.machine.specs.Events.{IsQuiet, May, MayWrite, StandsIn, current_base}
+use Rattle.machine.specs.Events.{May}
 use Rattle.machine.specs.Places.{holds}
 use Rattle.machine.specs.Replays.{Legal}
 use Rattle.machine.specs.States.{Machine, with_core}
@@ -17,7 +17,7 @@ use Rattle.machine.proofs.KeptRows.{tool_high}
 use Rattle.instrument.specs.Books.{freed_point}
 use Rattle.instrument.specs.Handing.{event_of, is_barred}
 use Rattle.instrument.specs.Placements as placements
-use Rattle.instrument.specs.Placements.{Placements, behind, free_behind, free_front, front, put_back}
+use Rattle.instrument.specs.Placements.{Placements, behind, free_behind, free_front, put_back}
 use Rattle.instrument.specs.Scenes.{Hands, Sweeps, frees, hands, hands_by, sweeps}
 use Rattle.instrument.specs.Shown.{shown}
 use Rattle.instrument.specs.declared.entry.Entry.{Entry}

@@ -1,27 +1,23 @@
 -- What is kept at every event, out of what is known of the blocks.
-use Rattle.std.proofs.Common.{◌≡◌, ◌≢◌, ℕ, zero, suc, ◌+◌, ◌-◌, ◌*◌, ◌%◌, ◌^◌, ◌<◌, ◌≤◌, List, [], ◌∷◌, length, Option, Some, None, refl, sym, ap, ◌∙◌, subst, arith, ⊎_elim, inl, inr}
-use Rattle.std.specs.Prelude.{Bool, true, false, slice_get, find, ◌⊎◌, ◌==◌}
-use Rattle.std.proofs.lemmas.Bool.{true≢false, eq-eqb, eqb-true, cases_order}
-use Rattle.pn_types.specs.declared.image.Image.{Image}
-use Rattle.rv_word.specs.Plain.{Words, PlainHart, Plain, program_word}
+use Rattle.std.proofs.Common.{◌≡◌, ◌≢◌, ℕ, zero, suc, ◌+◌, ◌*◌, ◌<◌, ◌≤◌, List, [], ◌∷◌, length, Option, Some, None, refl, sym, ap, ◌∙◌, subst, arith, ⊎_elim, inl, inr}
+use Rattle.std.specs.Prelude.{Bool, true, false, slice_get, ◌⊎◌}
+use Rattle.std.proofs.lemmas.Bool.{true≢false, cases_order}
+use Rattle.rv_word.specs.Plain.{PlainHart, Plain, program_word}
 use Rattle.rv_word.specs.declared.outcome.Cause.{Cause}
 use Rattle.rv_mem.specs.Start.{program_of}
 use Rattle.rv_exec.specs.Start.{start}
 use Rattle.rv_exec.specs.Run.{run_from}
-use Rattle.tramp_spec.specs.Codes.{Code}
 use Rattle.tramp_spec.specs.Blocks.{tail_of}
 use Rattle.tramp_spec.specs.Harts.{Hart}
 use Rattle.tramp_spec.specs.MovedWords.{own_place}
 use Rattle.tramp_spec.proofs.Hops.{Hops}
-use Rattle.machine.specs.Cores.{In, Row, Written, Live, Core, is_live, is_current, start_core}
-use Rattle.machine.specs.Events.{Event, Apart, next_of}
-use Rattle.machine.specs.Kept.{IsJump, IsBaseBlock, IsMiniBlock, IsBlock, WasLinked, IsOpen, IsTextWord, Linkings, linkings, no_linkings, IsUnder, Way, AreOlder, LeadsDown, HasBase, IsBeforeTick, IsInside, IsKept, Keeps}
-use Rattle.machine.specs.Laws.{IsProgram}
-use Rattle.machine.specs.Places.{block_at}
+use Rattle.machine.specs.Cores.{In, Row, Live, Core, is_live, is_current, start_core}
+use Rattle.machine.specs.Events.{Apart, next_of}
+use Rattle.machine.specs.Kept.{IsJump, IsBaseBlock, IsMiniBlock, IsBlock, WasLinked, IsOpen, Linkings, linkings, no_linkings, IsUnder, Way, AreOlder, LeadsDown, HasBase, IsBeforeTick, IsInside, IsKept, Keeps}
 use Rattle.machine.specs.Replays.{replay, owns}
 use Rattle.machine.proofs.Beginning.{begins, begins_numbers}
-use Rattle.machine.proofs.Homes.{piece_of, row_in, base_shape, one_block, block_is}
-use Rattle.machine.proofs.Invariant.{Piece, the_row, IsBase, Linked, LiveOf, BaseShape, MiniShape, Leads, Door, BasePlace, InBase, InMini, HartOk, Dynamic, Inv}
+use Rattle.machine.proofs.Homes.{piece_of, row_in, base_shape, block_is}
+use Rattle.machine.proofs.Invariant.{Piece, the_row, IsBase, Linked, LiveOf, BaseShape, MiniShape, Leads, Door, BasePlace, HartOk, Dynamic, Inv}
 use Rattle.machine.proofs.Lists.{same_some}
 use Rattle.machine.proofs.Minis.{next_is}
 use Rattle.machine.proofs.Standing.{in_base, in_mini}

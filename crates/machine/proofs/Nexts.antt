@@ -9,7 +9,7 @@ use Rattle.rv_word.specs.Registers.{reg, with_reg}
 use Rattle.rv_word.specs.Table.{decode_of}
 use Rattle.rv_word.specs.Words.{word_of}
 use Rattle.rv_word.specs.Exec.{Prog, Outcome, Stops, Goes, done, exec_of, next}
-use Rattle.rv_word.specs.Plain.{Words, PlainHart, Alone, program_word, may_go, after_done, hart_after}
+use Rattle.rv_word.specs.Plain.{Words, PlainHart, program_word, after_done, hart_after}
 use Rattle.rv_word.specs.Plain as plain
 use Rattle.rv_word.specs.declared.outcome.Next.TheVariants.{Go}
 use Rattle.rv_word.specs.declared.instr.Instr.TheVariants.{Load, Store}

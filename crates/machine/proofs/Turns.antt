@@ -7,7 +7,7 @@ use Rattle.std.proofs.lemmas.Grind.{common_steps}
 use Rattle.rv_word.specs.Names.{has_scratch}
 use Rattle.rv_word.specs.Registers.{reg, with_reg}
 use Rattle.rv_word.specs.Exec.{Prog, Outcome, Stops, Goes, done, exec_of, next}
-use Rattle.rv_word.specs.Plain.{Words, PlainHart, Alone, program_word, may_go, after_done, hart_after}
+use Rattle.rv_word.specs.Plain.{Words, PlainHart, program_word, may_go, after_done, hart_after}
 use Rattle.rv_word.specs.Plain as plain
 use Rattle.rv_word.specs.declared.outcome.Cause.{Cause}
 use Rattle.rv_word.specs.declared.outcome.Next.TheVariants.{Go}

@@ -4,7 +4,7 @@ use Rattle.std.specs.Prelude.{◌≡◌, ◌≢◌, ℕ, ◌+◌, ◌*◌, ◌%�
 use Rattle.std.specs.FinMap.{get}
 use Rattle.pn_types.specs.declared.limits.TheConstants.{TOOL_TEXT_LEN}
 use Rattle.pn_types.specs.declared.image.Image.{Image}
-use Rattle.rv_word.specs.Plain.{Words, program_word}
+use Rattle.rv_word.specs.Plain.{program_word}
 use Rattle.rv_word.specs.Table.{decode_of}
 use Rattle.rv_word.specs.Words.{word_of}
 use Rattle.rv_word.specs.declared.instr.Instr.TheVariants.{Jal, Load, Store}
@@ -21,7 +21,7 @@ use Rattle.machine.specs.Cores.{In, Row, Written, Live, Core, is_current, is_liv
 use Rattle.machine.specs.Effects.{after}
 use Rattle.machine.specs.Events.{Event, LinkMini, Apart, current_base, next_of}
 use Rattle.machine.specs.Laws.{IsProgram}
-use Rattle.machine.specs.Places.{block_at, word_no}
+use Rattle.machine.specs.Places.{block_at}
 use Rattle.machine.specs.Replays.{replay, Legal}
 
 -- ---- words
