@@ -14,6 +14,6 @@ git clone -q "$top" "$copy/repository"
 cd "$copy/repository"
 mkdir -p crates/random_patches/src
 cp "$top/tools/random_patches.rs" crates/random_patches/src/main.rt
-echo "random_patches: pn_types rv_word rv_mem rv_exec tramp_spec relocate tramp_build prim_code code_store tool_space elf_form elf_load turn_order plain_run machine" >> crates.txt
+echo "random_patches: pn_types rv_word rv_mem rv_exec tramp_spec relocate tramp_build prim_code code_store tool_space elf_form elf_load plain_run machine" >> crates.txt
 cd crates/random_patches
 rt try --seconds 100000 -- "$@"
