@@ -16,7 +16,8 @@ use Rattle.session_spec.specs.Inputs.{Inputs, cause_of_plan, cause_of_refusal, p
 use Rattle.session_spec.specs.States.{Kept}
 use Rattle.session_spec.specs.Admission.{shown_now, with_admission, with_answer, with_drop, with_plan, with_refused, with_show, with_wish, with_wishes}
 use Rattle.session_spec.specs.Opening.{with_all}
-use Rattle.session_spec.specs.Reads.{desk_admitted, hists_with, lasts_with}
+use Rattle.session_spec.specs.Readings.{lasts_with}
+use Rattle.session_spec.specs.Reads.{desk_admitted, hists_with}
 use Rattle.session_spec.specs.Tests.{taken_at_once, with_tests}
 use Rattle.session_spec.proofs.Going.{wish_time}
 use Rattle.session_kits.specs.declared.kit.Kit.{Kit}

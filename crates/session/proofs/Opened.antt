@@ -18,7 +18,8 @@ use Rattle.session_spec.specs.Inputs.{Inputs, later_wishes}
 use Rattle.session_spec.specs.Opening.{opened, with_agenda}
 use Rattle.session_spec.specs.States.{Kept}
 use Rattle.session_spec.specs.Work.{first_state, work}
-use Rattle.session_spec.specs.Reads.{Desk, IsDesk, IsSound, desk_armed, desk_of, hists_with, lasts_with, marks_of}
+use Rattle.session_spec.specs.Readings.{lasts_with}
+use Rattle.session_spec.specs.Reads.{Desk, IsDesk, IsSound, desk_armed, desk_of, hists_with, marks_of}
 use Rattle.session_spec.proofs.Begins.{first_marks, first_quiet, opened_lasts, opens, picked}
 use Rattle.session_kits.specs.declared.kit.Kit.{Kit}
 use Rattle.session.specs.Given.{AreGiven}

@@ -18,7 +18,7 @@ use Rattle.mdl_plan.specs.declared.fault.PlanFault.TheVariants.{TooManySites}
 use Rattle.mdl_plan.proofs.Starting.{started_answers, started_measurable, started_over}
 use Rattle.instrument.proofs.Armable.{armable_plan}
 use Rattle.session_spec.specs.Inputs.{Inputs, plan_by, planned}
-use Rattle.session_spec.specs.Reads.{ArePlansGood}
+use Rattle.session_spec.specs.Plans.{ArePlansGood}
 use Rattle.session_spec.proofs.Firsts.{plan_first}
 use Rattle.session_spec.proofs.Good.{few_slots, plans_sound, site_word}
 use Rattle.session_spec.proofs.Lists.{all_of}

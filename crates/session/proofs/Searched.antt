@@ -3,9 +3,9 @@ use Rattle.std.proofs.Common.{◌≡◌, ◌<◌, ◌≤◌, ◌^◌, Option, So
 use Rattle.std.specs.Prelude.{List, true, false, cond}
 use Rattle.mdl_ast.specs.declared.items.SearchDecl.{SearchDecl}
 use Rattle.mdl_check.specs.declared.checked.CheckedWish.{CheckedWish}
-use Rattle.search_laws.specs.Costs.{IsWithin}
-use Rattle.search_laws.proofs.Spending.{costs_stay}
-use Rattle.search_laws.proofs.Telling.{told}
+use Rattle.session_laws.specs.Costs.{IsWithin}
+use Rattle.session_laws.proofs.Spending.{costs_stay}
+use Rattle.session_laws.proofs.Telling.{told}
 use Rattle.session_spec.specs.Inputs.{Inputs}
 use Rattle.session_spec.specs.Reads.{Desk}
 use Rattle.session_spec.specs.Searches.{rules_by, rules_of}

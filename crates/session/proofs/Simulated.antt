@@ -15,9 +15,9 @@ use Rattle.session_spec.specs.Inputs.{Inputs}
 use Rattle.session_spec.specs.States.{Kept}
 use Rattle.session_spec.specs.Due.{all_armed, arm_all, is_armed, is_ready, machine_armed, place_behind, sampled_to, with_arms, with_frees, with_next, with_samples}
 use Rattle.session_spec.specs.Turns.{with_entries, with_hart, with_quiet}
-use Rattle.session_spec.specs.Ties.{read_now, reading_by}
+use Rattle.session_spec.specs.Readings.{lasts_armed, lasts_now, read_now, reading_by, ticks_between, ticks_of}
 use Rattle.session_spec.specs.Verdicts.{with_search_end, with_verdicts}
-use Rattle.session_spec.specs.Reads.{desk_armed, desk_ended, desk_freed, desk_judged, desk_next, desk_quiet, desk_sampled, desk_tests, desk_turned, hists_read, lasts_armed, lasts_now, latest_read, node_read_by, nodes_read, ticks_between, ticks_of}
+use Rattle.session_spec.specs.Reads.{desk_armed, desk_ended, desk_freed, desk_judged, desk_next, desk_quiet, desk_sampled, desk_tests, desk_turned, hists_read, latest_read, node_read_by, nodes_read}
 use Rattle.w3_search.specs.declared.node.NodeSample.{NodeSample}
 use Rattle.w3_search.specs.Steps.{search_step}
 use Rattle.session_kits.proofs.Dropped.{without_tests_are}

@@ -10,7 +10,7 @@ use Rattle.instrument.specs.Admission.{slot_count}
 use Rattle.instrument.specs.Armable.{IsArmable}
 use Rattle.session_spec.specs.Inputs.{Inputs, cause_of_plan, planned}
 use Rattle.session_spec.specs.Searches.{bar_of_plan}
-use Rattle.session_spec.specs.Ties.{IsGood}
+use Rattle.session_spec.specs.Plans.{IsGood}
 
 -- a plan that can be measured, is short, and can be armed
 pub record IsShort (i : Inputs) (plan : Plan) : Type 0 where

@@ -10,7 +10,8 @@ use Rattle.resource_tree.specs.Foci.{harts_of}
 use Rattle.session_spec.specs.Inputs.{Inputs, first_wishes, later_wishes}
 use Rattle.session_spec.specs.Opening.{wished}
 use Rattle.session_spec.specs.Work.{AreAllowed}
-use Rattle.session_spec.specs.Reads.{ArePlansGood, IsDesk}
+use Rattle.session_spec.specs.Plans.{ArePlansGood}
+use Rattle.session_spec.specs.Reads.{IsDesk}
 use Rattle.session_spec.specs.Searches.{rules_of}
 use Rattle.session_spec.specs.Tests.{taken_at_once, with_tests}
 use Rattle.session_kits.specs.declared.kit.Kit.{Kit}

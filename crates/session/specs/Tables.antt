@@ -16,7 +16,8 @@ use Rattle.session_spec.specs.declared.data.RefusedWish.{RefusedWish}
 use Rattle.session_spec.specs.Inputs.{Inputs}
 use Rattle.session_spec.specs.States.{Kept}
 use Rattle.session_spec.specs.Due.{next_due, observed_cost}
-use Rattle.session_spec.specs.Reads.{Desk, desk_admitted, ticks_of}
+use Rattle.session_spec.specs.Readings.{ticks_of}
+use Rattle.session_spec.specs.Reads.{Desk, desk_admitted}
 use Rattle.session_spec.specs.Tests.{taken_at_once}
 use Rattle.w3_search.specs.declared.node.NodeSample.{NodeSample}
 use Rattle.w3_search.specs.Steps.{SearchData, search_step, with_end}

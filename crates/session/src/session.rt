@@ -2,7 +2,7 @@ ghost use Rattle.std.specs.Prelude.{◌≡◌, ℕ, ◌<◌, ◌≤◌, ◌^◌,
 ghost use Rattle.machine.specs.Turns.{is_runnable};
 ghost use Rattle.session_spec.specs.Inputs.{inputs_of};
 ghost use Rattle.session_spec.specs.Opening.{bad_pick};
-ghost use Rattle.search_laws.specs.Costs.{IsWithin};
+ghost use Rattle.session_laws.specs.Costs.{IsWithin};
 ghost use Rattle.session_spec.specs.Run.{IsRun};
 ghost use Rattle.session_spec.specs.Told.{AreTold, AreVerdicts};
 ghost use Rattle.session_spec.specs.Work.{AreAllowed, Halted, IsWhole, quantum_of};

@@ -4,7 +4,7 @@ use Rattle.std.specs.Prelude.{slice_get, slice_index}
 use Rattle.std.specs.List.{AllByRecursion, range_with_len}
 use Rattle.std.specs.Option.{option_map}
 use Rattle.tramp_spec.specs.Harts.{Hart}
-use Rattle.session_spec.specs.Reads.{ticks_between}
+use Rattle.session_spec.specs.Readings.{ticks_between}
 
 abbrev pub all_ticks : List Hart → List ℕ
 all_ticks hs = map (λ (x : Hart). x.ticks) hs

@@ -11,8 +11,7 @@ use Rattle.w3_search.specs.declared.node.NodeSample.{NodeSample}
 use Rattle.session_spec.specs.declared.data.Latest.{Latest}
 use Rattle.session_spec.specs.declared.data.Shown.{Shown}
 use Rattle.session_spec.specs.Due.{is_armed, is_ready, machine_armed, place_behind}
-use Rattle.session_spec.specs.Reads.{ticks_between, ticks_of}
-use Rattle.session_spec.specs.Ties.{reading_by}
+use Rattle.session_spec.specs.Readings.{reading_by, ticks_between, ticks_of}
 use Rattle.session_spec.specs.Verdicts.{tester_of}
 use Rattle.session_kits.specs.declared.kit.Kit.{Kit}
 

@@ -3,7 +3,7 @@
 ghost use Rattle.std.specs.Prelude.{◌≡◌, ◌<◌, ◌≤◌, ◌+◌, ◌^◌, length, slice_index, vec_capacity, vec_len};
 ghost use Rattle.std.specs.List.{AllByRecursion, range_with_len};
 ghost use Rattle.pn_types.specs.declared.limits.TheConstants.{MAX_HARTS};
-ghost use Rattle.session_spec.specs.Reads.{ticks_between, ticks_of};
+ghost use Rattle.session_spec.specs.Readings.{ticks_between, ticks_of};
 
 use instrumented::InstrumentedMachine;
 use pn_types::HartNo;

@@ -8,7 +8,7 @@ ghost use Rattle.machine.specs.Measures.{difference};
 ghost use Rattle.instrument.specs.Placements.{state_of};
 ghost use Rattle.instrument.specs.declared.number.State.TheVariants.{Gone};
 ghost use Rattle.session_spec.specs.Due.{is_armed, place_behind};
-ghost use Rattle.session_spec.specs.Reads.{ticks_between, ticks_of};
+ghost use Rattle.session_spec.specs.Readings.{ticks_between, ticks_of};
 ghost use Rattle.session_kits.specs.Kits.{HasFew, HasHarts, kit_bin, kit_reading, kit_sampled, kits_latest, kits_tests, latest_by, test_by};
 
 use crate::kit::Kit;

@@ -24,8 +24,9 @@ use Rattle.instrumented.proofs.Acts.{done_is, leads_on, plans_behind, whole_of}
 use Rattle.session_spec.specs.declared.data.Shown.{Shown}
 use Rattle.session_spec.specs.Inputs.{Inputs, planned}
 use Rattle.session_spec.specs.Due.{is_armed}
-use Rattle.session_spec.specs.Ties.{AreApart, AreShown, IsGood, IsOther, IsShown, IsTied, opening_of}
-use Rattle.session_spec.specs.Reads.{lasts_with}
+use Rattle.session_spec.specs.Plans.{IsGood}
+use Rattle.session_spec.specs.Ties.{AreApart, AreShown, IsOther, IsShown, IsTied, opening_of}
+use Rattle.session_spec.specs.Readings.{lasts_with}
 use Rattle.session_spec.proofs.Backwards.{armed_before}
 use Rattle.session_spec.proofs.Lasting.{armed_back, led_of}
 use Rattle.session_spec.proofs.Samples.{found}

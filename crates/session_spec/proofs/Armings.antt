@@ -23,8 +23,8 @@ use Rattle.instrumented.proofs.Linked.{At, armed_is, can_arm, placing_at}
 use Rattle.session_spec.specs.declared.data.Shown.{Shown}
 use Rattle.session_spec.specs.Inputs.{Inputs, harts_of}
 use Rattle.session_spec.specs.Due.{all_armed, arm_all, is_placing, is_ready, machine_armed}
-use Rattle.session_spec.specs.Ties.{AreApart, AreShown, IsOther, IsShown, IsTied, opening_of, read_now, reading_by}
-use Rattle.session_spec.specs.Reads.{lasts_armed}
+use Rattle.session_spec.specs.Readings.{lasts_armed, read_now, reading_by}
+use Rattle.session_spec.specs.Ties.{AreApart, AreShown, IsOther, IsShown, IsTied, opening_of}
 use Rattle.session_spec.proofs.Shows.{all_on, listed_on, number_on, shown_on}
 use Rattle.session_spec.proofs.Tied.{same_own}
 

@@ -21,7 +21,9 @@ use Rattle.session_spec.specs.Due.{all_armed, arm_all, with_arms}
 use Rattle.session_spec.specs.Tests.{with_tests}
 use Rattle.session_spec.specs.Work.{first_state}
 use Rattle.session_spec.specs.Ties.{IsTied}
-use Rattle.session_spec.specs.Reads.{AreFromLast, ArePlansGood, IsSound, lasts_armed, lasts_with, marks_of, ticks_by}
+use Rattle.session_spec.specs.Plans.{ArePlansGood}
+use Rattle.session_spec.specs.Readings.{lasts_armed, lasts_with}
+use Rattle.session_spec.specs.Reads.{AreFromLast, IsSound, marks_of, ticks_by}
 use Rattle.session_spec.proofs.Armings.{arms_tied}
 use Rattle.session_spec.proofs.Lasting.{armed_last, hands_back, led_of}
 use Rattle.session_spec.proofs.Testing.{tests_moved, tests_once}
@@ -31,7 +33,7 @@ use Rattle.session_spec.proofs.Wishing.{IsAtOnce, Moves, all_moved, all_once, on
 
 -- ---- before any wish
 
-first_tied : (i : Inputs) → IsProgram i.image → IsTied i (first_kept i).machine [] [] []
+pub first_tied : (i : Inputs) → IsProgram i.image → IsTied i (first_kept i).machine [] [] []
 first_tied i p = record { program = p; acts = []; plans = []; leads = record { can = tt; scene = refl }; owned = refl; shown = tt; apart = tt }
 
 pub first_quiet : (i : Inputs) → IsQuiet (first_kept i).machine.core
@@ -39,7 +41,7 @@ first_quiet i h x e = let k = get_map first_hart (start i.image i.settings.harts
 
 -- ---- entries of the agenda leave every hart where it is
 
-all_quiet : (n : ℕ) (m : Instrumented) → IsQuiet m.core → IsQuiet (repeated n Hands m).core
+pub all_quiet : (n : ℕ) (m : Instrumented) → IsQuiet m.core → IsQuiet (repeated n Hands m).core
 all_quiet zero m q = q
 all_quiet (suc n) m q = all_quiet n (done Hands m) (λ h x e. q h x (subst (λ hs. slice_get hs h ≡ Some x) (hands_same m) e))
 
@@ -53,7 +55,7 @@ picked_once : (i : Inputs) → IsAtOnce (first_kept i) (picked i)
 unfolding wished
 picked_once i = once_on (first_kept i) (wished i) (picked i) (all_once i (first_wishes i) (first_kept i)) (tests_once i (wished i))
 
-picked_moved : (i : Inputs) → IsProgram i.image → ArePlansGood i → Moves i [] [] (first_kept i) (picked i)
+pub picked_moved : (i : Inputs) → IsProgram i.image → ArePlansGood i → Moves i [] [] (first_kept i) (picked i)
 unfolding wished
 picked_moved i p good =
     let w = all_moved i good [] (first_wishes i) [] (first_kept i) (first_tied i p) in

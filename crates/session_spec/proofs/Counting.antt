@@ -16,7 +16,8 @@ use Rattle.session_spec.specs.Inputs.{Inputs, harts_of}
 use Rattle.session_spec.specs.Due.{is_armed}
 use Rattle.session_spec.specs.Verdicts.{node_sample, node_samples, node_samples_by, ticks_in}
 use Rattle.session_spec.specs.Ties.{AreShown, IsShown, IsTied}
-use Rattle.session_spec.specs.Reads.{AreFromLast, node_read, node_read_by, nodes_read, ticks_between, ticks_by, ticks_of}
+use Rattle.session_spec.specs.Readings.{ticks_between, ticks_of}
+use Rattle.session_spec.specs.Reads.{AreFromLast, node_read, node_read_by, nodes_read, ticks_by}
 use Rattle.session_spec.proofs.Samples.{sample_is}
 use Rattle.session_spec.proofs.Ticking.{no_ticks, ticks_append, ticks_tied}
 

@@ -23,7 +23,8 @@ use Rattle.session_spec.specs.Turns.{with_entries, with_hart, with_quiet}
 use Rattle.session_spec.specs.Due.{is_armed, latest_from, recorded_with, with_arms, with_frees, with_next, with_samples}
 use Rattle.session_spec.specs.Verdicts.{node_samples, with_search_end}
 use Rattle.session_spec.specs.Work.{state_admitted, state_armed, state_ended, state_handed, state_judged, state_next, state_quiet, state_sampled, state_turned, tests_now, with_room}
-use Rattle.session_spec.specs.Reads.{IsSound, desk_admitted, desk_armed, desk_ended, desk_freed, desk_judged, desk_next, desk_of, desk_quiet, desk_sampled, desk_tests, desk_turned, hists_read, hists_with, lasts_armed, lasts_now, lasts_with, latest_read, marks_of, nodes_read, recorded_read, sum_read, ticks_by, ticks_of}
+use Rattle.session_spec.specs.Readings.{lasts_armed, lasts_now, lasts_with, recorded_read, sum_read, ticks_of}
+use Rattle.session_spec.specs.Reads.{IsSound, desk_admitted, desk_armed, desk_ended, desk_freed, desk_judged, desk_next, desk_of, desk_quiet, desk_sampled, desk_tests, desk_turned, hists_read, hists_with, latest_read, marks_of, nodes_read, ticks_by}
 use Rattle.session_spec.proofs.Counting.{nodes_are}
 use Rattle.session_spec.proofs.Going.{admission_once}
 use Rattle.session_spec.proofs.Samples.{latest_is, recorded_is}

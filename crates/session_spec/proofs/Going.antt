@@ -14,7 +14,8 @@ use Rattle.session_spec.specs.States.{Kept}
 use Rattle.session_spec.specs.Admission.{with_admission, with_wish, with_wishes}
 use Rattle.session_spec.specs.Tests.{with_tests}
 use Rattle.session_spec.specs.Ties.{IsTied}
-use Rattle.session_spec.specs.Reads.{ArePlansGood, lasts_with}
+use Rattle.session_spec.specs.Plans.{ArePlansGood}
+use Rattle.session_spec.specs.Readings.{lasts_with}
 use Rattle.session_spec.proofs.Admitting.{same_moved}
 pub use Rattle.session_spec.proofs.Admitting.{program_is}
 use Rattle.session_spec.proofs.Armings.{led_reached}

@@ -23,8 +23,9 @@ use Rattle.session_spec.specs.declared.data.Latest.{Latest}
 use Rattle.session_spec.specs.declared.data.Shown.{Shown}
 use Rattle.session_spec.specs.Inputs.{Inputs, harts_of}
 use Rattle.session_spec.specs.Due.{is_armed, is_armed_state, latest_from, measure_by, measured, place_behind, recorded_with, sample_of, sampled_to}
-use Rattle.session_spec.specs.Ties.{AreApart, AreShown, IsOther, IsRead, IsShown, IsTied, opening_of, read_now, reading_by}
-use Rattle.session_spec.specs.Reads.{lasts_now, latest_read, recorded_read, sum_read}
+use Rattle.session_spec.specs.Readings.{lasts_now, read_now, reading_by, recorded_read, sum_read}
+use Rattle.session_spec.specs.Ties.{AreApart, AreShown, IsOther, IsRead, IsShown, IsTied, opening_of}
+use Rattle.session_spec.specs.Reads.{latest_read}
 
 -- the instrument of a shown pair, which is armed
 pub record Found (p : Placements) (s : Shown) : Type 0 where

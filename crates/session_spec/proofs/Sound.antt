@@ -18,7 +18,9 @@ use Rattle.session_spec.specs.Due.{all_armed, arm_all, machine_armed, recorded_w
 use Rattle.session_spec.specs.Verdicts.{with_search_end, with_verdicts}
 use Rattle.session_spec.specs.Work.{state_admitted, state_armed, state_ended, state_handed, state_judged, state_next, state_quiet, state_sampled, state_turned}
 use Rattle.session_spec.specs.Ties.{IsTied}
-use Rattle.session_spec.specs.Reads.{AreFromLast, ArePlansGood, IsSound, lasts_armed, lasts_now, lasts_with}
+use Rattle.session_spec.specs.Plans.{ArePlansGood}
+use Rattle.session_spec.specs.Readings.{lasts_armed, lasts_now, lasts_with}
+use Rattle.session_spec.specs.Reads.{AreFromLast, IsSound}
 use Rattle.session_spec.proofs.Admitting.{many_lasts, more_shown}
 use Rattle.session_spec.proofs.Armings.{arms_tied}
 use Rattle.session_spec.proofs.Going.{admission_moved, admission_once, hart_tied, quiet_tied}

@@ -18,7 +18,9 @@ use Rattle.session_spec.specs.Admission.{with_admission}
 use Rattle.session_spec.specs.Due.{with_frees, with_samples}
 use Rattle.session_spec.specs.Run.{IsRun}
 use Rattle.session_spec.specs.Work.{closed, is_due, state_admitted, state_armed, state_done, state_ended, state_handed, state_judged, state_last, state_quiet, state_sampled, state_turned, state_worked, tend, tests_now}
-use Rattle.session_spec.specs.Reads.{ArePlansGood, Desk, IsDesk, IsSound, desk_admitted, desk_armed, desk_closed, desk_done, desk_ended, desk_freed, desk_judged, desk_last, desk_next, desk_of, desk_quiet, desk_sampled, desk_tended, desk_turned, desk_worked, lasts_armed, lasts_now, lasts_with}
+use Rattle.session_spec.specs.Plans.{ArePlansGood}
+use Rattle.session_spec.specs.Readings.{lasts_armed, lasts_now, lasts_with}
+use Rattle.session_spec.specs.Reads.{Desk, IsDesk, IsSound, desk_admitted, desk_armed, desk_closed, desk_done, desk_ended, desk_freed, desk_judged, desk_last, desk_next, desk_of, desk_quiet, desk_sampled, desk_tended, desk_turned, desk_worked}
 use Rattle.session_spec.proofs.Desks.{admitted_desk, armed_desk, ended_desk, judged_desk, next_desk, quiet_desk, sampled_desk, tests_are, turned_desk}
 use Rattle.session_spec.proofs.Sound.{admitted_sound, armed_sound, ended_sound, handed_sound, is_quiet, judged_sound, next_sound, quiet_sound, sampled_sound, turned_sound}
 

@@ -21,7 +21,8 @@ use Rattle.session_spec.specs.States.{Kept}
 use Rattle.session_spec.specs.Tests.{barred, in_force, is_full, must_wait, taken_at_once, with_cost, with_node, with_nodes, with_plan_of, with_test, with_tests, with_waiting}
 use Rattle.session_spec.specs.Verdicts.{tester_of, tests, with_verdicts, without_tester, without_tests}
 use Rattle.session_spec.specs.Ties.{IsTied}
-use Rattle.session_spec.specs.Reads.{ArePlansGood, lasts_with}
+use Rattle.session_spec.specs.Plans.{ArePlansGood}
+use Rattle.session_spec.specs.Readings.{lasts_with}
 use Rattle.session_spec.proofs.Admitting.{admits_moved, drops_moved, none_shown, same_moved}
 use Rattle.session_spec.proofs.Wishing.{IsAtOnce, Moves, on, once_on, stands}
 

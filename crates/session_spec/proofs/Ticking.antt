@@ -31,7 +31,8 @@ use Rattle.instrumented.proofs.Harts.{handed_same}
 use Rattle.session_spec.specs.declared.data.Shown.{Shown}
 use Rattle.session_spec.specs.Inputs.{Inputs}
 use Rattle.session_spec.specs.Ties.{IsTied}
-use Rattle.session_spec.specs.Reads.{ticks_by, ticks_of}
+use Rattle.session_spec.specs.Readings.{ticks_of}
+use Rattle.session_spec.specs.Reads.{ticks_by}
 
 -- ---- how often a hart stands in a run
 

@@ -17,7 +17,8 @@ use Rattle.session_spec.specs.States.{Kept}
 use Rattle.session_spec.specs.Admission.{shown_now, shows, with_answer, with_drop, with_plan, with_refused, with_show, with_wish, with_wishes}
 use Rattle.session_spec.specs.Opening.{with_all}
 use Rattle.session_spec.specs.Ties.{IsTied}
-use Rattle.session_spec.specs.Reads.{ArePlansGood, lasts_with}
+use Rattle.session_spec.specs.Plans.{ArePlansGood}
+use Rattle.session_spec.specs.Readings.{lasts_with}
 use Rattle.session_spec.proofs.Admitting.{IsMoved, admits_moved, drops_moved, moved_on, same_moved}
 
 -- ---- no time passes

@@ -8,7 +8,10 @@ pub mod Due
 pub mod Verdicts
 pub mod Opening
 pub mod Work
+pub mod Bars
 pub mod Told
 pub mod Run
+pub mod Plans
+pub mod Readings
 pub mod Ties
 pub mod Reads

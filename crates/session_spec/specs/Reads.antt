@@ -1,48 +1,25 @@
 -- For proofs alone: what the code of a session keeps, which reads instruments, where the definitions measure.
-use Rattle.std.specs.Prelude.{◌≡◌, ℕ, ◌+◌, ◌-◌, ◌≤◌, ◌&&◌, ◌==◌, nat_lt, if◌then◌else◌, true, is_none, Option, Some, None, Ok, List, [], ◌∷◌, ◌++◌, filter, length, map, replicate, slice_index, take}
+use Rattle.std.specs.Prelude.{◌≡◌, ℕ, ◌-◌, ◌≤◌, ◌&&◌, ◌==◌, nat_lt, if◌then◌else◌, true, is_none, Option, Some, None, List, [], ◌∷◌, ◌++◌, filter, length, map, replicate, take}
 use Rattle.std.specs.List.{range_with_len}
-use Rattle.pn_types.specs.declared.focus.Focus.{Focus}
-use Rattle.fold_hist.specs.declared.bin.Bin.{Bin}
 use Rattle.fold_hist.specs.Bins.{Histogram, hist_of}
 use Rattle.fold_hist.specs.Steps.{pushed}
-use Rattle.pn_types.specs.declared.plan.Plan.{Plan}
 use Rattle.machine.specs.Cores.{In}
-use Rattle.machine.specs.Measures.{difference}
 use Rattle.instrument.specs.Placements.{Placements}
 use Rattle.instrumented.specs.Instrumented.{Instrumented}
 use Rattle.w3_search.specs.declared.node.NodeSample.{NodeSample}
 use Rattle.session_spec.specs.declared.data.Latest.{Latest}
 use Rattle.session_spec.specs.declared.data.Shown.{Shown}
-use Rattle.session_spec.specs.Inputs.{Inputs, harts_of, planned}
+use Rattle.session_spec.specs.Inputs.{Inputs, harts_of}
 use Rattle.session_spec.specs.States.{Kept, State}
 use Rattle.session_spec.specs.Admission.{with_admission}
 use Rattle.session_spec.specs.Turns.{with_entries, with_hart, with_quiet}
-use Rattle.session_spec.specs.Due.{is_armed, is_ready, machine_armed, place_behind, with_arms, with_frees, with_next, with_samples}
+use Rattle.session_spec.specs.Due.{is_armed, place_behind, with_arms, with_frees, with_next, with_samples}
 use Rattle.session_spec.specs.Verdicts.{with_search_end, with_verdicts}
 use Rattle.session_spec.specs.Work.{is_due}
-use Rattle.session_spec.specs.Ties.{IsGood, IsTied, read_now}
+use Rattle.session_spec.specs.Readings.{lasts_armed, lasts_now, lasts_with, sum_read, ticks_between, ticks_of}
+use Rattle.session_spec.specs.Ties.{IsTied}
 
 -- ---- samples as they are read
-
--- what is read last behind a due work
-abbrev pub last_now : Inputs → Instrumented → Shown → ℕ → ℕ
-last_now i m s last = if is_armed m.placer s then read_now i m s else last
-
-abbrev pub lasts_now : Inputs → Instrumented → List Shown → List ℕ → List ℕ
-lasts_now i m [] lasts = []
-lasts_now i m (s ∷ ss) [] = []
-lasts_now i m (s ∷ ss) (last ∷ lasts) = last_now i m s last ∷ lasts_now i m ss lasts
-
--- a difference of readings
-abbrev pub sum_read : Inputs → Instrumented → Shown → ℕ → ℕ
-sum_read i m s last = difference last (read_now i m s)
-
-abbrev pub recorded_read : Inputs → Instrumented → ℕ → List Shown → List ℕ → List (List Bin) → List (List Bin)
-recorded_read i m time [] lasts rs = rs
-recorded_read i m time (s ∷ ss) [] rs = []
-recorded_read i m time (s ∷ ss) (last ∷ lasts) [] = []
-recorded_read i m time (s ∷ ss) (last ∷ lasts) (r ∷ rs) =
-    (if is_armed m.placer s then r ++ record { from = s.from; to = time; sum = sum_read i m s last } ∷ [] else r) ∷ recorded_read i m time ss lasts rs
 
 abbrev pub latest_read : ℕ → Inputs → Instrumented → ℕ → List Shown → List ℕ → List Latest
 latest_read n i m time [] lasts = []
@@ -50,15 +27,6 @@ latest_read n i m time (s ∷ ss) [] = []
 latest_read n i m time (s ∷ ss) (last ∷ lasts) =
     (if is_none s.node && is_armed m.placer s then record { shown = n; from = s.from; to = time; sum = sum_read i m s last } ∷ [] else [])
     ++ latest_read (place_behind s.node n) i m time ss lasts
-
--- how many ticks each hart had
-abbrev pub ticks_of : Instrumented → List ℕ
-ticks_of m = map (λ x. x.ticks) m.core.harts
-
--- the ticks of these harts from a moment to a later one
-abbrev pub ticks_between : List ℕ → List ℕ → List ℕ → ℕ
-ticks_between [] before now = 0
-ticks_between (h ∷ harts) before now = slice_index now h - slice_index before h + ticks_between harts before now
 
 -- the samples of the nodes under test, where each hart had so many ticks when its last sample ended
 abbrev pub node_read : Inputs → Instrumented → ℕ → List ℕ → ℕ → Shown → ℕ → NodeSample
@@ -72,16 +40,6 @@ abbrev pub nodes_read : Inputs → Instrumented → ℕ → List ℕ → List Sh
 nodes_read i m time marks [] lasts = []
 nodes_read i m time marks (s ∷ ss) [] = []
 nodes_read i m time marks (s ∷ ss) (last ∷ lasts) = node_read_by s.node i m time marks s last ++ nodes_read i m time marks ss lasts
-
--- what is read last behind the armings of a due work: of an instrument that is armed, its readings then
-abbrev pub lasts_armed : Inputs → Instrumented → List Shown → List ℕ → List ℕ
-lasts_armed i m [] lasts = []
-lasts_armed i m (s ∷ ss) [] = []
-lasts_armed i m (s ∷ ss) (last ∷ lasts) = (if is_ready m s then read_now i (machine_armed m s) s else last) ∷ lasts_armed i (machine_armed m s) ss lasts
-
--- an instrument that was admitted was not read yet
-abbrev pub lasts_with : List Shown → List ℕ → List ℕ
-lasts_with ss lasts = lasts ++ replicate (length ss - length lasts) 0
 
 -- a sample is pushed to the histogram of each that is armed
 abbrev pub hists_read : Inputs → Instrumented → ℕ → List Shown → List ℕ → List Histogram → List Histogram
@@ -165,10 +123,6 @@ unfoldable pub desk_closed : Inputs → Desk → Desk
 desk_closed i d = desk_ended (if nat_lt (desk_quiet d).kept.last (desk_quiet d).kept.time then desk_last i (desk_quiet d) else desk_quiet d)
 
 -- ---- what it has to do with the state
-
--- each plan can be measured
-abbrev pub ArePlansGood : Inputs → Type 0
-ArePlansGood i = (metric : ℕ) (focus : Focus) (plan : Plan) → planned i metric focus ≡ Ok plan → IsGood i plan
 
 -- so many of these ticks were hart h's
 abbrev pub ticks_by : List ℕ → ℕ → ℕ

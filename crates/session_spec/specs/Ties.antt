@@ -1,14 +1,11 @@
 -- For proofs alone: how the state of a session, and what was read of its instruments last, came about.
-use Rattle.std.specs.Prelude.{◌≡◌, ℕ, ◌<◌, Option, Some, None, Ok, List, [], ◌∷◌, IsSome, length, slice_get}
+use Rattle.std.specs.Prelude.{◌≡◌, ℕ, ◌<◌, Some, Ok, List, [], ◌∷◌, IsSome, slice_get}
 use Rattle.pn_types.specs.declared.plan.Plan.{Plan}
-use Rattle.prim_code.specs.Fitting.{IsMeasurable}
-use Rattle.rv_mem.specs.Start.{program_of}
-use Rattle.machine.specs.Cores.{In, Core}
+use Rattle.machine.specs.Cores.{In}
 use Rattle.machine.specs.Events.{IsQuiet}
 use Rattle.machine.specs.Laws.{IsProgram}
 use Rattle.machine.specs.Readings.{readings}
-use Rattle.instrument.specs.Placements.{instrument_at}
-use Rattle.instrument.specs.Scenes.{Act, IsPlanFor}
+use Rattle.instrument.specs.Scenes.{Act}
 use Rattle.instrument.specs.declared.instrument.Instrument.{Instrument}
 use Rattle.instrument.specs.declared.number.State.TheVariants.{Armed}
 use Rattle.instrumented.specs.Instrumented.{Instrumented}
@@ -16,19 +13,10 @@ use Rattle.instrumented.specs.Reached.{Leads}
 use Rattle.instrumented.specs.Readings.{Course, Opening, owns_at, scene_at, time_at, to_earlier, to_later}
 use Rattle.session_spec.specs.declared.data.Shown.{Shown}
 use Rattle.session_spec.specs.Inputs.{Inputs, harts_of, planned}
+use Rattle.session_spec.specs.Plans.{IsGood}
 
 abbrev pub opening_of : Inputs → Opening
 opening_of i = record { image = i.image; harts = i.settings.harts; budget = i.settings.budget; limit = i.settings.instruments }
-
--- ---- readings
-
-abbrev pub reading_by : Option Instrument → List ℕ → Core → ℕ
-reading_by None harts c = 0
-reading_by (Some x) harts c = readings x.placed harts c
-
--- the sum of an instrument's readings over the harts of its focus, modulo 2^64
-abbrev pub read_now : Inputs → Instrumented → Shown → ℕ
-read_now i m s = reading_by (instrument_at m.placer s.instrument.n) (harts_of i s.focus) m.core
 
 -- ---- an instrument that is or was shown
 
@@ -42,12 +30,6 @@ pub record IsRead (o : Opening) (acts : List Act) (harts : List ℕ) (s : Shown)
   pub quiet : IsQuiet (scene_at o (to_earlier s.instrument.n course)).core
   pub reading : (x : Instrument) → In x (scene_at o acts).placer.instruments → x.no ≡ s.instrument.n
       → last ≡ readings x.placed harts (scene_at o (to_earlier s.instrument.n course)).core
-
--- a plan that can be measured on a program
-pub record IsGood (i : Inputs) (plan : Plan) : Type 0 where
-  pub for : IsPlanFor (program_of i.image) plan
-  pub measurable : IsMeasurable plan
-  pub vars : 0 < length plan.vars
 
 -- It shows what its plan says, and was read if it was armed.
 pub record IsShown (i : Inputs) (acts : List Act) (s : Shown) (last : ℕ) : Type 0 where

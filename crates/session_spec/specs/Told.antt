@@ -2,17 +2,23 @@
 use Rattle.std.specs.Prelude.{◌≡◌, ℕ, ◌<◌, ◌≤◌, ◌⊎◌, if◌then◌else◌, Ok, List, length, slice_get, Some}
 use Rattle.pn_types.specs.declared.pick.BarCause.{BarCause}
 use Rattle.pn_types.specs.declared.plan.Plan.{Plan}
+use Rattle.pn_types.specs.declared.quantum.Quantum.{Quantum}
 use Rattle.rv_mem.specs.Start.{program_of}
 use Rattle.rv_exec.specs.Start.{start}
+use Rattle.fold_hist.specs.declared.bin.Bin.{Bin}
 use Rattle.machine.specs.Measures.{measure}
 use Rattle.w3_axes.specs.Refining.{threshold_of}
 use Rattle.w3_axes.specs.Testing.{holds}
 use Rattle.w3_search.specs.declared.node.Node.{Node}
 use Rattle.w3_search.specs.declared.node.NodeState.TheVariants.{Barred, Confirmed, Rejected, Unfinished}
+use Rattle.session_spec.specs.declared.data.Shown.{Shown}
 use Rattle.session_spec.specs.Inputs.{Inputs, harts_of, planned}
 use Rattle.session_spec.specs.Searches.{metric_of, rules_of}
 use Rattle.session_spec.specs.States.{State}
 use Rattle.session_spec.specs.Verdicts.{ticks_in}
+use Rattle.session_spec.specs.Bars.{WasBarred}
+
+-- ---- a node that was judged
 
 -- The verdict on a node, on the program's own run: its value is what the plan of its metric at its focus measures from the arming to
 -- the window's last sample; its ticks are those of the focus's harts in between; and it is confirmed exactly where the test on them
@@ -27,14 +33,37 @@ pub record IsVerdict (i : Inputs) (owns : List ℕ) (n : Node) : Type 0 where
   pub ticks : n.ticks ≡ ticks_in owns (harts_of i n.focus) n.from n.to
   pub verdict : n.state ≡ (if holds n.value n.ticks (threshold_of (rules_of i).hypotheses n.hypothesis) then Confirmed else Rejected)
 
--- each node that was judged has its verdict
-abbrev pub AreVerdicts : Inputs → State → Type 0
-AreVerdicts i s = (k : ℕ) (n : Node) → slice_get s.kept.search.nodes k ≡ Some n → (n.state ≡ Confirmed) ⊎ (n.state ≡ Rejected) → IsVerdict i s.owns n
+-- An instrument of its own tested node k. The node's window begins at its arming; as many samples of it were recorded from then on as
+-- the window has, and no more; and the window ends where the last of them does.
+pub record IsTested (i : Inputs) (s : State) (k : ℕ) (n : Node) : Type 0 where
+  pub place : ℕ
+  pub x : Shown
+  pub samples : List Bin
+  pub listed : slice_get s.kept.shown place ≡ Some x
+  pub recorded : slice_get s.recorded place ≡ Some samples
+  pub node : x.node ≡ Some k
+  pub metric : x.metric ≡ metric_of i n
+  pub focus : x.focus ≡ n.focus
+  pub armed : x.armed ≡ Some n.from
+  pub sampled : x.from ≡ n.to
+  pub window : length samples ≡ (rules_of i).decl.window
 
--- A node that wasn't judged when the search ended: it couldn't be tested, or its phase or the search ended before its window did.
-abbrev pub IsOpenEnd : Inputs → Node → Type 0
-IsOpenEnd i n = ((cause : BarCause) × (n.state ≡ Barred cause)) ⊎ ((n.state ≡ Unfinished n.seen) × (n.seen < (rules_of i).decl.window))
+-- it has its verdict, by the samples of its own instrument
+abbrev pub IsJudged : Inputs → State → ℕ → Node → Type 0
+IsJudged i s k n = IsVerdict i s.owns n × IsTested i s k n
 
--- what a closed session tells of each node
-abbrev pub AreTold : Inputs → State → Type 0
-AreTold i s = (k : ℕ) (n : Node) → slice_get s.kept.search.nodes k ≡ Some n → IsVerdict i s.owns n ⊎ IsOpenEnd i n
+-- each node that was judged is
+abbrev pub AreJudged : Inputs → State → Type 0
+AreJudged i s = (k : ℕ) (n : Node) → slice_get s.kept.search.nodes k ≡ Some n → (n.state ≡ Confirmed) ⊎ (n.state ≡ Rejected) → IsJudged i s k n
+
+-- ---- each node, behind the end
+
+-- Node k wasn't judged when the search ended: it was barred when its turn came in the course of these quanta, or its phase or the search
+-- ended before its window did.
+abbrev pub IsOpenEnd : Inputs → List Quantum → ℕ → Node → Type 0
+IsOpenEnd i quanta k n =
+    ((cause : BarCause) × (n.state ≡ Barred cause) × WasBarred i quanta k n cause) ⊎ ((n.state ≡ Unfinished n.seen) × (n.seen < (rules_of i).decl.window))
+
+-- what a session that is closed behind these quanta tells of each node
+abbrev pub AreEnded : Inputs → List Quantum → State → Type 0
+AreEnded i quanta s = (k : ℕ) (n : Node) → slice_get s.kept.search.nodes k ≡ Some n → IsJudged i s k n ⊎ IsOpenEnd i quanta k n

@@ -17,7 +17,7 @@ use Rattle.session_spec.specs.Due.{arm_all, is_ready, machine_armed, with_arms, 
 use Rattle.session_spec.specs.Admission.{with_admission}
 use Rattle.session_spec.specs.Verdicts.{tester_of, with_verdicts, without_tester, without_tests}
 use Rattle.session_spec.specs.Work.{Halted, first_state, is_due, state_admitted, state_done, state_handed, state_quiet, state_turned, state_worked, tend, tests_now, work, work_from}
-use Rattle.search_laws.proofs.Admitting.{Keeps, admission_kept}
+use Rattle.session_laws.proofs.Admitting.{Keeps, admission_kept}
 use Rattle.shared_run.proofs.Stopping.{IsStopped, arms_same, hands_all_same, quantum_taken, settling_taken, sweeps_all_same}
 
 module _ (i : Inputs) (h : ℕ) where
@@ -33,8 +33,8 @@ module _ (i : Inputs) (h : ℕ) where
   stops_keeps = record {
     beside = λ k j b e. ap (λ (m : Instrumented). is_runnable m.core h) b.machine ∙ e;
     drops = λ k n e. drops_stops n k.machine e;
-    wished = λ k plan w placer a e. ap (λ (m : Instrumented). is_runnable m.core h) (done_is (Admits plan None) k.machine) ∙ e;
-    barred = λ k n node cause s w e. e;
+    wished = λ k plan w placer is a e. ap (λ (m : Instrumented). is_runnable m.core h) (done_is (Admits plan None) k.machine) ∙ e;
+    barred = λ k n node cause s w by e. e;
     tested = λ k n node plan placer s w p m a e. ap (λ (d : Instrumented). is_runnable d.core h) (done_is (Admits plan (Some (rules_of i).decl.cost)) k.machine) ∙ e;
   }
 

@@ -25,7 +25,7 @@ use Rattle.session_spec.specs.Admission.{with_admission}
 use Rattle.session_spec.specs.Turns.{handed_at_once, with_entries, with_hart}
 use Rattle.session_spec.specs.Due.{with_next}
 use Rattle.session_spec.specs.Work.{is_due, state_admitted, state_done, state_handed, state_quiet, state_turned, state_worked, tend}
-use Rattle.search_laws.proofs.Admitting.{Keeps, admission_kept}
+use Rattle.session_laws.proofs.Admitting.{Keeps, admission_kept}
 
 -- ---- an admission leaves the machine as it is
 
@@ -37,8 +37,8 @@ module _ (i : Inputs) (c : Core) where
   has_keeps = record {
     beside = λ k j b e. ap (λ (m : Instrumented). m.core) b.machine ∙ e;
     drops = λ k n e. ap (λ (d : Instrumented). d.core) (done_is (Drops n) k.machine) ∙ e;
-    wished = λ k plan w placer a e. ap (λ (d : Instrumented). d.core) (done_is (Admits plan None) k.machine) ∙ e;
-    barred = λ k n node cause s w e. e;
+    wished = λ k plan w placer is a e. ap (λ (d : Instrumented). d.core) (done_is (Admits plan None) k.machine) ∙ e;
+    barred = λ k n node cause s w by e. e;
     tested = λ k n node plan placer s w p m a e. ap (λ (d : Instrumented). d.core) (done_is (Admits plan (Some (rules_of i).decl.cost)) k.machine) ∙ e;
   }
 

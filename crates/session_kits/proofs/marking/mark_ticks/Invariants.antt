@@ -1,6 +1,6 @@
 use Rattle.std.proofs.Common.{◌≡◌}
 use Rattle.std.specs.Prelude.{take, vec_capacity, vec_len}
-use Rattle.session_spec.specs.Reads.{ticks_of}
+use Rattle.session_spec.specs.Readings.{ticks_of}
 use Rattle.session_kits.proofs.marking.mark_ticks.Given as goal
 
 abbrev pub invariant-loop-hart : goal.invariant-loop-hart

@@ -1,6 +1,6 @@
 use Rattle.std.proofs.Common.{◌≡◌, ◌+◌, ◌-◌, ℕ, ap, arith}
 use Rattle.std.specs.List.{range_with_len}
-use Rattle.session_spec.specs.Reads.{ticks_between, ticks_of}
+use Rattle.session_spec.specs.Readings.{ticks_between, ticks_of}
 use Rattle.session_kits.proofs.Ticks.{small_at, ticks_first}
 use Rattle.session_kits.proofs.marking.ticks_since.Goals as goal
 

@@ -1,6 +1,6 @@
 use Rattle.std.proofs.Common.{◌≡◌, ◌+◌, ◌-◌, ◌*◌, ◌≤◌, ◌^◌}
 use Rattle.std.specs.List.{range_with_len}
-use Rattle.session_spec.specs.Reads.{ticks_between, ticks_of}
+use Rattle.session_spec.specs.Readings.{ticks_between, ticks_of}
 use Rattle.session_kits.proofs.marking.ticks_since.Given as goal
 
 abbrev pub invariant-loop-hart : goal.invariant-loop-hart

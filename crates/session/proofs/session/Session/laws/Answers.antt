@@ -8,7 +8,7 @@ use Rattle.w3_search.specs.History.{IsHistory}
 use Rattle.session.specs.declared.session.Session.TheInside.{Inside}
 use Rattle.session.specs.Sessions.{SessionData, state_of}
 use Rattle.session.specs.Tables.{desk_at}
-use Rattle.search_laws.specs.Costs.{IsWithin}
+use Rattle.session_laws.specs.Costs.{IsWithin}
 use Rattle.session_spec.specs.Told.{AreTold, AreVerdicts}
 use Rattle.session.proofs.Searched.{all_told, all_verdicts, all_within}
 use Rattle.session.proofs.session.Session.laws.Goals as goal

@@ -1,0 +1,62 @@
+-- Why a node of a session's search can't be tested.
+use Rattle.std.specs.Prelude.{◌≡◌, ◌⊎◌, ℕ, Some, Ok, Err, List, ◌∷◌, ◌++◌, false, take}
+use Rattle.pn_types.specs.declared.pick.BarCause.{BarCause}
+use Rattle.pn_types.specs.declared.plan.Plan.{Plan}
+use Rattle.pn_types.specs.declared.quantum.Quantum.{Quantum}
+use Rattle.mdl_plan.specs.declared.fault.PlanFault.{PlanFault}
+use Rattle.instrument.specs.Placements.{Placements, admission}
+use Rattle.instrument.specs.declared.number.Refused.{Refused}
+use Rattle.w3_search.specs.declared.node.Node.{Node}
+use Rattle.w3_search.specs.Nodes.{waiting_of}
+use Rattle.session_spec.specs.Inputs.{Inputs, planned}
+use Rattle.session_spec.specs.Searches.{bar_of_plan, bar_of_refusal, metric_of, rules_of}
+use Rattle.session_spec.specs.States.{Kept}
+use Rattle.session_spec.specs.Admission.{with_wishes}
+use Rattle.session_spec.specs.Opening.{wished}
+use Rattle.session_spec.specs.Tests.{is_full, taken_at_once, with_nodes}
+use Rattle.session_spec.specs.Work.{work}
+
+-- ---- by what
+
+-- there is no plan of its metric at its focus, by this cause
+pub record HasNoPlan (i : Inputs) (n : Node) (c : BarCause) : Type 0 where
+  pub fault : PlanFault
+  pub planned : planned i (metric_of i n) n.focus ≡ Err fault
+  pub cause : bar_of_plan fault ≡ Some c
+
+-- there is one, but no instrument of it could be admitted to these placements, by this cause
+pub record HasNoRoom (i : Inputs) (p : Placements) (n : Node) (c : BarCause) : Type 0 where
+  pub plan : Plan
+  pub planned : planned i (metric_of i n) n.focus ≡ Ok plan
+  pub refused : Refused
+  pub refusal : admission p plan (Some (rules_of i).decl.cost) ≡ Err refused
+  pub cause : bar_of_refusal refused ≡ Some c
+
+-- the cause is the one that planning gave, or admission
+abbrev pub IsBarredBy : Inputs → Placements → Node → BarCause → Type 0
+IsBarredBy i p n c = HasNoPlan i n c ⊎ HasNoRoom i p n c
+
+-- ---- when
+
+-- In the course of these quanta the search took nodes in k: at the opening, behind its wishes, or when a quantum began, behind those
+-- that were due then.
+abbrev pub WasOffered : Inputs → List Quantum → Kept → Type 0
+WasOffered i quanta k =
+    (k ≡ wished i)
+    ⊎ ((first : List Quantum) × (q : Quantum) × (rest : List Quantum) × (quanta ≡ first ++ q ∷ rest) × (k ≡ with_wishes i (work i first).kept.wishes (work i first).kept))
+
+-- The turn of node n comes in j, where the search takes nodes in k, one after another.
+pub record IsTurnOf (i : Inputs) (k j : Kept) (n : ℕ) : Type 0 where
+  pub before : List ℕ
+  pub behind : List ℕ
+  pub taken : take taken_at_once (waiting_of k.search.nodes) ≡ before ++ n ∷ behind
+  pub is : j ≡ with_nodes i before k
+  pub room : is_full j.machine.placer ≡ false
+
+-- Node n was barred when its turn came, by the cause that planning gave, or admission to what was placed then.
+pub record WasBarred (i : Inputs) (quanta : List Quantum) (n : ℕ) (node : Node) (c : BarCause) : Type 0 where
+  pub offer : Kept
+  pub offered : WasOffered i quanta offer
+  pub now : Kept
+  pub turn : IsTurnOf i offer now n
+  pub cause : IsBarredBy i now.machine.placer node c
