@@ -96,8 +96,7 @@ module _ (i : Inputs) (p : Placements) (owns : List ℕ) (t : ℕ) where
   fed_sampled n f g [] rs m e h = tt
   fed_sampled n f g (x ∷ xs) [] m e h = absurd (omega arith)
   fed_sampled n f g (x ∷ xs) (r ∷ rs) m e h =
-      let next = place_behind x.node n in
-      (
+      let next = place_behind x.node n in (
         (λ q.
             let wished : x.node ≡ None = sym (same_node x) ∙ q in
             let later : n < next = subst (λ (o : Option ℕ). n < place_behind o n) (sym wished) (omega arith) in

@@ -31,6 +31,6 @@ pub mod Nodes
 pub mod Reading
 pub mod Ready
 pub mod Opening
-pub mod Printed
+pub mod Staying
 pub mod Printing
 pub mod Feeding

@@ -106,8 +106,7 @@ module _ (i : Inputs) (plan : Plan) (focus : Focus) (a : ℕ) where
         let s = split w x.to xs c h.2 in
         let some : AreMeasured i owns plan focus a b (x ∷ take w xs) s.at = (h.0, h.1, s.first) in
         let few : length (drop w xs) ≤ fuel = omega (arith, length-drop w xs) in
-        let ends = ends_all b x (take w xs) s.at some in
-        (
+        let ends = ends_all b x (take w xs) s.at some in (
           h.0,
           one_bin b x (take w xs) s.at some,
           pieces_measured fuel (suc w) (last_to (x ∷ take w xs)) (drop w xs) c p few (subst (λ (d : ℕ). AreMeasured i owns plan focus a d (drop w xs) c) (sym ends) s.others),

@@ -17,7 +17,7 @@ verdicts_told = record {
       ⊎_elim
       (λ (v : IsJudged i (closed i (work i quanta)) k n). inl v)
       (λ (o : IsUnjudged i n). inr (⊎_elim
-          (λ (b : (cause : BarCause) × (n.state ≡ Barred cause)). inl (b.0, b.1, bars_told.closes i quanta k n b.0 e b.1))
-          (λ (u : (n.state ≡ Unfinished n.seen) × (n.seen < (rules_of i).decl.window)). inr u) o))
+      (λ (b : (cause : BarCause) × (n.state ≡ Barred cause)). inl (b.0, b.1, bars_told.closes i quanta k n b.0 e b.1))
+      (λ (u : (n.state ≡ Unfinished n.seen) × (n.seen < (rules_of i).decl.window)). inr u) o))
       (ended_told i some quanta low k n e);
 }

@@ -19,7 +19,7 @@ use Rattle.session_spec.specs.Turns.{with_entries, with_hart, with_quiet}
 use Rattle.fold_hist.specs.declared.bin.Bin.{Bin}
 use Rattle.session_spec.specs.Due.{all_armed, armed_at, is_armed, is_ready, machine_armed, sampled_to, with_arms, with_frees, with_next}
 use Rattle.session_spec.specs.Due as due
-use Rattle.session_spec.specs.Opening.{opened, wished, with_agenda}
+use Rattle.session_spec.specs.Opening.{opened, with_agenda}
 use Rattle.session_spec.specs.Tests.{tests_next}
 use Rattle.session_spec.specs.Verdicts.{with_search_end, with_verdicts}
 use Rattle.session_spec.specs.Work.{closed, first_state, is_due, state_admitted, state_done, state_ended, state_handed, state_last, state_quiet, state_sampled, state_turned, state_worked, tend, tests_now, work, work_from}

@@ -47,7 +47,7 @@ use Rattle.session_laws.proofs.Grown.{some_same}
 use Rattle.session_laws.proofs.Keeping.{Tells, recorded_told, start_telling, tell_keeps, tells_admitted, tells_armed, tells_ended, tells_first, tells_handed, tells_judged, tells_next, tells_quiet, tells_sampled, tells_turned}
 use Rattle.session_laws.proofs.Opening.{armed_first}
 use Rattle.session_laws.proofs.Pairs.{IsPair}
-use Rattle.session_laws.proofs.Printed.{AreStaying, IsStaying, admits_hold, armed_all, stay_admission, stay_agenda, stay_end, stay_entries, stay_frees, stay_next, stay_nodes, stay_push, stay_verdicts}
+use Rattle.session_laws.proofs.Staying.{AreStaying, IsStaying, admits_hold, armed_all, stay_admission, stay_agenda, stay_end, stay_entries, stay_frees, stay_next, stay_nodes, stay_push, stay_verdicts}
 use Rattle.session_laws.proofs.Reading.{closed_sound, work_sound}
 use Rattle.session_laws.proofs.Testers.{armed_behind, pair_at, row}
 
@@ -225,11 +225,16 @@ module _ (i : Inputs) where
 
   arms_stay : (owns : List ℕ) (rs : List (List Bin)) (k : Kept) → IsStaying i at_zero owns rs k → ((with_arms k).wishes ≡ []) × AreStaying at_zero (with_arms k).machine.placer (with_arms k).shown
   unfolding with_arms
-  arms_stay owns rs k s = (s.wishes, λ n y e o.
-      let w = was_armed i owns rs at_zero k s n y e o in
-      let z = s.stay n w.x w.listed w.node in
-      (w.stays, ⊎_elim (λ (v : y ≡ w.x). ap (λ (x : Shown). x.armed) v ∙ z.1)
-          (λ v. absurd (never 0 (sym ((pair_at i owns k.machine.placer k.shown rs n w.x s.tell.pairs w.listed).placing v) ∙ z.1))) w.same))
+  arms_stay owns rs k s = (
+    s.wishes,
+    λ n y e o.
+        let w = was_armed i owns rs at_zero k s n y e o in
+        let z = s.stay n w.x w.listed w.node in (
+          w.stays,
+          ⊎_elim (λ (v : y ≡ w.x). ap (λ (x : Shown). x.armed) v ∙ z.1)
+              (λ v. absurd (never 0 (sym ((pair_at i owns k.machine.placer k.shown rs n w.x s.tell.pairs w.listed).placing v) ∙ z.1))) w.same,
+        ),
+  )
 
   all_armed_now : (s : State) → IsAll i s → IsAll i (state_armed s)
   all_armed_now s z =

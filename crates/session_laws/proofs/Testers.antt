@@ -183,7 +183,12 @@ pub traced_room : (i : Inputs) (xs : List Shown) (rs : List (List Bin)) (ns : Li
 traced_room i xs rs ns h k n e t =
     let o = h k n e t in
     record {
-      place = o.place; x = o.x; listed = o.listed; node = o.node; metric = o.metric; focus = o.focus;
+      place = o.place;
+      x = o.x;
+      listed = o.listed;
+      node = o.node;
+      metric = o.metric;
+      focus = o.focus;
       seen = ap (λ (r : List Bin). length r) (row_room xs rs o.place) ∙ o.seen;
       judged = o.judged;
     }

@@ -280,7 +280,12 @@ module _ (i : Inputs) where
     blanks_traced xs ns h k n e t =
         let o = h k n e t in
         record {
-          place = o.place; x = o.x; listed = o.listed; node = o.node; metric = o.metric; focus = o.focus;
+          place = o.place;
+          x = o.x;
+          listed = o.listed;
+          node = o.node;
+          metric = o.metric;
+          focus = o.focus;
           seen = ap (λ (r : List Bin). length r) (row_blanks xs o.place) ∙ o.seen;
           judged = o.judged;
         }

@@ -99,11 +99,14 @@ module _ (hs : List Hypothesis) (w t : ℕ) where
   from_samples [] ns k m e = (m, e, inl refl)
   from_samples (s ∷ ss) ns k m e =
       let g = from_samples ss (with_sample hs w t s ns) k m e in
-      let f = from_sample s ns k g.0 g.1 in
-      (f.0, f.1, ⊎_elim
-          (λ (z : m ≡ g.0). ⊎_elim (λ (u : g.0 ≡ f.0). inl (z ∙ u)) (λ (u : ((f.0).state ≡ Active) × (is_tried (g.0).state ≡ true)). inr (u.0, ap (λ (y : Node). is_tried y.state) z ∙ u.1)) f.2)
-          (λ (z : ((g.0).state ≡ Active) × (is_tried m.state ≡ true)).
-          ⊎_elim (λ (u : g.0 ≡ f.0). inr (ap (λ (y : Node). y.state) (sym u) ∙ z.0, z.1)) (λ (u : ((f.0).state ≡ Active) × (is_tried (g.0).state ≡ true)). inr (u.0, z.1)) f.2) g.2)
+      let f = from_sample s ns k g.0 g.1 in (
+        f.0,
+        f.1,
+        ⊎_elim
+            (λ (z : m ≡ g.0). ⊎_elim (λ (u : g.0 ≡ f.0). inl (z ∙ u)) (λ (u : ((f.0).state ≡ Active) × (is_tried (g.0).state ≡ true)). inr (u.0, ap (λ (y : Node). is_tried y.state) z ∙ u.1)) f.2)
+            (λ (z : ((g.0).state ≡ Active) × (is_tried m.state ≡ true)).
+            ⊎_elim (λ (u : g.0 ≡ f.0). inr (ap (λ (y : Node). y.state) (sym u) ∙ z.0, z.1)) (λ (u : ((f.0).state ≡ Active) × (is_tried (g.0).state ≡ true)). inr (u.0, z.1)) f.2) g.2,
+      )
 
 -- ---- children, and phases: nodes that are or were under test, or are barred, are from before
 

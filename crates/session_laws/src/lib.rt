@@ -4,6 +4,6 @@
 mod laws;
 
 pub use laws::{
-    bars_told, bins_told, costs_stay, feed_told, opens_at_zero, printed_told, runs_told, samples_read,
-    verdicts_told,
+    bars_told, bins_told, costs_stay, feed_told, opens_at_zero, printed_told, runs_told,
+    samples_read, verdicts_told,
 };

@@ -1,4 +1,4 @@
--- Where all wishes are for the opening, and none drops a pair, each pair is armed at time 0 and sampled to the end.
+-- Where no wish is left, no pair that was wished leaves.
 use Rattle.std.proofs.Common.{◌≡◌, ℕ, zero, suc, Bool, true, false, cond, Option, Some, None, List, [], ◌∷◌, ◌++◌, length, refl, sym, ap, subst, ◌∙◌, inl, inr, ⊎_elim}
 use Rattle.std.specs.Prelude.{not, slice_get}
 use Rattle.std.proofs.lemmas.Bool.{and_parts, cond_both, cases_eq}
@@ -95,10 +95,12 @@ armed_step n m z r = by (is_ready m z) refl
     by false e = (r, λ a. a)
     by true e =
         let g = ready_arms m z r e in
-        let d = (done (Arms z.instrument.n) m).placer in
-        (g.roster, λ a. ⊎_elim
-            (λ (q : n ≡ z.instrument.n). ap (λ (k : ℕ). is_leaving (state_of d k)) q ∙ ap is_leaving (g.itself (ready_placing m z e)))
-            (λ q. ap is_leaving (g.other n q) ∙ a) (cases_eq n z.instrument.n))
+        let d = (done (Arms z.instrument.n) m).placer in (
+          g.roster,
+          λ a. ⊎_elim
+              (λ (q : n ≡ z.instrument.n). ap (λ (k : ℕ). is_leaving (state_of d k)) q ∙ ap is_leaving (g.itself (ready_placing m z e)))
+              (λ q. ap is_leaving (g.other n q) ∙ a) (cases_eq n z.instrument.n),
+        )
 
 pub armed_all : (n : ℕ) (xs : List Shown) (m : Instrumented) → IsRoster m.placer → is_leaving (state_of m.placer n) ≡ false → is_leaving (state_of (arm_all m xs).placer n) ≡ false
 armed_all n [] m r a = a
@@ -184,9 +186,11 @@ module _ (i : Inputs) (Z : Shown → Type 0) where
         let g = find_gives (tests p d) k.shown s f in
         let of = same_number s.node d (and_parts (is_same_number s.node (Some d)) (not (is_leaving (state_of p s.instrument.n))) g.1).0 in
         let other : s.instrument.n ≡ x.instrument.n → ⊥ = λ q. none_is d s.node of (ap (λ (z : Shown). z.node) (same_by_number k.shown s n x t.apart g.0 e q) ∙ o) in
-        let z = h n x e o in
-        (ap (λ (q : Placements). is_leaving (state_of q x.instrument.n)) (dropped_placer s.instrument.n k.machine)
-        ∙ (holds_call x.instrument.n (Drop s.instrument.n) p other t.roster.numbered).1 z.0, z.1)
+        let z = h n x e o in (
+          ap (λ (q : Placements). is_leaving (state_of q x.instrument.n)) (dropped_placer s.instrument.n k.machine)
+              ∙ (holds_call x.instrument.n (Drop s.instrument.n) p other t.roster.numbered).1 z.0,
+          z.1,
+        )
 
     tester_tells : (k : Kept) (o : Option Shown) → IsTelling i owns rs k → IsTelling i owns rs (without_tester o k)
     tester_tells k None t = t
