@@ -42,7 +42,7 @@ pub record KeepsWish (i : Inputs) (P : Kept → Type 0) : Type 0 where
 
 -- what each single step of the search's taking keeps
 pub record KeepsNode (i : Inputs) (P : Kept → Type 0) : Type 0 where
-  pub barred : (k : Kept) (n : ℕ) (node : Node) (cause : BarCause) → slice_get k.search.nodes n ≡ Some node → is_waiting node.state ≡ true → IsBarredBy i k.machine.placer node cause → P k
+  pub barred : (k : Kept) (n : ℕ) (node : Node) (cause : BarCause) → slice_get k.search.nodes n ≡ Some node → is_waiting node.state ≡ true → IsBarredBy i k node cause → P k
       → P (record k { search = with_state n (Barred cause) k.search })
   pub tested : (k : Kept) (n : ℕ) (node : Node) (plan : Plan) (placer : Placements) → slice_get k.search.nodes n ≡ Some node → is_waiting node.state ≡ true
       → planned i (metric_of i node) node.focus ≡ Ok plan → must_wait (rules_of i).decl.cost (predicted plan) (in_force i k.machine.placer k.shown) ≡ false
@@ -54,7 +54,7 @@ pub record Keeps (i : Inputs) (P : Kept → Type 0) : Type 0 where
   pub drops : (k : Kept) (n : ℕ) → P k → P (record k { machine = done (Drops n) k.machine })
   pub wished : (k : Kept) (plan : Plan) (w : CheckedWish) (placer : Placements) → planned i w.metric w.focus ≡ Ok plan → admission k.machine.placer plan None ≡ Ok placer → P k
       → P (record (admitted plan k) { shown = k.shown ++ shown_next w k ∷ [] })
-  pub barred : (k : Kept) (n : ℕ) (node : Node) (cause : BarCause) → slice_get k.search.nodes n ≡ Some node → is_waiting node.state ≡ true → IsBarredBy i k.machine.placer node cause → P k
+  pub barred : (k : Kept) (n : ℕ) (node : Node) (cause : BarCause) → slice_get k.search.nodes n ≡ Some node → is_waiting node.state ≡ true → IsBarredBy i k node cause → P k
       → P (record k { search = with_state n (Barred cause) k.search })
   pub tested : (k : Kept) (n : ℕ) (node : Node) (plan : Plan) (placer : Placements) → slice_get k.search.nodes n ≡ Some node → is_waiting node.state ≡ true
       → planned i (metric_of i node) node.focus ≡ Ok plan → must_wait (rules_of i).decl.cost (predicted plan) (in_force i k.machine.placer k.shown) ≡ false
@@ -113,14 +113,14 @@ module _ (i : Inputs) (P : Kept → Type 0) (keep : KeepsNode i P) where
   -- ---- nodes
 
   module _ (n : ℕ) (node : Node) (k : Kept) (stands : slice_get k.search.nodes n ≡ Some node) (waits : is_waiting node.state ≡ true) (p : P k) where
-    barred_kept : (cause : Option BarCause) → ((c : BarCause) → cause ≡ Some c → IsBarredBy i k.machine.placer node c) → P (barred cause n k)
+    barred_kept : (cause : Option BarCause) → ((c : BarCause) → cause ≡ Some c → IsBarredBy i k node c) → P (barred cause n k)
     barred_kept None by = p
     barred_kept (Some cause) by = keep.barred k n node cause stands waits (by cause refl) p
 
     module _ (plan : Plan) (planned : planned i (metric_of i node) node.focus ≡ Ok plan) where
       test_kept : must_wait (rules_of i).decl.cost (predicted plan) (in_force i k.machine.placer k.shown) ≡ false
           → (a : Result Placements Refused) → admission k.machine.placer plan (Some (rules_of i).decl.cost) ≡ a → P (with_test a i n node plan k)
-      test_kept room (Err refused) e = barred_kept (bar_of_refusal refused) (λ c f. inr (record { plan = plan; planned = planned; refused = refused; refusal = e; cause = f }))
+      test_kept room (Err refused) e = barred_kept (bar_of_refusal refused) (λ c f. inr (record { plan = plan; planned = planned; waits = room; refused = refused; refusal = e; cause = f }))
       test_kept room (Ok placer) e = keep.tested k n node plan placer stands waits planned room e p
 
       cost_kept : P (with_cost i n node plan k)

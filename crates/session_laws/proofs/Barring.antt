@@ -56,7 +56,7 @@ module _ (i : Inputs) where
     nodes = k.search.nodes
 
     abbrev By : ℕ → Node → BarCause → Type 0
-    By m node c = (m ≡ n) × IsBarredBy i k.machine.placer node c
+    By m node c = (m ≡ n) × IsBarredBy i k node c
 
     abbrev Turned : Kept → Type 0
     Turned j = IsNew By nodes j.search.nodes
@@ -65,13 +65,13 @@ module _ (i : Inputs) where
     as_was m node c e s = inl e
 
     -- the node of another state
-    changed_to : (node : Node) (q : NodeState) → slice_get nodes n ≡ Some node → ((c : BarCause) → q ≡ Barred c → IsBarredBy i k.machine.placer (in_state q node) c) → IsNew By nodes (changed (in_state q) n nodes)
+    changed_to : (node : Node) (q : NodeState) → slice_get nodes n ≡ Some node → ((c : BarCause) → q ≡ Barred c → IsBarredBy i k (in_state q node) c) → IsNew By nodes (changed (in_state q) n nodes)
     changed_to node q stands f m y c e s = by (cases_eq m n)
       where
         by : (m ≡ n) ⊎ (m ≡ n → ⊥) → (slice_get nodes m ≡ Some y) ⊎ By m y c
         by (inl z) =
             let same : in_state q node ≡ y = some_same (in_state q node) y (sym (changed_here (in_state q) nodes n node stands) ∙ (ap (slice_get (changed (in_state q) n nodes)) (sym z) ∙ e)) in
-            inr (z, subst (λ (v : Node). IsBarredBy i k.machine.placer v c) same (f c (ap (λ (v : Node). v.state) same ∙ s)))
+            inr (z, subst (λ (v : Node). IsBarredBy i k v c) same (f c (ap (λ (v : Node). v.state) same ∙ s)))
         by (inr z) = inl (sym (changed_there (in_state q) nodes n m z) ∙ e)
 
     metric_in : (q : NodeState) (node : Node) → metric_of i (in_state q node) ≡ metric_of i node
@@ -79,25 +79,27 @@ module _ (i : Inputs) where
     metric_in q node = refl
 
     module _ (node : Node) (stands : slice_get nodes n ≡ Some node) where
-      bars : (o : Option BarCause) → ((c : BarCause) → o ≡ Some c → (q : NodeState) → IsBarredBy i k.machine.placer (in_state q node) c) → Turned (barred o n k)
+      bars : (o : Option BarCause) → ((c : BarCause) → o ≡ Some c → (q : NodeState) → IsBarredBy i k (in_state q node) c) → Turned (barred o n k)
       bars None f = as_was
       bars (Some cause) f = changed_to node (Barred cause) stands (λ c e. f c (let z : cause ≡ c = cc in ap (λ (v : BarCause). Some v) z) (Barred cause))
 
       module _ (plan : Plan) (is : planned i (metric_of i node) node.focus ≡ Ok plan) where
-        tests_it : (a : Result Placements Refused) → admission k.machine.placer plan (Some (rules_of i).decl.cost) ≡ a → Turned (with_test a i n node plan k)
-        tests_it (Err refused) e = bars (bar_of_refusal refused) (λ c f q. inr (record {
+        tests_it : must_wait (rules_of i).decl.cost (predicted plan) (in_force i k.machine.placer k.shown) ≡ false
+            → (a : Result Placements Refused) → admission k.machine.placer plan (Some (rules_of i).decl.cost) ≡ a → Turned (with_test a i n node plan k)
+        tests_it room (Err refused) e = bars (bar_of_refusal refused) (λ c f q. inr (record {
           plan = plan;
           planned = ap (λ (v : ℕ). planned i v node.focus) (metric_in q node) ∙ is;
+          waits = room;
           refused = refused;
           refusal = e;
           cause = f;
         }))
-        tests_it (Ok placer) e = changed_to node Active stands (λ c z. absurd cc)
+        tests_it room (Ok placer) e = changed_to node Active stands (λ c z. absurd cc)
 
         costs_it : Turned (with_cost i n node plan k)
         costs_it =
             let a = admission k.machine.placer plan (Some (rules_of i).decl.cost) in
-            cond_both (must_wait (rules_of i).decl.cost (predicted plan) (in_force i k.machine.placer k.shown)) k (with_test a i n node plan k) Turned (λ _. as_was) (λ _. tests_it a refl)
+            cond_both (must_wait (rules_of i).decl.cost (predicted plan) (in_force i k.machine.placer k.shown)) k (with_test a i n node plan k) Turned (λ _. as_was) (λ room. tests_it room a refl)
 
       plans_it : (r : Result Plan PlanFault) → planned i (metric_of i node) node.focus ≡ r → Turned (with_plan_of r i n node k)
       plans_it (Err fault) e = bars (bar_of_plan fault) (λ c f q. inl (record { fault = fault; planned = ap (λ (v : ℕ). planned i v node.focus) (metric_in q node) ∙ e; cause = f }))
@@ -135,7 +137,7 @@ module _ (i : Inputs) where
 
     -- its turn came, and it was barred then
     abbrev InTurn : ℕ → Node → BarCause → Type 0
-    InTurn n node c = (j : Kept) × IsTurnOf i k j n × IsBarredBy i j.machine.placer node c
+    InTurn n node c = (j : Kept) × IsTurnOf i k j n × IsBarredBy i j node c
 
     all_turns : (ls before : List ℕ) (j : Kept) → ts ≡ before ++ ls → j ≡ with_nodes i before k → IsNew InTurn k.search.nodes j.search.nodes
         → IsNew InTurn k.search.nodes (with_nodes i ls j).search.nodes
@@ -148,7 +150,7 @@ module _ (i : Inputs) where
         let room : is_full (with_nodes i before k).machine.placer ≡ false = ap (λ (x : Kept). is_full x.machine.placer) (sym f) ∙ q in
         all_turns ls (before ++ l ∷ []) next (e ∙ sym (append_assoc before (l ∷ []) ls)) (ap (with_node i l) f ∙ sym (with_nodes_on before l k room))
         (λ m y c g s.
-        ⊎_elim (λ z. h m y c z s) (λ (b : (m ≡ l) × IsBarredBy i j.machine.placer y c). inr (j, subst (IsTurnOf i k j) (sym b.0) turn, b.1)) (turned l j m y c g s)))
+        ⊎_elim (λ z. h m y c z s) (λ (b : (m ≡ l) × IsBarredBy i j y c). inr (j, subst (IsTurnOf i k j) (sym b.0) turn, b.1)) (turned l j m y c g s)))
 
     tests_turns : IsNew InTurn k.search.nodes (with_tests i k).search.nodes
     unfolding with_tests

@@ -4,7 +4,8 @@ use Rattle.pn_types.specs.declared.pick.BarCause.{BarCause}
 use Rattle.pn_types.specs.declared.plan.Plan.{Plan}
 use Rattle.pn_types.specs.declared.quantum.Quantum.{Quantum}
 use Rattle.mdl_plan.specs.declared.fault.PlanFault.{PlanFault}
-use Rattle.instrument.specs.Placements.{Placements, admission}
+use Rattle.prim_code.specs.Counts.{predicted}
+use Rattle.instrument.specs.Placements.{admission}
 use Rattle.instrument.specs.declared.number.Refused.{Refused}
 use Rattle.w3_search.specs.declared.node.Node.{Node}
 use Rattle.w3_search.specs.Nodes.{waiting_of}
@@ -13,7 +14,7 @@ use Rattle.session_spec.specs.Searches.{bar_of_plan, bar_of_refusal, metric_of, 
 use Rattle.session_spec.specs.States.{Kept}
 use Rattle.session_spec.specs.Admission.{with_wishes}
 use Rattle.session_spec.specs.Opening.{wished}
-use Rattle.session_spec.specs.Tests.{is_full, taken_at_once, with_nodes}
+use Rattle.session_spec.specs.Tests.{in_force, is_full, must_wait, taken_at_once, with_nodes}
 use Rattle.session_spec.specs.Work.{work}
 
 -- ---- by what
@@ -24,17 +25,18 @@ pub record HasNoPlan (i : Inputs) (n : Node) (c : BarCause) : Type 0 where
   pub planned : planned i (metric_of i n) n.focus ≡ Err fault
   pub cause : bar_of_plan fault ≡ Some c
 
--- there is one, but no instrument of it could be admitted to these placements, by this cause
-pub record HasNoRoom (i : Inputs) (p : Placements) (n : Node) (c : BarCause) : Type 0 where
+-- there is one, and it needn't wait for the tests in force to end; but no instrument of it could be admitted, by this cause
+pub record HasNoRoom (i : Inputs) (k : Kept) (n : Node) (c : BarCause) : Type 0 where
   pub plan : Plan
   pub planned : planned i (metric_of i n) n.focus ≡ Ok plan
+  pub waits : must_wait (rules_of i).decl.cost (predicted plan) (in_force i k.machine.placer k.shown) ≡ false
   pub refused : Refused
-  pub refusal : admission p plan (Some (rules_of i).decl.cost) ≡ Err refused
+  pub refusal : admission k.machine.placer plan (Some (rules_of i).decl.cost) ≡ Err refused
   pub cause : bar_of_refusal refused ≡ Some c
 
 -- the cause is the one that planning gave, or admission
-abbrev pub IsBarredBy : Inputs → Placements → Node → BarCause → Type 0
-IsBarredBy i p n c = HasNoPlan i n c ⊎ HasNoRoom i p n c
+abbrev pub IsBarredBy : Inputs → Kept → Node → BarCause → Type 0
+IsBarredBy i k n c = HasNoPlan i n c ⊎ HasNoRoom i k n c
 
 -- ---- when
 
@@ -59,4 +61,4 @@ pub record WasBarred (i : Inputs) (quanta : List Quantum) (n : ℕ) (node : Node
   pub offered : WasOffered i quanta offer
   pub now : Kept
   pub turn : IsTurnOf i offer now n
-  pub cause : IsBarredBy i now.machine.placer node c
+  pub cause : IsBarredBy i now node c
