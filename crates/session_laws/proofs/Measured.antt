@@ -13,7 +13,8 @@ use Rattle.rv_exec.specs.Start.{start}
 use Rattle.machine.proofs.Sums.{measures_add}
 use Rattle.session_spec.specs.Inputs.{Inputs, harts_of}
 use Rattle.session_laws.proofs.Measuring.{measure_more, measure_none}
-use Rattle.session_laws.specs.Bins.{AreMeasured, IsMeasured, measure_at}
+use Rattle.session_spec.specs.Due.{measure_at}
+use Rattle.session_laws.specs.Bins.{AreMeasured, IsMeasured}
 
 module _ (i : Inputs) (plan : Plan) (focus : Focus) (a : ℕ) where
   -- ---- the run goes on
@@ -68,18 +69,18 @@ module _ (i : Inputs) (plan : Plan) (focus : Focus) (a : ℕ) where
     ends_all b x [] c h = h.2
     ends_all b x (y ∷ xs) c h = ends_all x.to y xs c h.2
 
-    sums_all : (b : ℕ) (xs : List Bin) (c : ℕ) → AreMeasured i owns plan focus a b xs c → sum_by (λ x. x.sum) xs % 2 ^ 64 ≡ measure_at i owns plan focus a b c
+    sums_all : (b : ℕ) (xs : List Bin) (c : ℕ) → AreMeasured i owns plan focus a b xs c → sum_by (λ x. x.sum) xs % 2 ^ 64 ≡ measure_at i owns plan (harts_of i focus) a b c
     sums_all b [] c h =
         let z = measure_none (program_of i.image) plan (harts_of i focus) a b owns (start i.image i.settings.harts) in
-        sym z ∙ ap (λ (d : ℕ). measure_at i owns plan focus a b d) h
+        sym z ∙ ap (λ (d : ℕ). measure_at i owns plan (harts_of i focus) a b d) h
     sums_all b (x ∷ xs) c h =
-        let first : x.sum ≡ measure_at i owns plan focus a b x.to = h.1.sum ∙ ap (λ (d : ℕ). measure_at i owns plan focus a d x.to) h.0 in
+        let first : x.sum ≡ measure_at i owns plan (harts_of i focus) a b x.to = h.1.sum ∙ ap (λ (d : ℕ). measure_at i owns plan (harts_of i focus) a d x.to) h.0 in
         let rest = sums_all x.to xs c h.2 in
         let both : (x.sum + sum_by (λ y. y.sum) xs) % 2 ^ 64 ≡ (x.sum + sum_by (λ y. y.sum) xs % 2 ^ 64) % 2 ^ 64 = omega arith in
         ap (λ (v : ℕ). v % 2 ^ 64) (sum_by-cons (λ (y : Bin). y.sum) x xs)
         ∙ (both
         ∙ (ap (λ (v : ℕ). (x.sum + v) % 2 ^ 64) rest
-        ∙ (ap (λ (v : ℕ). (v + measure_at i owns plan focus a x.to c) % 2 ^ 64) first
+        ∙ (ap (λ (v : ℕ). (v + measure_at i owns plan (harts_of i focus) a x.to c) % 2 ^ 64) first
         ∙ measures_add.times (program_of i.image) plan (harts_of i focus) a b x.to c owns (start i.image i.settings.harts))))
 
     one_bin : (b : ℕ) (x : Bin) (xs : List Bin) (c : ℕ) → AreMeasured i owns plan focus a b (x ∷ xs) c → IsMeasured i owns plan focus a (bin_of (x ∷ xs))
@@ -93,7 +94,7 @@ module _ (i : Inputs) (plan : Plan) (focus : Focus) (a : ℕ) where
           ordered = omega (arith, ends, ordered, begins);
           past = omega (arith, ends, past);
           sum = sums_all b (x ∷ xs) c h
-              ∙ (ap (λ (d : ℕ). measure_at i owns plan focus a d c) (sym begins) ∙ ap (λ (d : ℕ). measure_at i owns plan focus a x.from d) (sym ends));
+              ∙ (ap (λ (d : ℕ). measure_at i owns plan (harts_of i focus) a d c) (sym begins) ∙ ap (λ (d : ℕ). measure_at i owns plan (harts_of i focus) a x.from d) (sym ends));
         }
 
     pieces_measured : (fuel w b : ℕ) (xs : List Bin) (c : ℕ) → 0 < w → length xs ≤ fuel → AreMeasured i owns plan focus a b xs c

@@ -15,7 +15,7 @@ use Rattle.instrumented.specs.Instrumented.{Instrumented, done}
 use Rattle.mdl_plan.specs.declared.fault.PlanFault.{PlanFault}
 use Rattle.session_spec.specs.declared.data.Shown.{Shown}
 use Rattle.session_spec.specs.Inputs.{Inputs, harts_of, planned}
-use Rattle.session_spec.specs.Due.{all_armed, arm_all, armed_at, is_armed, is_ready, machine_armed, measure_by, measured, recorded_with, sample_of, sampled_to}
+use Rattle.session_spec.specs.Due.{all_armed, arm_all, armed_at, is_armed, is_ready, machine_armed, measure_at, measure_by, measured, recorded_with, sample_of, sampled_to}
 use Rattle.session_spec.specs.Work.{with_room}
 use Rattle.session_laws.proofs.Standing.{IsRoster, Since}
 use Rattle.session_laws.proofs.Arming.{ready_arms, ready_placing}
@@ -23,7 +23,7 @@ use Rattle.session_laws.proofs.Likes.{AreBelow}
 use Rattle.session_laws.proofs.Seen.{AreApart, AreTests, NotBy, tags}
 use Rattle.session_laws.proofs.Carrying.{AllArmed, all_arm}
 use Rattle.session_laws.proofs.Sampling.{armed_is}
-use Rattle.session_laws.specs.Bins.{AreMeasured, IsRecorded, measure_at}
+use Rattle.session_laws.specs.Bins.{AreMeasured, IsRecorded}
 use Rattle.session_laws.proofs.Measured.{all_longer, all_push, bins_measured, ordered_all}
 
 -- ---- one instrument
@@ -157,7 +157,7 @@ module _ (i : Inputs) (owns : List ℕ) where
   -- ---- samples
 
   module _ (time : ℕ) (timed : time ≡ length owns) where
-    measured_is : (x : Shown) (plan : Plan) (a : ℕ) → planned i x.metric x.focus ≡ Ok plan → x.armed ≡ Some a → measured i owns x time ≡ measure_at i owns plan x.focus a x.from time
+    measured_is : (x : Shown) (plan : Plan) (a : ℕ) → planned i x.metric x.focus ≡ Ok plan → x.armed ≡ Some a → measured i owns x time ≡ measure_at i owns plan (harts_of i x.focus) a x.from time
     unfolding measured
     measured_is x plan a is armed =
         ap (λ (r : Result Plan PlanFault). measure_by r i (harts_of i x.focus) (unwrap_or x.armed 0) x.from time owns) is

@@ -27,10 +27,14 @@ is_armed_state Gone = false
 abbrev pub is_armed : Placements → Shown → Bool
 is_armed p s = is_armed_state (state_of p s.instrument.n)
 
--- What the plan of a pair measures on the program's own run, from time b to time c, where it was armed at time a.
+-- What a plan measures on the program's own run from time b to time c, for these harts, where it was armed at time a.
+abbrev pub measure_at : Inputs → List ℕ → Plan → List ℕ → ℕ → ℕ → ℕ → ℕ
+measure_at i owns plan harts a b c = measure (program_of i.image) plan harts a b c owns (start i.image i.settings.harts)
+
+-- what the plan of a pair does
 abbrev pub measure_by : Result Plan PlanFault → Inputs → List ℕ → ℕ → ℕ → ℕ → List ℕ → ℕ
 measure_by (Err fault) i harts a b c owns = 0
-measure_by (Ok plan) i harts a b c owns = measure (program_of i.image) plan harts a b c owns (start i.image i.settings.harts)
+measure_by (Ok plan) i harts a b c owns = measure_at i owns plan harts a b c
 
 unfoldable pub measured : Inputs → List ℕ → Shown → ℕ → ℕ
 measured i owns s time = measure_by (planned i s.metric s.focus) i (harts_of i s.focus) (unwrap_or s.armed 0) s.from time owns

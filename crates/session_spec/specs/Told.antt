@@ -3,16 +3,14 @@ use Rattle.std.specs.Prelude.{◌≡◌, ℕ, ◌<◌, ◌≤◌, ◌⊎◌, if�
 use Rattle.pn_types.specs.declared.pick.BarCause.{BarCause}
 use Rattle.pn_types.specs.declared.plan.Plan.{Plan}
 use Rattle.pn_types.specs.declared.quantum.Quantum.{Quantum}
-use Rattle.rv_mem.specs.Start.{program_of}
-use Rattle.rv_exec.specs.Start.{start}
 use Rattle.fold_hist.specs.declared.bin.Bin.{Bin}
-use Rattle.machine.specs.Measures.{measure}
 use Rattle.w3_axes.specs.Refining.{threshold_of}
 use Rattle.w3_axes.specs.Testing.{holds}
 use Rattle.w3_search.specs.declared.node.Node.{Node}
 use Rattle.w3_search.specs.declared.node.NodeState.TheVariants.{Barred, Confirmed, Rejected, Unfinished}
 use Rattle.session_spec.specs.declared.data.Shown.{Shown}
 use Rattle.session_spec.specs.Inputs.{Inputs, harts_of, planned}
+use Rattle.session_spec.specs.Due.{measure_at}
 use Rattle.session_spec.specs.Searches.{metric_of, rules_of}
 use Rattle.session_spec.specs.States.{State}
 use Rattle.session_spec.specs.Verdicts.{ticks_in}
@@ -29,7 +27,7 @@ pub record IsVerdict (i : Inputs) (owns : List ℕ) (n : Node) : Type 0 where
   pub ordered : n.from ≤ n.to
   pub past : n.to ≤ length owns
   pub window : n.seen ≡ (rules_of i).decl.window
-  pub value : n.value ≡ measure (program_of i.image) plan (harts_of i n.focus) n.from n.from n.to owns (start i.image i.settings.harts)
+  pub value : n.value ≡ measure_at i owns plan (harts_of i n.focus) n.from n.from n.to
   pub ticks : n.ticks ≡ ticks_in owns (harts_of i n.focus) n.from n.to
   pub verdict : n.state ≡ (if holds n.value n.ticks (threshold_of (rules_of i).hypotheses n.hypothesis) then Confirmed else Rejected)
 
