@@ -139,16 +139,16 @@ module _ (i : Inputs) where
     abbrev InTurn : ℕ → Node → BarCause → Type 0
     InTurn n node c = (j : Kept) × IsTurnOf i k j n × IsBarredBy i j node c
 
-    all_turns : (ls before : List ℕ) (j : Kept) → ts ≡ before ++ ls → j ≡ with_nodes i before k → IsNew InTurn k.search.nodes j.search.nodes
-        → IsNew InTurn k.search.nodes (with_nodes i ls j).search.nodes
-    all_turns [] before j e f h = h
-    all_turns (l ∷ ls) before j e f h =
+    all_turns : nat_lt (rules_of i).decl.observed k.observed ≡ false → (ls before : List ℕ) (j : Kept) → ts ≡ before ++ ls → j ≡ with_nodes i before k
+        → IsNew InTurn k.search.nodes j.search.nodes → IsNew InTurn k.search.nodes (with_nodes i ls j).search.nodes
+    all_turns low [] before j e f h = h
+    all_turns low (l ∷ ls) before j e f h =
         let next = with_node i l j in
         cond_both (is_full j.machine.placer) j (with_nodes i ls next) (λ (x : Kept). IsNew InTurn k.search.nodes x.search.nodes) (λ _. h)
         (λ q.
-        let turn : IsTurnOf i k j l = record { before = before; behind = ls; taken = e; is = f; room = q } in
+        let turn : IsTurnOf i k j l = record { observed = low; before = before; behind = ls; taken = e; is = f; room = q } in
         let room : is_full (with_nodes i before k).machine.placer ≡ false = ap (λ (x : Kept). is_full x.machine.placer) (sym f) ∙ q in
-        all_turns ls (before ++ l ∷ []) next (e ∙ sym (append_assoc before (l ∷ []) ls)) (ap (with_node i l) f ∙ sym (with_nodes_on before l k room))
+        all_turns low ls (before ++ l ∷ []) next (e ∙ sym (append_assoc before (l ∷ []) ls)) (ap (with_node i l) f ∙ sym (with_nodes_on before l k room))
         (λ m y c g s.
         ⊎_elim (λ z. h m y c z s) (λ (b : (m ≡ l) × IsBarredBy i j y c). inr (j, subst (IsTurnOf i k j) (sym b.0) turn, b.1)) (turned l j m y c g s)))
 
@@ -156,19 +156,24 @@ module _ (i : Inputs) where
     unfolding with_tests
     tests_turns =
         cond_both (nat_lt (rules_of i).decl.observed k.observed) k (with_nodes i ts k) (λ (x : Kept). IsNew InTurn k.search.nodes x.search.nodes)
-        (λ _ m y c e s. inl e) (λ _. all_turns ts [] k refl refl (λ m y c e s. inl e))
+        (λ _ m y c e s. inl e) (λ low. all_turns low ts [] k refl refl (λ m y c e s. inl e))
 
   -- wishes leave the search as it is
   same_wish : (v : SearchData) → KeepsWish i (λ (j : Kept). j.search ≡ v)
   same_wish v = record { beside = λ k j b e. b.search ∙ e; drops = λ k n e. e; wished = λ k plan w placer is a e. e }
 
-  admission_turns : (k : Kept) → IsNew (InTurn (with_wishes i k.wishes k)) k.search.nodes (with_admission i k).search.nodes
+  -- its turn came at an admission, and it was barred then
+  abbrev AtAdmission : Kept → ℕ → Node → BarCause → Type 0
+  AtAdmission k n node c = (k.worked ≡ true) × InTurn (with_wishes i k.wishes k) n node c
+
+  admission_turns : (k : Kept) → IsNew (AtAdmission k) k.search.nodes (with_admission i k).search.nodes
   unfolding with_admission
   admission_turns k =
       let o = with_wishes i k.wishes k in
       let same : o.search ≡ k.search = wishes_kept i (λ (j : Kept). j.search ≡ k.search) (same_wish k.search) k.wishes k refl in
       let new = subst (λ (v : SearchData). IsNew (InTurn o) v.nodes (with_tests i o).search.nodes) same (tests_turns o) in
-      cond_both k.worked (record (with_tests i o) { worked = false }) k (λ (x : Kept). IsNew (InTurn o) k.search.nodes x.search.nodes) (λ _. new) (λ _ m y c e s. inl e)
+      cond_both k.worked (record (with_tests i o) { worked = false }) k (λ (x : Kept). IsNew (AtAdmission k) k.search.nodes x.search.nodes)
+      (λ worked m y c e s. ⊎_elim (λ z. inl z) (λ t. inr (worked, t)) (new m y c e s)) (λ _ m y c e s. inl e)
 
   -- ---- what bars no node
 
@@ -273,7 +278,7 @@ module _ (i : Inputs) where
   offered_on : (first rest : List Quantum) (k : Kept) → WasOffered i first k → WasOffered i (first ++ rest) k
   offered_on first rest k (inl e) = inl e
   offered_on first rest k (inr o) =
-      inr (o.0, o.1, o.2 ++ rest, ap (λ (qs : List Quantum). qs ++ rest) o.3 ∙ append_assoc o.0 (o.1 ∷ o.2) rest, o.4)
+      inr (o.0, o.1, o.2 ++ rest, ap (λ (qs : List Quantum). qs ++ rest) o.3 ∙ append_assoc o.0 (o.1 ∷ o.2) rest, o.4, o.5)
 
   was_on : (first rest : List Quantum) (n : ℕ) (node : Node) (c : BarCause) → Was first n node c → Was (first ++ rest) n node c
   was_on first rest n node c w = record { offer = w.offer; offered = offered_on first rest w.offer w.offered; now = w.now; turn = w.turn; cause = w.cause }
@@ -285,11 +290,12 @@ module _ (i : Inputs) where
   bars_tend first q s e h =
       let now = first ++ q ∷ [] in
       let o = with_wishes i s.kept.wishes s.kept in
-      let offered : WasOffered i now o = inr (first, q, [], refl, ap (λ (x : State). with_wishes i x.kept.wishes x.kept) e) in
+      let offered : s.kept.worked ≡ true → WasOffered i now o =
+      λ worked. inr (first, q, [], refl, ap (λ (x : State). x.kept.worked) (sym e) ∙ worked, ap (λ (x : State). with_wishes i x.kept.wishes x.kept) e) in
       let before : AllBy (Was now) s.kept.search.nodes = λ n node c g f. was_on first (q ∷ []) n node c (h n node c g f) in
       let admitted : AllBy (Was now) (with_admission i s.kept).search.nodes =
       all_by (Was now) s.kept.search.nodes (with_admission i s.kept).search.nodes before
-      (λ n node c g f. ⊎_elim (λ z. inl z) (λ t. inr (was_turned now o offered n node c t)) (admission_turns s.kept n node c g f)) in
+      (λ n node c g f. ⊎_elim (λ z. inl z) (λ (t : AtAdmission s.kept n node c). inr (was_turned now o (offered t.0) n node c t.1)) (admission_turns s.kept n node c g f)) in
       kept_by (Was now) (state_admitted i s).kept.search.nodes (tend i q.hart q.turns s).kept.search.nodes (kept_tend q.hart q.turns s) admitted
 
   work_on : (first rest : List Quantum) (s : State) → work_from i (first ++ rest) s ≡ work_from i rest (work_from i first s)

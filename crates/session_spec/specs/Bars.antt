@@ -1,5 +1,5 @@
 -- Why a node of a session's search can't be tested.
-use Rattle.std.specs.Prelude.{◌≡◌, ◌⊎◌, ℕ, Some, Ok, Err, List, ◌∷◌, ◌++◌, false, take}
+use Rattle.std.specs.Prelude.{◌≡◌, ◌⊎◌, ℕ, Some, Ok, Err, List, ◌∷◌, ◌++◌, false, nat_lt, take, true}
 use Rattle.pn_types.specs.declared.pick.BarCause.{BarCause}
 use Rattle.pn_types.specs.declared.plan.Plan.{Plan}
 use Rattle.pn_types.specs.declared.quantum.Quantum.{Quantum}
@@ -40,15 +40,18 @@ IsBarredBy i k n c = HasNoPlan i n c ⊎ HasNoRoom i k n c
 
 -- ---- when
 
--- In the course of these quanta the search took nodes in k: at the opening, behind its wishes, or when a quantum began, behind those
--- that were due then.
+-- In the course of these quanta nodes could be taken in k: at the opening, behind its wishes, or at the admission with which a quantum
+-- began, behind the wishes that were due then.
 abbrev pub WasOffered : Inputs → List Quantum → Kept → Type 0
 WasOffered i quanta k =
     (k ≡ wished i)
-    ⊎ ((first : List Quantum) × (q : Quantum) × (rest : List Quantum) × (quanta ≡ first ++ q ∷ rest) × (k ≡ with_wishes i (work i first).kept.wishes (work i first).kept))
+    ⊎ ((first : List Quantum) × (q : Quantum) × (rest : List Quantum) × (quanta ≡ first ++ q ∷ rest) × ((work i first).kept.worked ≡ true)
+        × (k ≡ with_wishes i (work i first).kept.wishes (work i first).kept))
 
--- The turn of node n comes in j, where the search takes nodes in k, one after another.
+-- The turn of node n comes in j, where nodes are taken in k one after another: the observed cost isn't above its limit then, and there
+-- may be one more instrument.
 pub record IsTurnOf (i : Inputs) (k j : Kept) (n : ℕ) : Type 0 where
+  pub observed : nat_lt (rules_of i).decl.observed k.observed ≡ false
   pub before : List ℕ
   pub behind : List ℕ
   pub taken : take taken_at_once (waiting_of k.search.nodes) ≡ before ++ n ∷ behind
