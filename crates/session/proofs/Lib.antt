@@ -19,4 +19,7 @@ pub mod Halting
 pub mod Ticks
 pub mod Begun
 pub mod Opened
+pub mod PartBins
+pub mod Ends
+pub mod Recorded
 pub mod Searched

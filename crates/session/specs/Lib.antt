@@ -6,4 +6,5 @@ pub mod Outcomes
 pub mod Sessions
 pub mod Kept
 pub mod Parts
+pub mod Bins
 pub mod Seen

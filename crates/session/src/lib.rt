@@ -10,6 +10,7 @@ mod desk;
 mod fault;
 mod inputs;
 mod later;
+mod laws;
 mod node_parts;
 mod opening;
 mod outcome;
@@ -27,4 +28,5 @@ mod wishing;
 
 pub use fault::StartFault;
 pub use inputs::Inputs;
+pub use laws::parts_told;
 pub use session::Session;

@@ -2,10 +2,16 @@ ghost use Rattle.std.specs.Prelude.{◌≡◌, ℕ, ◌<◌, ◌≤◌, ◌^◌,
 ghost use Rattle.machine.specs.Turns.{is_runnable};
 ghost use Rattle.session_spec.specs.Inputs.{inputs_of};
 ghost use Rattle.session_spec.specs.Opening.{bad_pick};
-ghost use Rattle.session_laws.specs.Costs.{IsWithin};
 ghost use Rattle.session_spec.specs.Run.{IsRun};
-ghost use Rattle.session_spec.specs.Told.{AreTold, AreVerdicts};
+ghost use Rattle.session_spec.specs.Told.{AreEnded, AreJudged};
 ghost use Rattle.session_spec.specs.Work.{AreAllowed, Halted, IsWhole, quantum_of};
+ghost use Rattle.session_laws.specs.Bins.{AreRecorded};
+ghost use Rattle.session_laws.specs.Costs.{AreWithin, IsWithin};
+ghost use Rattle.session_laws.specs.Feed.{IsFeed};
+ghost use Rattle.session_laws.specs.Printed.{AreForOpening, AreWholeRuns};
+ghost use Rattle.session_laws.specs.Readings.{AreReadNext};
+ghost use Rattle.session_laws.specs.Told.{AreBarred};
+ghost use Rattle.session.specs.Bins.{AreParts, AreWholeParts};
 ghost use Rattle.session.specs.Given.{AreGiven};
 ghost use Rattle.session.specs.Parts.{parts_of};
 ghost use Rattle.session.specs.Sessions.{begun, IsStartFault, state_of};
@@ -169,16 +175,27 @@ impl Session {
     }
 
     /// What holds of it: each of its quanta was allowed when it came; and its machine came about by events of which each could happen,
-    /// is the unpatched program's behind those of them that are ticks, and so has its memory, output, ticks and stops. The search's
-    /// nodes are a history; each verdict is that of the program's own run; behind the end each node has one, or says why not; and
-    /// what is under test costs no more than the limit.
+    /// is the unpatched program's behind a legal run of it, and so has its memory, output, ticks and stops. What was recorded for an
+    /// instrument, and what its part of a report shows, follows from its arming on, and is what its plan measures on that run; so is
+    /// what was told of it; and each sample is a difference of readings. Where all wishes are for the opening, and none drops a pair,
+    /// that is so of the whole run. The search's nodes are a history; each verdict is that of the program's own run, by the samples of
+    /// an instrument of the node's own; each barred node was barred when its turn came; behind the end each node has a verdict, or says
+    /// why not; and what is under test costs no more than the limit, at each moment.
     pub fn laws(&self)
         ensures allowed { AreAllowed self.now.inputs self.now.quanta }
         ensures run { IsRun self.now.inputs (state_of self.now) }
+        ensures bins { AreRecorded self.now.inputs (state_of self.now) }
+        ensures parts { AreParts self.now.inputs (state_of self.now) }
+        ensures feed { IsFeed (state_of self.now) }
+        ensures read { self.now.closed ≡ false → AreReadNext self.now.inputs self.now.quanta (state_of self.now) }
+        ensures whole { self.now.closed ≡ true → AreForOpening self.now.inputs → AreWholeRuns self.now.inputs (state_of self.now) }
+        ensures whole_parts { self.now.closed ≡ true → AreForOpening self.now.inputs → AreWholeParts self.now.inputs (state_of self.now) }
         ensures history { IsHistory (state_of self.now).kept.search }
-        ensures verdicts { self.now.closed ≡ false → AreVerdicts self.now.inputs (state_of self.now) }
-        ensures told { self.now.closed ≡ true → AreTold self.now.inputs (state_of self.now) }
+        ensures verdicts { self.now.closed ≡ false → AreJudged self.now.inputs (state_of self.now) }
+        ensures bars { AreBarred self.now.inputs self.now.quanta (state_of self.now) }
+        ensures told { self.now.closed ≡ true → AreEnded self.now.inputs self.now.quanta (state_of self.now) }
         ensures cost { IsWithin self.now.inputs (state_of self.now).kept }
+        ensures moments { self.now.closed ≡ false → AreWithin self.now.inputs (state_of self.now) }
     {
         let _nodes = self.desk.search.nodes();
     }
