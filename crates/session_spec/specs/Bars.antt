@@ -46,7 +46,7 @@ abbrev pub WasOffered : Inputs → List Quantum → Kept → Type 0
 WasOffered i quanta k =
     (k ≡ wished i)
     ⊎ ((first : List Quantum) × (q : Quantum) × (rest : List Quantum) × (quanta ≡ first ++ q ∷ rest) × ((work i first).kept.worked ≡ true)
-        × (k ≡ with_wishes i (work i first).kept.wishes (work i first).kept))
+    × (k ≡ with_wishes i (work i first).kept.wishes (work i first).kept))
 
 -- The turn of node n comes in j, where nodes are taken in k one after another: the observed cost isn't above its limit then, and there
 -- may be one more instrument.
