@@ -1,0 +1,1 @@
+"""The reference: a slow program that does what `paradyn` does, written apart from it."""

@@ -1,0 +1,1 @@
+"""The rows of the test programs: what each is expected to print, made of its inputs."""

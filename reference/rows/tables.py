@@ -1,0 +1,46 @@
+"""The test programs with rows: what each of their lines prints."""
+from paradyn import commands
+from . import calls, language, machine, records
+
+
+def text(lines):
+    return "".join(line + "\n" for line in lines).encode()
+
+
+def top_cases(folder):
+    """Pairs of a row and what it prints."""
+    return calls.answers((folder / "stdin").read_bytes())
+
+
+def table_rows(folder):
+    """Pairs of a table's name and a row of it; the lines that begin with # say nothing."""
+    for line in (folder / "stdin").read_text().removesuffix("\n").split("\n"):
+        if not line.startswith("#"):
+            yield line, *line.partition(" ")[::2]
+
+
+def language_rows(folder):
+    source = (folder / "src/searches/rows.rt").read_text()
+    tables = {"language": language.answer, "command": records.command, "record": records.record,
+              "search": lambda row: records.search(row, source)}
+    for line, table, row in table_rows(folder):
+        yield line, text(tables[table](row) if table in tables else ["no table"])
+
+
+def machine_rows(folder):
+    judge = machine.Judge()
+    tables = {"admissions": machine.admissions, "code": machine.code, "conformance": judge.answer}
+    for line, table, row in table_rows(folder):
+        yield line, text(tables[table](row) if table in tables else ["no table"])
+    yield "the counts at the end", text(judge.end())
+
+
+def paradyn(folder):
+    """One call, whose words are in `args`."""
+    words = (folder / "args").read_text().split("\n")
+    words = [w for w in words if w]
+    result = commands.execute(words, lambda name: (folder / "data" / name).read_bytes())
+    yield " ".join(words), result.out
+
+
+CRATES = {"top_cases": top_cases, "language_rows": language_rows, "machine_rows": machine_rows, "paradyn": paradyn}
