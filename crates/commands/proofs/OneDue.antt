@@ -1,6 +1,6 @@
 -- What is due is unique where each file was seen as one thing.
 use Rattle.std.proofs.Common.{◌≡◌, ℕ, Bool, true, false, List, Option, Some, None, Result, Ok, Err, refl, sym, ap, ◌∙◌}
-use Rattle.std.specs.Prelude.{codes, is_some}
+use Rattle.std.specs.Prelude.{codes}
 use Rattle.command_words.specs.Requests.{Request, RunRequest, LiveRequest, ReplayRequest, PlanRequest, StressRequest, VisiRequest, DirectRequest, run, live, replay, make_plan, assemble, list_points, relog, stress, count_blocks, visi, advise, direct, request_of}
 use Rattle.advice.specs.Reading.{verdicts_of}
 use Rattle.directives.specs.Acts.{applied}
@@ -91,7 +91,7 @@ opened_alike None i AreRight texts_of (Err f) b (quanta, right, e) d = absurd (c
 opened_alike (Some wish) i AreRight texts_of a b d e = of_same a b (d ∙ sym e)
 
 live_alike : (r : LiveRequest) (i : SessionInputs) (a b : Result Texts Fault) → IsLiveWith r i a → IsLiveWith r i b → AreAlike a b
-live_alike r i = opened_alike (bad_pick i) i (IsShared i r.workers r.quantum) (texts_of_run (is_some r.log) i)
+live_alike r i = opened_alike (bad_pick i) i (IsShared i r.workers r.quantum) (texts_of_run i)
 
 -- ---- configurations
 
@@ -191,7 +191,7 @@ module _ (laws : Laws) where
   opened_once (Some wish) i AreRight texts_of one a b e f = e ∙ sym f
 
   run_once : (r : RunRequest) (i : SessionInputs) → IsOne (IsRunWith r i)
-  run_once r i = opened_once (bad_pick i) i (IsSeeded i r.seed r.quantum) (texts_of_run (is_some r.log) i) (laws.seeded i r.seed r.quantum)
+  run_once r i = opened_once (bad_pick i) i (IsSeeded i r.seed r.quantum) (texts_of_run i) (laws.seeded i r.seed r.quantum)
 
   visi_once : (r : VisiRequest) (i : SessionInputs) → IsOne (IsVisiWith r i)
   visi_once r i = opened_once (bad_pick i) i (IsSeeded i r.seed r.quantum) (views_of r.views i) (laws.seeded i r.seed r.quantum)

@@ -1,6 +1,6 @@
 -- The count of faults of a file that the answer names as unread has risen.
 use Rattle.std.proofs.Common.{◌≡◌, ℕ, List, length, Option, Some, None, Bool, true, false, cond, Result, Ok, Err, sym, subst}
-use Rattle.std.specs.Prelude.{⊤, codes, is_some, nat_lt}
+use Rattle.std.specs.Prelude.{⊤, codes, nat_lt}
 use Rattle.asm_file.specs.Made.{elf_of}
 use Rattle.advice.specs.Reading.{verdicts_of}
 use Rattle.advice.specs.declared.fault.ReportFault.{ReportFault}
@@ -228,12 +228,12 @@ module _ (name : List ℕ) (P : Type 0) (sees : Sight) (at_file : (other : List 
   at_run : (r : RunRequest) → IsRunDue r sees (Err (FileFault name)) → P
   at_run r =
       of_either P (IsPrepared r.program r.conf r.settings sees) (IsRunWith r) (FileFault name) (at_prepared name P sees at_file r.program r.conf r.settings)
-      (λ i e. absurd (opened_spared (bad_pick i) i (IsSeeded i r.seed r.quantum) (texts_of_run (is_some r.log) i) name e))
+      (λ i e. absurd (opened_spared (bad_pick i) i (IsSeeded i r.seed r.quantum) (texts_of_run i) name e))
 
   at_live : (r : LiveRequest) → IsLiveDue r sees (Err (FileFault name)) → P
   at_live r =
       of_either P (IsPrepared r.program r.conf r.settings sees) (IsLiveWith r) (FileFault name) (at_prepared name P sees at_file r.program r.conf r.settings)
-      (λ i e. absurd (opened_spared (bad_pick i) i (IsShared i r.workers r.quantum) (texts_of_run (is_some r.log) i) name e))
+      (λ i e. absurd (opened_spared (bad_pick i) i (IsShared i r.workers r.quantum) (texts_of_run i) name e))
 
   at_log : (other : List ℕ) → IsLog sees other (Err (FileFault name)) → P
   at_log other =

@@ -1,5 +1,5 @@
 -- What is due for the commands that run a program: `run`, `live`, `visi` and `stress`.
-use Rattle.std.specs.Prelude.{◌≡◌, ℕ, Bool, is_some, if◌then◌else◌, List, replicate, Option, None, Some, Ok, Err, codes}
+use Rattle.std.specs.Prelude.{◌≡◌, ℕ, if◌then◌else◌, List, replicate, Option, None, Some, Ok, Err, codes}
 use Rattle.std.specs.Str.{bytes_eq}
 use Rattle.code_points.specs.Procedures.{skipped_of}
 use Rattle.command_words.specs.Requests.{RunRequest, LiveRequest, VisiRequest, StressRequest}
@@ -40,17 +40,17 @@ IsOpened (Some wish) i AreRight texts_of texts = texts ≡ Err (pick_fault i wis
 
 -- ---- run and live
 
--- the report of these quanta, and their log if one is asked for
-abbrev pub texts_of_run : Bool → Inputs → List Quantum → Texts
-texts_of_run logged i quanta = record { out = report_of i quanta (skipped_of i.image); log = log_of logged i quanta }
+-- the report of these quanta, and their log
+abbrev pub texts_of_run : Inputs → List Quantum → Texts
+texts_of_run i quanta = record { out = report_of i quanta (skipped_of i.image); log = log_of i quanta }
 
 -- the whole list of quanta in the order of the seed
 abbrev pub IsRunWith : RunRequest → Inputs → Step Texts
-IsRunWith r i = IsOpened (bad_pick i) i (IsSeeded i r.seed r.quantum) (texts_of_run (is_some r.log) i)
+IsRunWith r i = IsOpened (bad_pick i) i (IsSeeded i r.seed r.quantum) (texts_of_run i)
 
 -- a whole list of quanta that the workers shared
 abbrev pub IsLiveWith : LiveRequest → Inputs → Step Texts
-IsLiveWith r i = IsOpened (bad_pick i) i (IsShared i r.workers r.quantum) (texts_of_run (is_some r.log) i)
+IsLiveWith r i = IsOpened (bad_pick i) i (IsShared i r.workers r.quantum) (texts_of_run i)
 
 abbrev pub IsRunDue : RunRequest → Sight → Step Texts
 IsRunDue r sees = Then (IsPrepared r.program r.conf r.settings sees) (IsRunWith r)

@@ -31,10 +31,11 @@ use mdl_shipped::shipped;
 use outside::Files;
 use pn_types::{Image, MAX_QUANTUM, Seq};
 use refusals::{ConfFault, ConfKind, Fault, Refusal, directive_kind};
+use report::report;
 use resource_tree::Tree;
 use session::{Inputs as SessionInputs, StartFault};
 use std::alloc::Global;
-use whole_run::{Course, record_run};
+use whole_run::run_parts;
 
 /// The greatest length of directives in bytes.
 pub const DIRECTIVES_LIMIT: u64 = 1_048_576;
@@ -113,14 +114,11 @@ fn direct_inputs(
     ensures { Comes result (IsDirectWith (asked_direct request.now) inputs) }
 {
     let (_, skipped) = procedures(alloc, &inputs.image)?;
-    let course = Course {
-        seed: request.seed,
-        turns: request.quantum,
-        skipped,
-        logged: false,
-    };
-    match record_run(alloc, inputs, &course) {
-        Ok(recorded) => Ok(Texts::output(alloc, recorded.report)),
+    match run_parts(alloc, inputs, request.seed, request.quantum) {
+        Ok(parts) => {
+            let text = report(alloc, &parts, skipped)?;
+            Ok(Texts::output(alloc, text))
+        }
         Err(StartFault::NoMemory) => Err(Refusal::NoMemory),
         Err(StartFault::BadPick(metric, focus, cause)) => Err(bad_pick(metric, focus, cause)),
     }

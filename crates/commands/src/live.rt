@@ -1,6 +1,6 @@
 //! The command `live`.
 
-ghost use Rattle.std.specs.Prelude.{◌≡◌, ◌≤◌, is_some, IfOk};
+ghost use Rattle.std.specs.Prelude.{◌≡◌, ◌≤◌, IfOk};
 ghost use Rattle.code_points.specs.Procedures.{skipped_of};
 ghost use Rattle.command_words.specs.Asked.{asked_live};
 ghost use Rattle.command_words.specs.Requests.{HasRanges, live};
@@ -24,10 +24,10 @@ use std::alloc::Global;
 use std::sync::Wait;
 use std::thread::Threads;
 
-/// What is asked for of a run of the image by workers.
+/// The course of a run of the image by workers.
 fn course(alloc: Global, request: &LiveRequest<'_>, image: &Image) -> Result<LiveCourse, NoMemory>
     requires { IsImage image.now }
-    ensures { IfOk result (λ course. course ≡ record { team = record { workers = request.now.workers; harts = request.now.settings.harts; turns = request.now.quantum }; skipped = skipped_of image.now; logged = is_some (asked_live request.now).log }) }
+    ensures { IfOk result (λ course. course ≡ record { team = record { workers = request.now.workers; harts = request.now.settings.harts; turns = request.now.quantum }; skipped = skipped_of image.now }) }
 {
     let (_, skipped) = procedures(alloc, image)?;
     let team = Team {
@@ -35,11 +35,7 @@ fn course(alloc: Global, request: &LiveRequest<'_>, image: &Image) -> Result<Liv
         harts: request.settings.harts,
         turns: request.quantum,
     };
-    Ok(LiveCourse {
-        team,
-        skipped,
-        logged: request.log.is_some(),
-    })
+    Ok(LiveCourse { team, skipped })
 }
 
 /// What is due of a run by workers with these inputs.

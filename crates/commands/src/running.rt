@@ -1,6 +1,6 @@
 //! The command `run`.
 
-ghost use Rattle.std.specs.Prelude.{◌≡◌, ◌≤◌, is_some, IfOk};
+ghost use Rattle.std.specs.Prelude.{◌≡◌, ◌≤◌, IfOk};
 ghost use Rattle.code_points.specs.Procedures.{skipped_of};
 ghost use Rattle.command_words.specs.Asked.{asked_run};
 ghost use Rattle.command_words.specs.Requests.{HasRanges, run};
@@ -21,17 +21,16 @@ use session::{Inputs, StartFault};
 use std::alloc::Global;
 use whole_run::{Course, Recorded, record_run};
 
-/// What is asked for of a run of the image.
+/// The course of a run of the image.
 fn course(alloc: Global, request: &RunRequest<'_>, image: &Image) -> Result<Course, NoMemory>
     requires { IsImage image.now }
-    ensures { IfOk result (λ course. course ≡ record { seed = request.now.seed; turns = request.now.quantum; skipped = skipped_of image.now; logged = is_some (asked_run request.now).log }) }
+    ensures { IfOk result (λ course. course ≡ record { seed = request.now.seed; turns = request.now.quantum; skipped = skipped_of image.now }) }
 {
     let (_, skipped) = procedures(alloc, image)?;
     Ok(Course {
         seed: request.seed,
         turns: request.quantum,
         skipped,
-        logged: request.log.is_some(),
     })
 }
 

@@ -11,4 +11,4 @@ use Rattle.live_run.specs.declared.recorded.LiveCourse.{LiveCourse}
 pub record IsLiveRecorded (i : Inputs) (c : LiveCourse) (r : Recorded) : Type 0 where
   pub quanta : List Quantum
   pub shared : IsShared i c.team.workers c.team.turns quanta
-  pub record_of : IsRecordOf i quanta c.skipped c.logged r
+  pub record_of : IsRecordOf i quanta c.skipped r

@@ -16,15 +16,13 @@ use std::sync::Wait;
 use std::thread::Threads;
 use whole_run::{Recorded, record_end};
 
-/// Who runs a program, and what is asked for of the run.
+/// Who runs a program, and what a report says of the program beside the run.
 #[derive(Clone, Copy, PartialEq, Eq, Drop)]
 pub struct LiveCourse {
     /// The workers.
     pub team: Team,
     /// The number of the program's function symbols that are no procedures.
     pub skipped: u32,
-    /// A log is asked for.
-    pub logged: bool,
 }
 
 /// Lets a team run a session that just began to its end.
@@ -49,7 +47,7 @@ fn live_on<R: Threads + Wait + Sync, G: Gate + Sync>(
     ensures { IfOk result (IsLiveRecorded session.inputs course.now) }
 {
     let mut session = run_live(rt, alloc, session, course.team, gate)?;
-    record_end(alloc, settings, &mut session, course.skipped, course.logged)
+    record_end(alloc, settings, &mut session, course.skipped)
 }
 
 /// Runs a program with its instruments by a team of workers, until none of its harts can take another quantum. It answers the report

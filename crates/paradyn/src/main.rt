@@ -1,7 +1,7 @@
 //! The program: it makes the real files and sinks and hands them to the top call.
 #![tactic(auto)]
 
-use outside::{FileSink, OpenGate, OsFiles, StdSink};
+use outside::{DropSink, FileSink, OpenGate, OsFiles, StdSink};
 use paradyn_top::{Words, log_name, run_program};
 use pn_types::NoMemory;
 use std::alloc::Global;
@@ -26,11 +26,14 @@ fn words(rt: &HostRuntime) -> Words {
     }
 }
 
-/// The name of the log's file, and no name where none is asked for: nothing is written to it then.
-fn log_file(alloc: Global, words: &Words) -> Result<String, NoMemory> {
-    match words {
-        Words::Read(words) => String::from_str(alloc, log_name(words).unwrap_or("")),
-        _ => String::from_str(alloc, ""),
+/// The name of the log's file, if one is asked for.
+fn log_file(alloc: Global, words: &Words) -> Result<Option<String>, NoMemory> {
+    let Words::Read(words) = words else {
+        return Ok(None);
+    };
+    match log_name(words) {
+        Some(name) => Ok(Some(String::from_str(alloc, name)?)),
+        None => Ok(None),
     }
 }
 
@@ -41,13 +44,26 @@ fn main(rt: HostRuntime) -> ExitCode {
         Ok(name) => name,
         Err(_) => {
             words = Words::NoMemory;
-            String::new(alloc)
+            None
         }
     };
     let mut files = OsFiles::new(rt);
     let mut out = StdSink::new(rt);
-    let mut log = FileSink::new(rt, name);
-    run_program(
-        &rt, alloc, &words, &mut files, &mut out, &mut log, &OpenGate,
-    )
+    match name {
+        Some(name) => {
+            let mut log = FileSink::new(rt, name);
+            run_program(
+                &rt, alloc, &words, &mut files, &mut out, &mut log, &OpenGate,
+            )
+        }
+        None => run_program(
+            &rt,
+            alloc,
+            &words,
+            &mut files,
+            &mut out,
+            &mut DropSink,
+            &OpenGate,
+        ),
+    }
 }

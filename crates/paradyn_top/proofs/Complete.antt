@@ -1,5 +1,5 @@
 -- What follows of the answer that was given: it is complete, and tells of each fault of files and sinks.
-use Rattle.std.proofs.Common.{◌≡◌, ℕ, ◌+◌, Bool, true, false, List, Option, Result, Ok, Err, inl, inr, ◌⊎◌, refl, ap, ◌∙◌, arith}
+use Rattle.std.proofs.Common.{◌≡◌, ℕ, ◌+◌, Bool, true, false, List, Option, Some, Result, Ok, Err, inl, inr, ◌⊎◌, refl, ap, ◌∙◌, arith}
 use Rattle.std.proofs.Math.Nat.{min-eq_left}
 use Rattle.std.proofs.lemmas.Bool.{cases_eq}
 use Rattle.command_words.specs.Requests.{request_of}
@@ -9,9 +9,13 @@ use Rattle.refusals.specs.declared.fault.Fault.{Fault}
 use Rattle.refusals.specs.declared.fault.Fault.TheVariants.{Usage, FileFault, BadProgram, BadConf, BadPick, BadLog, TooManyBlocks, BadDirectives, BadReport}
 use Rattle.paradyn_top.specs.Answers.{status_of, texts_of}
 use Rattle.paradyn_top.specs.Delivery.{IsTorn}
-use Rattle.commands.specs.Due.{AreOne, is_live}
-use Rattle.paradyn_top.specs.Serving.{AreGained, AreTold, AreTorn, IsOwed, IsSpared, IsUntold, OneOwed}
+use Rattle.commands.specs.Due.{AreOne, IsDue, is_live}
+use Rattle.commands.specs.Sights.{seen, Looks}
+use Rattle.refusals.specs.Refusals.{Comes}
+use Rattle.refusals.specs.declared.refusal.Refusal.{Refusal}
+use Rattle.paradyn_top.specs.Serving.{AreGained, AreTold, AreTorn, IsOwed, IsServed, IsSpared, IsUntold, OneOwed, told_of}
 use Rattle.commands.specs.declared.texts.Texts.{Texts}
+use Rattle.paradyn_top.proofs.Served.{owed, untold}
 
 -- a sink that was torn isn't spared
 torn_rises : {K : Type 0} (has : K → Option (List ℕ)) (count : K → ℕ) (old new : K) (bytes : List ℕ) → IsTorn has count old new bytes → IsSpared (count old) (count new) → ⊥
@@ -33,7 +37,7 @@ module _ {F K L : Type 0} (holds : F → List ℕ → Holding) (faults : F → L
   abbrev Owed : Result Texts Fault → Type 0
   Owed = IsOwed holds faults old new words
 
-  -- the clauses of the top call
+  -- by the answer that was given
   pub record IsAnswered : Type 0 where
     pub answered : (result ≡ 7 → ⊥) → (result ≡ 8 → ⊥) → (answer : Result Texts Fault) × Owed answer × (result ≡ status_of answer) × AreGained hasK faultsK oldK newK hasL faultsL oldL newL (texts_of answer)
     pub torn : result ≡ 7 → (answer : Result Texts Fault) × Owed answer × AreTorn hasK faultsK oldK newK hasL faultsL oldL newL (texts_of answer)
@@ -44,7 +48,7 @@ module _ {F K L : Type 0} (holds : F → List ℕ → Holding) (faults : F → L
     not_torn answer (inl t) k l = torn_rises hasL faultsL oldL newL (texts_of answer).log t.1 l
     not_torn answer (inr t) k l = torn_rises hasK faultsK oldK newK (texts_of answer).out t.1 k
 
-    pub complete : OneOwed holds faults → AreTold holds faults old → (due : Texts) → Owed (Ok due) → IsSpared (faultsK oldK) (faultsK newK) → IsSpared (faultsL oldL) (faultsL newL) → (result ≡ 0) ⊎ (result ≡ 8)
+    complete : OneOwed holds faults → AreTold holds faults old → (due : Texts) → Owed (Ok due) → IsSpared (faultsK oldK) (faultsK newK) → IsSpared (faultsL oldL) (faultsL newL) → (result ≡ 0) ⊎ (result ≡ 8)
     complete one told due owed k l = by (cases_eq result 7) (cases_eq result 8)
       where
         by : (result ≡ 7) ⊎ (result ≡ 7 → ⊥) → (result ≡ 8) ⊎ (result ≡ 8 → ⊥) → (result ≡ 0) ⊎ (result ≡ 8)
@@ -67,7 +71,7 @@ module _ {F K L : Type 0} (holds : F → List ℕ → Holding) (faults : F → L
     status_three name rose (Err (BadDirectives fault)) owed = absurd (rose (owed.counts name))
     status_three name rose (Err (BadReport place)) owed = absurd (rose (owed.counts name))
 
-    pub unread : (name : List ℕ) → (faults new name ≡ faults old name → ⊥) → (result ≡ 3) ⊎ ((result ≡ 7) ⊎ (result ≡ 8))
+    unread : (name : List ℕ) → (faults new name ≡ faults old name → ⊥) → (result ≡ 3) ⊎ ((result ≡ 7) ⊎ (result ≡ 8))
     unread name rose = by (cases_eq result 7) (cases_eq result 8)
       where
         by : (result ≡ 7) ⊎ (result ≡ 7 → ⊥) → (result ≡ 8) ⊎ (result ≡ 8 → ⊥) → (result ≡ 3) ⊎ ((result ≡ 7) ⊎ (result ≡ 8))
@@ -75,7 +79,7 @@ module _ {F K L : Type 0} (holds : F → List ℕ → Holding) (faults : F → L
         by (inr other) (inl eight) = inr (inr eight)
         by (inr other) (inr sound) = let given = a.answered other sound in inl (given.2 ∙ status_three name rose given.0 given.1)
 
-    pub unwritten : ((faultsK newK ≡ faultsK oldK → ⊥) ⊎ (faultsL newL ≡ faultsL oldL → ⊥)) → result ≡ 7
+    unwritten : ((faultsK newK ≡ faultsK oldK → ⊥) ⊎ (faultsL newL ≡ faultsL oldL → ⊥)) → result ≡ 7
     unwritten rose = by (cases_eq result 7) (cases_eq result 8)
       where
         risen : (faultsK newK ≡ faultsK oldK) → (faultsL newL ≡ faultsL oldL) → ⊥
@@ -89,3 +93,20 @@ module _ {F K L : Type 0} (holds : F → List ℕ → Holding) (faults : F → L
         by (inl seven) x = seven
         by (inr other) (inl eight) = let same = a.memory eight in absurd (risen (ap faultsK same.0) (ap faultsL same.1))
         by (inr other) (inr sound) = let given = a.answered other sound in absurd (risen (given.3.0).calm (given.3.1).calm)
+
+    -- and so all of it
+    served : OneOwed holds faults → IsServed holds faults old new words hasK faultsK oldK newK hasL faultsL oldL newL result
+    served one = record { answered = a.answered; torn = a.torn; memory = a.memory; complete = complete one; unread = unread; unwritten = unwritten }
+
+  -- by what an answer comes to, where it is given to the sinks
+  pub given : (r : Result Texts Refusal) → OneOwed holds faults → Comes r (IsDue words (seen (holds old) (faults old) (faults new))) → Looks holds faults old new r
+      → ((result ≡ 7 → ⊥) → (result ≡ 8 → ⊥) → (answer : Result Texts Fault) × (told_of r ≡ Some answer) × (result ≡ status_of answer) × AreGained hasK faultsK oldK newK hasL faultsL oldL newL (texts_of answer))
+      → (result ≡ 7 → (answer : Result Texts Fault) × (told_of r ≡ Some answer) × AreTorn hasK faultsK oldK newK hasL faultsL oldL newL (texts_of answer)) → (result ≡ 8 → (newK ≡ oldK) × (newL ≡ oldL))
+      → IsServed holds faults old new words hasK faultsK oldK newK hasL faultsL oldL newL result
+  given r one due looks answered torn memory =
+      served (record {
+        answered = λ other sound. let a = answered other sound in (a.0, owed holds faults old new words r a.0 due looks a.1, a.2, a.3);
+        torn = λ is. let a = torn is in (a.0, owed holds faults old new words r a.0 due looks a.1, a.2);
+        memory = λ is. let same = memory is in (same.0, same.1, untold holds faults old new words r due looks);
+      })
+      one

@@ -49,6 +49,22 @@ AreTorn hasK faultsK oldK newK hasL faultsL oldL newL texts =
 abbrev pub IsSpared : ℕ → ℕ → Type 0
 IsSpared before now = (before < 2 ^ 64 - 1) × (now ≡ before)
 
+-- What a call does that serves words, by its status.
+pub record IsServed {F K L : Type 0} (holds : F → List ℕ → Holding) (faults : F → List ℕ → ℕ) (old new : F) (words : List (List ℕ))
+    (hasK : K → Option (List ℕ)) (faultsK : K → ℕ) (oldK newK : K) (hasL : L → Option (List ℕ)) (faultsL : L → ℕ) (oldL newL : L) (status : ℕ) : Type 0 where
+  -- All but 7 and 8: the answer that is due was given, and both sinks gained its bytes.
+  pub answered : (status ≡ 7 → ⊥) → (status ≡ 8 → ⊥)
+      → (answer : Result Texts Fault) × IsOwed holds faults old new words answer × (status ≡ status_of answer) × AreGained hasK faultsK oldK newK hasL faultsL oldL newL (texts_of answer)
+  -- 7: a sink lacks a part of what was due, and its count of faults rose.
+  pub torn : status ≡ 7 → (answer : Result Texts Fault) × IsOwed holds faults old new words answer × AreTorn hasK faultsK oldK newK hasL faultsL oldL newL (texts_of answer)
+  -- 8: nothing was written, and nothing was read beyond what is due.
+  pub memory : status ≡ 8 → (newK ≡ oldK) × (newL ≡ oldL) × IsUntold holds faults old new words
+  -- Complete: where texts are due and no sink failed, they were given, or memory was wanting.
+  pub complete : AreTold holds faults old → (due : Texts) → IsOwed holds faults old new words (Ok due) → IsSpared (faultsK oldK) (faultsK newK) → IsSpared (faultsL oldL) (faultsL newL) → (status ≡ 0) ⊎ (status ≡ 8)
+  -- A file that could not be read, and a sink that failed, tell themselves by the status.
+  pub unread : (name : List ℕ) → (faults new name ≡ faults old name → ⊥) → (status ≡ 3) ⊎ ((status ≡ 7) ⊎ (status ≡ 8))
+  pub unwritten : (faultsK newK ≡ faultsK oldK → ⊥) ⊎ (faultsL newL ≡ faultsL oldL → ⊥) → status ≡ 7
+
 -- the words of a command line; words that aren't text are none, and are no command
 abbrev pub words_read : Words → Option (List (List ℕ))
 words_read (Read words) = Some (map string_bytes words.items)

@@ -1,10 +1,6 @@
-ghost use Rattle.std.specs.Prelude.{◌≡◌, ◌≢◌, List, ℕ, MatchOption, Result, Some};
-ghost use Rattle.outside.specs.Outside.{IsCalm};
+ghost use Rattle.std.specs.Prelude.{◌≡◌, MatchOption};
 ghost use Rattle.std.specs.Process.{exit_status};
-ghost use Rattle.paradyn_top.specs.Answers.{status_of, texts_of};
-ghost use Rattle.paradyn_top.specs.Serving.{IsOwed, IsUntold, AreGained, AreTorn, words_read};
-ghost use Rattle.commands.specs.declared.texts.Texts.{Texts as texts};
-ghost use Rattle.refusals.specs.declared.fault.Fault.{Fault as fault};
+ghost use Rattle.paradyn_top.specs.Serving.{IsServed, words_read};
 
 use crate::top::paradyn;
 use outside::{Files, Gate, Sink};
@@ -34,19 +30,9 @@ pub fn run_program<R: Threads + Wait + Sync, F: Files, K: Sink, L: Sink, G: Gate
     log: &mut L,
     gate: &G,
 ) -> ExitCode
-    // As `paradyn` says for these words.
-    ensures answered { exit_status result ≢ 7 → exit_status result ≢ 8 → (read : List (List ℕ)) × (words_read words.now ≡ Some read)
-        × (answer : Result texts fault)
-        × IsOwed F.holds F.faults files.old files.new read answer
-        × (exit_status result ≡ status_of answer)
-        × AreGained K.has K.faults out.old out.new L.has L.faults log.old log.new (texts_of answer) }
-    ensures torn { exit_status result ≡ 7 → (read : List (List ℕ)) × (words_read words.now ≡ Some read)
-        × (answer : Result texts fault)
-        × IsOwed F.holds F.faults files.old files.new read answer
-        × AreTorn K.has K.faults out.old out.new L.has L.faults log.old log.new (texts_of answer) }
-    // 8: nothing was written; and nothing was read beyond what is due, or at all where the words were not read.
-    ensures memory { exit_status result ≡ 8 → (out.new ≡ out.old) × (log.new ≡ log.old)
-        × MatchOption (words_read words.now) (IsCalm F.faults files.old files.new) (λ read. IsUntold F.holds F.faults files.old files.new read) }
+    // As `paradyn` says for these words. Where they could not be read for want of memory, nothing was read or written.
+    ensures { MatchOption (words_read words.now) ((exit_status result ≡ 8) × (out.new ≡ out.old) × (log.new ≡ log.old) × (files.new ≡ files.old))
+        (λ read. IsServed F.holds F.faults files.old files.new read K.has K.faults out.old out.new L.has L.faults log.old log.new (exit_status result)) }
 {
     match words {
         Words::Read(words) => ExitCode::from(paradyn(rt, alloc, words, files, out, log, gate)),

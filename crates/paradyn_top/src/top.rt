@@ -1,7 +1,7 @@
-ghost use Rattle.std.specs.Prelude.{◌≡◌, ◌≢◌, ◌⊎◌, ℕ, false, IfOk, List, Result, Ok, Err, Some, map, string_bytes};
+ghost use Rattle.std.specs.Prelude.{◌≡◌, ◌≢◌, false, IfOk, Result, Err, Some, map, string_bytes};
 ghost use Rattle.command_words.specs.Requests.{begins_threaded};
 ghost use Rattle.paradyn_top.specs.Answers.{status_of, texts_of};
-ghost use Rattle.paradyn_top.specs.Serving.{IsOwed, IsSpared, IsUntold, IsReply, AreGained, AreTold, AreTorn, told_of};
+ghost use Rattle.paradyn_top.specs.Serving.{IsReply, IsServed, AreGained, AreTorn, told_of};
 ghost use Rattle.commands.specs.declared.texts.Texts.{Texts as texts};
 ghost use Rattle.refusals.specs.declared.fault.Fault.{Fault as fault};
 
@@ -79,19 +79,9 @@ pub fn serve<F: Files, K: Sink, L: Sink>(
     log: &mut L,
 ) -> u8
     requires { begins_threaded (map string_bytes words.now) ≡ false }
-    // All but 7 and 8: the answer that is due was given, and both sinks gained its bytes.
-    ensures answered { result ≢ 7 → result ≢ 8 → (answer : Result texts fault)
-        × IsOwed F.holds F.faults files.old files.new (map string_bytes words.now) answer
-        × (result ≡ status_of answer)
-        × AreGained K.has K.faults out.old out.new L.has L.faults log.old log.new (texts_of answer) }
-    // 7: a sink lacks a part of what was due, and its count of faults rose.
-    ensures torn { result ≡ 7 → (answer : Result texts fault)
-        × IsOwed F.holds F.faults files.old files.new (map string_bytes words.now) answer
-        × AreTorn K.has K.faults out.old out.new L.has L.faults log.old log.new (texts_of answer) }
-    // 8: nothing was written, and nothing was read beyond what is due.
-    ensures memory { result ≡ 8 → (out.new ≡ out.old) × (log.new ≡ log.old)
-        × IsUntold F.holds F.faults files.old files.new (map string_bytes words.now) }
+    ensures { IsServed F.holds F.faults files.old files.new (map string_bytes words.now) K.has K.faults out.old out.new L.has L.faults log.old log.new result }
 {
+    one_owed::<F>();
     let answered = answer(alloc, words, files);
     give(alloc, answered, out, log)
 }
@@ -125,24 +115,7 @@ pub fn paradyn<R: Threads + Wait + Sync, F: Files, K: Sink, L: Sink, G: Gate + S
     log: &mut L,
     gate: &G,
 ) -> u8
-    // All but 7 and 8: the answer that is due was given, and both sinks gained its bytes.
-    ensures answered { result ≢ 7 → result ≢ 8 → (answer : Result texts fault)
-        × IsOwed F.holds F.faults files.old files.new (map string_bytes words.now) answer
-        × (result ≡ status_of answer)
-        × AreGained K.has K.faults out.old out.new L.has L.faults log.old log.new (texts_of answer) }
-    // 7: a sink lacks a part of what was due, and its count of faults rose.
-    ensures torn { result ≡ 7 → (answer : Result texts fault)
-        × IsOwed F.holds F.faults files.old files.new (map string_bytes words.now) answer
-        × AreTorn K.has K.faults out.old out.new L.has L.faults log.old log.new (texts_of answer) }
-    // 8: nothing was written, and nothing was read beyond what is due.
-    ensures memory { result ≡ 8 → (out.new ≡ out.old) × (log.new ≡ log.old)
-        × IsUntold F.holds F.faults files.old files.new (map string_bytes words.now) }
-    // Complete: where texts are due and no sink failed, they were given, or memory was wanting.
-    ensures complete { AreTold F.holds F.faults files.old → (due : texts) → IsOwed F.holds F.faults files.old files.new (map string_bytes words.now) (Ok due)
-        → IsSpared (K.faults out.old) (K.faults out.new) → IsSpared (L.faults log.old) (L.faults log.new) → (result ≡ 0) ⊎ (result ≡ 8) }
-    // A file that could not be read, and a sink that failed, tell themselves by the status.
-    ensures unread { (name : List ℕ) → F.faults files.new name ≢ F.faults files.old name → (result ≡ 3) ⊎ ((result ≡ 7) ⊎ (result ≡ 8)) }
-    ensures unwritten { (K.faults out.new ≢ K.faults out.old) ⊎ (L.faults log.new ≢ L.faults log.old) → result ≡ 7 }
+    ensures { IsServed F.holds F.faults files.old files.new (map string_bytes words.now) K.has K.faults out.old out.new L.has L.faults log.old log.new result }
 {
     one_owed::<F>();
     if begin_threaded(words) {

@@ -1,29 +1,29 @@
 -- An admission of the code is the definitions'.
 use Rattle.std.proofs.Common.{◌≡◌, ℕ, zero, suc, ◌+◌, ◌-◌, ◌≤◌, List, [], ◌∷◌, ◌++◌, Option, Some, None, Ok, Err, refl, sym, ap, ap₂, ◌∙◌, subst, arith, length}
-use Rattle.std.specs.Prelude.{Bool, true, false, cond, Result, drop, replicate, take}
+use Rattle.std.specs.Prelude.{Bool, true, false, cond, Result, drop, map, replicate, take}
 use Rattle.std.specs.List.{AllByRecursion}
 use Rattle.std.proofs.lemmas.List.{length-append, length-map, map-append}
-use Rattle.fold_hist.specs.Bins.{Histogram, hist_of}
+use Rattle.fold_hist.specs.Bins.{Histogram}
 use Rattle.pn_types.specs.declared.pick.PickCause.{PickCause}
 use Rattle.pn_types.specs.declared.plan.Plan.{Plan}
 use Rattle.mdl_check.specs.declared.checked.CheckedWish.{CheckedWish}
 use Rattle.mdl_plan.specs.declared.fault.PlanFault.{PlanFault}
 use Rattle.instrument.specs.Placements.{Placements, admission}
 use Rattle.instrument.specs.declared.number.Refused.{Refused}
-use Rattle.instrument.proofs.Folds.{append_nil}
 use Rattle.session_spec.specs.declared.data.Shown.{Shown}
 use Rattle.session_spec.specs.Inputs.{Inputs, cause_of_plan, cause_of_refusal, planned}
 use Rattle.session_spec.specs.States.{Kept}
 use Rattle.session_spec.specs.Admission.{shown_now, with_admission, with_answer, with_drop, with_plan, with_refused, with_show, with_wish, with_wishes}
 use Rattle.session_spec.specs.Opening.{with_all}
 use Rattle.session_spec.specs.Readings.{lasts_with}
-use Rattle.session_spec.specs.Reads.{desk_admitted, hists_with}
 use Rattle.session_spec.specs.Tests.{taken_at_once, with_tests}
 use Rattle.session_spec.proofs.Going.{wish_time}
 use Rattle.session_kits.specs.declared.kit.Kit.{Kit}
-use Rattle.session.specs.Tables.{IsAdmission, IsCount, IsMore, IsNew, IsStill, Table, desk_at, kept_of}
+use Rattle.session_kits.specs.Kits.{AreLive}
+use Rattle.session_kits.proofs.Dropped.{shown_in}
+use Rattle.session.specs.Tables.{IsAdmission, IsCount, IsMore, IsNew, IsStill, Table, hist_at, kept_of}
 use Rattle.session.proofs.Counting.{count_low, take_many}
-use Rattle.session.proofs.Simulated.{hists_in, lasts_in, shown_in}
+use Rattle.session.proofs.Steps.{none_more, still_first}
 
 -- ---- a wish doesn't look at those that are to come
 
@@ -57,10 +57,6 @@ module _ (i : Inputs) (w : CheckedWish) (ws : List CheckedWish) (k : Kept) where
       by true = show_beside (shown_now k w)
       by false = drop_beside (shown_now k w)
 
-all_beside : (i : Inputs) (vs ws : List CheckedWish) (k : Kept) → with_all i vs (record k { wishes = ws }) ≡ record (with_all i vs k) { wishes = ws }
-all_beside i [] ws k = refl
-all_beside i (v ∷ vs) ws k = ap (with_all i vs) (wish_beside i v ws k) ∙ all_beside i vs ws (with_wish i v k)
-
 -- those that aren't above the time are looked at, and the others are left
 wishes_are : (i : Inputs) (ws : List CheckedWish) (n : ℕ) (k : Kept) → IsCount k.time ws n → k.wishes ≡ ws → with_wishes i ws k ≡ with_all i (take n ws) (record k { wishes = drop n ws })
 wishes_are i [] n k c e = subst (λ m. k ≡ with_all i (take m []) (record k { wishes = drop m [] })) (sym c) (ap (λ x. record k { wishes = x }) e)
@@ -75,13 +71,12 @@ wishes_are i (w ∷ ws) (suc n) k c e =
 
 -- ---- what is known of new pairs
 
+abbrev lasts_in : List Kit → List ℕ
+lasts_in kits = map (λ (k : Kit). k.last) kits
+
 new_lasts : (i : Inputs) (more : List Kit) → AllByRecursion (IsNew i) more → lasts_in more ≡ replicate (length more) 0
 new_lasts i [] a = refl
 new_lasts i (k ∷ more) a = ap₂ (λ (x : ℕ) (xs : List ℕ). x ∷ xs) (a.0).last (new_lasts i more a.1)
-
-new_hists : (i : Inputs) (more : List Kit) → AllByRecursion (IsNew i) more → hists_in more ≡ replicate (length more) (hist_of i.settings.bins [])
-new_hists i [] a = refl
-new_hists i (k ∷ more) a = ap₂ (λ (x : Histogram) (xs : List Histogram). x ∷ xs) (a.0).hist (new_hists i more a.1)
 
 -- how many are new
 many_new : (old more new : List Kit) → new ≡ old ++ more → length (shown_in new) - length (lasts_in old) ≡ length more
@@ -96,39 +91,27 @@ pub lasts_more : (i : Inputs) (old new : List Kit) → IsMore i old new → last
 lasts_more i old new m =
     ap lasts_in m.is ∙ (map-append (λ (k : Kit). k.last) old m.more ∙ ap (λ l. lasts_in old ++ l) (new_lasts i m.more m.each ∙ ap (λ n. replicate n 0) (sym (many_new old m.more new m.is))))
 
-pub hists_more : (i : Inputs) (old new : List Kit) → IsMore i old new → hists_in new ≡ hists_with i.settings.bins (shown_in new) (hists_in old)
+-- nothing was recorded of them
+pub hists_new : (i : Inputs) (more : List Kit) → AllByRecursion (IsNew i) more → map (λ (k : Kit). k.hist) more ≡ map (λ (s : Shown). hist_at i s []) (shown_in more)
+hists_new i [] a = refl
+hists_new i (k ∷ more) a = ap₂ (λ (x : Option Histogram) (xs : List (Option Histogram)). x ∷ xs) (a.0).hist (hists_new i more a.1)
+
+pub hists_more : (i : Inputs) (old new : List Kit) (m : IsMore i old new) → map (λ (k : Kit). k.hist) new ≡ map (λ (k : Kit). k.hist) old ++ map (λ (s : Shown). hist_at i s []) (shown_in m.more)
 hists_more i old new m =
-    let same : length (lasts_in old) ≡ length (hists_in old) = length-map old (λ (k : Kit). k.last) ∙ sym (length-map old (λ (k : Kit). k.hist)) in
-    let many : length (shown_in new) - length (hists_in old) ≡ length m.more = subst (λ n. length (shown_in new) - n ≡ length m.more) same (many_new old m.more new m.is) in
-    ap hists_in m.is ∙ (map-append (λ (k : Kit). k.hist) old m.more ∙ ap (λ l. hists_in old ++ l) (new_hists i m.more m.each ∙ ap (λ n. replicate n (hist_of i.settings.bins [])) (sym many)))
+    ap (map (λ (k : Kit). k.hist)) m.is ∙ (map-append (λ (k : Kit). k.hist) old m.more ∙ ap (λ l. map (λ (k : Kit). k.hist) old ++ l) (hists_new i m.more m.each))
 
 -- ---- an admission
 
-desk_is : (i : Inputs) (later left : List CheckedWish) (t new : Table) → kept_of left new ≡ with_admission i (kept_of later t) → IsMore i t.kits new.kits → IsStill t new → desk_at left new ≡ desk_admitted i (desk_at later t)
-desk_is i later left t new kept m still =
-    let shown : shown_in new.kits ≡ (with_admission i (kept_of later t)).shown = ap (λ (k : Kept). k.shown) kept in
-    let lasts = lasts_more i t.kits new.kits m ∙ ap (λ s. lasts_with s (lasts_in t.kits)) shown in
-    let hists = hists_more i t.kits new.kits m ∙ ap (λ s. hists_with i.settings.bins s (hists_in t.kits)) shown in
-    let latest = ap (λ (x : Table). x.latest) still.same in
-    let marks = ap (λ (x : Table). x.marks) still.same in
-    ap₂ (λ (x : Kept) (l : List ℕ). record { kept = x; lasts = l; hists = hists_in new.kits; latest = new.latest; marks = new.marks }) kept lasts
-    ∙ (ap₂ (λ (h : List Histogram) (l : List _). record { kept = with_admission i (kept_of later t); lasts = lasts_with (with_admission i (kept_of later t)).shown (lasts_in t.kits); hists = h; latest = l; marks = new.marks }) hists latest
-    ∙ ap (λ (x : List ℕ). record (desk_admitted i (desk_at later t)) { marks = x }) marks)
-
 -- no work was done
-pub none_admitted : (i : Inputs) (later : List CheckedWish) (t : Table) → t.worked ≡ false → desk_at later t ≡ desk_admitted i (desk_at later t)
+pub no_admission : (i : Inputs) (later : List CheckedWish) (t : Table) → t.worked ≡ false → AreLive t.machine.state.placer t.kits t.live → IsAdmission i later t t 0
 unfolding with_admission
-none_admitted i later t e =
-    desk_is i later later t t (sym (ap (λ b. cond b (record (with_tests i (with_wishes i later (kept_of later t))) { worked = false }) (kept_of later t)) e)) (record { more = []; is = sym (append_nil t.kits); each = tt })
-    (record { same = refl; core = refl; rules = refl })
-
-pub no_admission : (i : Inputs) (later : List CheckedWish) (t : Table) → t.worked ≡ false → IsAdmission i later t t 0
-no_admission i later t e = record {
+no_admission i later t e live = record {
   looked = omega arith;
-  desk = none_admitted i later t e;
-  kits = record { more = []; is = sym (append_nil t.kits); each = tt };
+  kept = sym (ap (λ b. cond b (record (with_tests i (with_wishes i later (kept_of later t))) { worked = false }) (kept_of later t)) e);
+  kits = none_more i t.kits;
   few = omega arith;
-  stays = record { same = refl; core = refl; rules = refl };
+  live = live;
+  stays = still_first t;
 }
 
 some_admitted : (i : Inputs) (later : List CheckedWish) (n : ℕ) (t new : Table) → t.worked ≡ true → IsCount t.time later n
@@ -141,15 +124,16 @@ some_admitted i later n t new e c kept =
 -- the wishes were looked at and the nodes taken, and the admission was done
 pub one_admission : (i : Inputs) (later : List CheckedWish) (n : ℕ) (t admitted new : Table) → t.worked ≡ true → IsCount t.time later n
     → ((ws : List CheckedWish) → kept_of ws admitted ≡ with_tests i (with_all i (take n later) (kept_of ws t))) → IsMore i t.kits admitted.kits → length admitted.kits ≤ length t.kits + length (take n later) + taken_at_once
-    → IsStill t admitted → new ≡ record admitted { worked = false } → IsAdmission i later t new n
-one_admission i later n t admitted new worked count kept kits few still is =
+    → IsStill t admitted → AreLive admitted.machine.state.placer admitted.kits admitted.live → new ≡ record admitted { worked = false } → IsAdmission i later t new n
+one_admission i later n t admitted new worked count kept kits few still live is =
     let low = count_low t.time later n count in
     let len = take_many n later low in
     let stays : IsStill t (record admitted { worked = false }) = record { same = ap (λ (x : Table). record x { worked = false }) still.same; core = still.core; rules = still.rules } in
     subst (λ (x : Table). IsAdmission i later t x n) (sym is) (record {
       looked = low;
-      desk = desk_is i later (drop n later) t (record admitted { worked = false }) (some_admitted i later n t admitted worked count (kept (drop n later))) kits stays;
+      kept = some_admitted i later n t admitted worked count (kept (drop n later));
       kits = kits;
       few = omega arith;
+      live = live;
       stays = stays;
     })

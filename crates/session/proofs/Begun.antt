@@ -12,6 +12,7 @@ use Rattle.session_spec.specs.Tests.{taken_at_once, with_tests}
 use Rattle.session_spec.specs.States.{Kept}
 use Rattle.session_kits.specs.declared.kit.Kit.{Kit}
 use Rattle.session.specs.Given.{AreGiven, AreNarrow, IsWishOf}
+use Rattle.session_kits.specs.Kits.{AreLive}
 use Rattle.session.specs.Contenders.{HasCost, first_search}
 use Rattle.rv_mem.specs.Start.{program_of}
 use Rattle.session_spec.specs.Searches.{rules_of}
@@ -103,9 +104,9 @@ module _ (i : Inputs) (t : Table) (e : t ≡ first_table i) where
 
 -- the wishes were looked at, and the first nodes taken
 pub wished_is : (i : Inputs) (first t : Table) → first ≡ first_table i → AreGiven i → AreNarrow i → ((ws : List CheckedWish) → kept_of ws t ≡ with_tests i (with_all i (first_wishes i) (kept_of ws first))) → IsMore i first.kits t.kits
-    → length t.kits ≤ length first.kits + length (first_wishes i) + taken_at_once → IsStill first t → IsProgram i.image → IsWished i t
+    → length t.kits ≤ length first.kits + length (first_wishes i) + taken_at_once → AreLive t.machine.state.placer t.kits t.live → IsStill first t → IsProgram i.image → IsWished i t
 unfolding wished first_search
-wished_is i first t e g narrow kept kits few still program =
+wished_is i first t e g narrow kept kits few live still program =
     let none : first.kits ≡ [] = ap (λ (x : Table). x.kits) e in
     let l = ap (λ (x : List Kit). length x) none in
     record {
@@ -114,6 +115,7 @@ wished_is i first t e g narrow kept kits few still program =
       kept = kept (later_wishes i) ∙ ap (λ (x : Table). with_tests i (with_all i (first_wishes i) (kept_of (later_wishes i) x))) e;
       kits = subst (λ (x : List Kit). IsMore i x t.kits) none kits;
       few = omega arith;
+      live = live;
       still = subst (λ (x : Table). IsStill x t) e still;
     }
 

@@ -1,9 +1,7 @@
 -- What nodes need is made, one after another.
-use Rattle.std.proofs.Common.{◌≡◌, ℕ, zero, suc, ◌+◌, ◌<◌, ◌≤◌, ◌^◌, List, [], ◌∷◌, ◌++◌, Some, refl, sym, ap, ap₂, ◌∙◌, subst, arith, length, inl, inr, ⊎_elim, append_assoc}
+use Rattle.std.proofs.Common.{◌≡◌, ℕ, zero, suc, ◌+◌, ◌<◌, ◌≤◌, ◌^◌, List, [], ◌∷◌, ◌++◌, Some, refl, sym, ap, ◌∙◌, subst, arith, length, inl, inr, ⊎_elim, append_assoc}
 use Rattle.std.specs.Prelude.{None, cond, drop, map, nat_lt, slice_get, take, true, false, Bool, ◌⊎◌}
-use Rattle.std.proofs.lemmas.List.{map-append}
-use Rattle.instrument.proofs.Folds.{append_nil}
-use Rattle.session.proofs.Counting.{take_all}
+use Rattle.std.proofs.lemmas.List.{length-map, map-append}
 use Rattle.pn_types.specs.declared.plan.Plan.{Plan}
 use Rattle.prim_code.specs.Counts.{predicted}
 use Rattle.machine.specs.Cores.{In}
@@ -19,8 +17,8 @@ use Rattle.session_spec.specs.Tests.{taken_at_once, with_nodes, with_tests}
 use Rattle.session_spec.proofs.Queues.{taken_below}
 use Rattle.session_spec.proofs.Within.{harts_within, within}
 use Rattle.resource_tree.specs.Foci.{IsBelow, harts_of}
-use Rattle.session.specs.declared.contender.Contender.{Contender}
-use Rattle.session.specs.Contenders.{AreContenders, IsContender, IsNodeOf, nodes_in, queue_of}
+use Rattle.session.specs.declared.candidate.Candidate.{Candidate}
+use Rattle.session.specs.Contenders.{AreContenders, AreWithout, IsContender, IsNodeOf, MustWait, number_of, number_or_none, numbers_in, queue_of}
 use Rattle.session.specs.Given.{AreGiven}
 use Rattle.session.specs.Tables.{AreReady}
 
@@ -55,13 +53,26 @@ queued i observed v g h rules n q =
 
 -- ---- one after another
 
-snoc : (i : Inputs) (ns : List Node) (ms : List ℕ) (ps : List Plan) (cs : List Contender) (m : ℕ) (p : Plan) (c : Contender) → AreContenders i ns ms ps cs → IsContender i ns m p c → AreContenders i ns (ms ++ m ∷ []) (ps ++ p ∷ []) (cs ++ c ∷ [])
-snoc i ns [] [] [] m p c a k = (k, tt)
-snoc i ns [] [] (x ∷ cs) m p c a k = absurd a
-snoc i ns [] (q ∷ ps) cs m p c a k = absurd a
-snoc i ns (n ∷ ms) [] cs m p c a k = absurd a
-snoc i ns (n ∷ ms) (q ∷ ps) [] m p c a k = absurd a
-snoc i ns (n ∷ ms) (q ∷ ps) (x ∷ cs) m p c a k = (a.0, snoc i ns ms ps cs m p c a.1 k)
+snoc : (i : Inputs) (ns : List Node) (ps : List Plan) (cs : List Candidate) (p : Plan) (c : Candidate) → AreContenders i ns ps cs → IsContender i ns p c → AreContenders i ns (ps ++ p ∷ []) (cs ++ c ∷ [])
+snoc i ns [] [] p c a k = (k, tt)
+snoc i ns [] (x ∷ cs) p c a k = absurd a
+snoc i ns (q ∷ ps) [] p c a k = absurd a
+snoc i ns (q ∷ ps) (x ∷ cs) p c a k = (a.0, snoc i ns ps cs p c a.1 k)
+
+-- a node more is taken, or left out
+one_taken : (i : Inputs) (all : List Node) (force : ℕ) (ns ms : List ℕ) (n : ℕ) → AreWithout i all force ns ms → AreWithout i all force (ns ++ n ∷ []) (ms ++ n ∷ [])
+one_taken i all force [] [] n a = inl (refl, tt)
+one_taken i all force [] (m ∷ ms) n a = absurd a
+one_taken i all force (x ∷ ns) [] n a = inr (a.0, one_taken i all force ns [] n a.1)
+one_taken i all force (x ∷ ns) (m ∷ ms) n (inl a) = inl (a.0, one_taken i all force ns ms n a.1)
+one_taken i all force (x ∷ ns) (m ∷ ms) n (inr a) = inr (a.0, one_taken i all force ns (m ∷ ms) n a.1)
+
+one_left : (i : Inputs) (all : List Node) (force : ℕ) (ns ms : List ℕ) (n : ℕ) → MustWait i all force n → AreWithout i all force ns ms → AreWithout i all force (ns ++ n ∷ []) ms
+one_left i all force [] [] n w a = (w, tt)
+one_left i all force [] (m ∷ ms) n w a = absurd a
+one_left i all force (x ∷ ns) [] n w a = (a.0, one_left i all force ns [] n w a.1)
+one_left i all force (x ∷ ns) (m ∷ ms) n w (inl a) = inl (a.0, one_left i all force ns ms n w a.1)
+one_left i all force (x ∷ ns) (m ∷ ms) n w (inr a) = inr (a.0, one_left i all force ns (m ∷ ms) n w a.1)
 
 take_step : (ws : List ℕ) (k w : ℕ) → slice_get ws k ≡ Some w → take (k + 1) ws ≡ take k ws ++ w ∷ []
 take_step [] k w e = absurd cc
@@ -70,77 +81,71 @@ take_step (v ∷ ws) (suc k) w e =
     let next : suc k + 1 ≡ suc (k + 1) = omega arith in
     ap (λ n. take n (v ∷ ws)) next ∙ ap (λ l. v ∷ l) (take_step ws k w e)
 
--- so many of the queue have what they need, whose plans stand behind the others
-pub record Contending (i : Inputs) (ns : List Node) (queue : List ℕ) (old now : List Plan) (k : ℕ) (cs : List Contender) : Type 0 where
+-- so many of the queue were looked at, and the plans of those that are taken stand behind the others
+pub record Contending (i : Inputs) (ns : List Node) (force : ℕ) (queue : List ℕ) (old now : List Plan) (k : ℕ) (cs : List Candidate) : Type 0 where
   pub more : List Plan
   pub is : now ≡ old ++ more
-  pub each : AreContenders i ns (take k queue) more cs
+  pub each : AreContenders i ns more cs
+  pub without : AreWithout i ns force (take k queue) (numbers_in cs)
 
-pub first_contending : (i : Inputs) (ns : List Node) (queue : List ℕ) (old : List Plan) → Contending i ns queue old old 0 []
-first_contending i ns queue old = record { more = []; is = sym (append_nil old); each = tt }
+module _ (i : Inputs) (ns : List Node) (force : ℕ) (queue : List ℕ) (old : List Plan) where
+  module _ (now : List Plan) (k n : ℕ) (cs : List Candidate) (s : Contending i ns force queue old now k cs) (at : slice_get queue k ≡ Some n) where
+    pub next_taken : (new : List Plan) (ds : List Candidate) (p : Plan) (c : Candidate) → IsContender i ns p c → c.node ≡ Some n → new ≡ now ++ p ∷ [] → ds ≡ cs ++ c ∷ [] → Contending i ns force queue old new (k + 1) ds
+    next_taken new ds p c one number e d =
+        let numbers : numbers_in ds ≡ numbers_in cs ++ n ∷ [] = ap numbers_in d ∙ (map-append number_of cs (c ∷ []) ∙ ap (λ x. numbers_in cs ++ number_or_none x ∷ []) number) in
+        record {
+          more = s.more ++ p ∷ [];
+          is = e ∙ (ap (λ l. l ++ p ∷ []) s.is ∙ append_assoc old s.more (p ∷ []));
+          each = subst (AreContenders i ns (s.more ++ p ∷ [])) (sym d) (snoc i ns s.more cs p c s.each one);
+          without = subst (λ q. AreWithout i ns force q (numbers_in ds)) (sym (take_step queue k n at))
+              (subst (AreWithout i ns force (take k queue ++ n ∷ [])) (sym numbers) (one_taken i ns force (take k queue) (numbers_in cs) n s.without));
+        }
 
-pub next_contending : (i : Inputs) (ns : List Node) (queue : List ℕ) (old now new : List Plan) (k n : ℕ) (cs ds : List Contender) (p : Plan) (c : Contender) → Contending i ns queue old now k cs
-    → slice_get queue k ≡ Some n → IsContender i ns n p c → new ≡ now ++ p ∷ [] → ds ≡ cs ++ c ∷ [] → Contending i ns queue old new (k + 1) ds
-next_contending i ns queue old now new k n cs ds p c s e one q d = record {
-  more = s.more ++ p ∷ [];
-  is = q ∙ (ap (λ l. l ++ p ∷ []) s.is ∙ append_assoc old s.more (p ∷ []));
-  each = subst (AreContenders i ns (take (k + 1) queue) (s.more ++ p ∷ [])) (sym d)
-      (subst (λ l. AreContenders i ns l (s.more ++ p ∷ []) (cs ++ c ∷ [])) (sym (take_step queue k n e)) (snoc i ns (take k queue) s.more cs n p c s.each one));
-}
-
-take_front : (old more : List Plan) → take (length old) (old ++ more) ≡ old
-take_front [] more = refl
-take_front (p ∷ old) more = ap (λ l. p ∷ l) (take_front old more)
-
-drop_front : (old more : List Plan) → drop (length old) (old ++ more) ≡ more
-drop_front [] more = refl
-drop_front (p ∷ old) more = drop_front old more
-
-pub others_stay : (i : Inputs) (ns : List Node) (queue : List ℕ) (old now : List Plan) (k : ℕ) (cs : List Contender) → Contending i ns queue old now k cs → take (length old) now ≡ old
-others_stay i ns queue old now k cs s = ap (take (length old)) s.is ∙ take_front old s.more
-
-pub all_contending : (i : Inputs) (ns : List Node) (queue : List ℕ) (old now : List Plan) (k : ℕ) (cs : List Contender) → Contending i ns queue old now k cs → length queue ≤ k → AreContenders i ns queue (drop (length old) now) cs
-all_contending i ns queue old now k cs s l =
-    subst (λ ps. AreContenders i ns queue ps cs) (sym (ap (drop (length old)) s.is ∙ drop_front old s.more)) (subst (λ q. AreContenders i ns q s.more cs) (take_all queue k l) s.each)
+    pub next_left : MustWait i ns force n → Contending i ns force queue old now (k + 1) cs
+    next_left w = record {
+      more = s.more;
+      is = s.is;
+      each = s.each;
+      without = subst (λ q. AreWithout i ns force q (numbers_in cs)) (sym (take_step queue k n at)) (one_left i ns force (take k queue) (numbers_in cs) n w s.without);
+    }
 
 -- ---- all of them
 
--- the queue is that of the contenders' numbers
-pub queue_is : (i : Inputs) (ns : List Node) (queue : List ℕ) (ps : List Plan) (cs : List Contender) → AreContenders i ns queue ps cs → queue ≡ nodes_in cs
-queue_is i ns [] [] [] a = refl
-queue_is i ns [] [] (c ∷ cs) a = absurd a
-queue_is i ns [] (p ∷ ps) cs a = absurd a
-queue_is i ns (n ∷ ms) [] cs a = absurd a
-queue_is i ns (n ∷ ms) (p ∷ ps) [] a = absurd a
-queue_is i ns (n ∷ ms) (p ∷ ps) (c ∷ cs) a = ap₂ (λ (x : ℕ) (xs : List ℕ). x ∷ xs) (sym (a.0).number) (queue_is i ns ms ps cs a.1)
+pub contenders_short : (i : Inputs) (ns : List Node) (ps : List Plan) (cs : List Candidate) → AreContenders i ns ps cs → (p : Plan) → In p ps → predicted p < 2 ^ 32
+contenders_short i ns [] cs a p h = absurd h
+contenders_short i ns (q ∷ ps) [] a p h = absurd a
+contenders_short i ns (q ∷ ps) (c ∷ cs) a p (inl e) = subst (λ x. predicted x < 2 ^ 32) (sym e) ((a.0).candidate).words
+contenders_short i ns (q ∷ ps) (c ∷ cs) a p (inr h) = contenders_short i ns ps cs a.1 p h
 
-pub contenders_many : (i : Inputs) (ns : List Node) (queue : List ℕ) (ps : List Plan) (cs : List Contender) → AreContenders i ns queue ps cs → length ps ≡ length queue
-contenders_many i ns [] [] [] a = refl
-contenders_many i ns [] [] (c ∷ cs) a = absurd a
-contenders_many i ns [] (p ∷ ps) cs a = absurd a
-contenders_many i ns (n ∷ ms) [] cs a = absurd a
-contenders_many i ns (n ∷ ms) (p ∷ ps) [] a = absurd a
-contenders_many i ns (n ∷ ms) (p ∷ ps) (c ∷ cs) a = ap suc (contenders_many i ns ms ps cs a.1)
+-- there are no more than in the queue
+contenders_many : (i : Inputs) (ns : List Node) (ps : List Plan) (cs : List Candidate) → AreContenders i ns ps cs → length ps ≡ length cs
+contenders_many i ns [] [] a = refl
+contenders_many i ns [] (c ∷ cs) a = absurd a
+contenders_many i ns (p ∷ ps) [] a = absurd a
+contenders_many i ns (p ∷ ps) (c ∷ cs) a = ap suc (contenders_many i ns ps cs a.1)
 
-pub contenders_short : (i : Inputs) (ns : List Node) (queue : List ℕ) (ps : List Plan) (cs : List Contender) → AreContenders i ns queue ps cs → (p : Plan) → In p ps → predicted p < 2 ^ 32
-contenders_short i ns [] [] cs a p h = absurd h
-contenders_short i ns [] (q ∷ ps) cs a p h = absurd a
-contenders_short i ns (n ∷ ms) [] cs a p h = absurd h
-contenders_short i ns (n ∷ ms) (q ∷ ps) [] a p h = absurd a
-contenders_short i ns (n ∷ ms) (q ∷ ps) (c ∷ cs) a p (inl e) = subst (λ x. predicted x < 2 ^ 32) (sym e) (a.0).words
-contenders_short i ns (n ∷ ms) (q ∷ ps) (c ∷ cs) a p (inr h) = contenders_short i ns ms ps cs a.1 p h
+without_less : (i : Inputs) (all : List Node) (force : ℕ) (ns ms : List ℕ) → AreWithout i all force ns ms → length ms ≤ length ns
+without_less i all force [] [] a = omega arith
+without_less i all force [] (m ∷ ms) a = absurd a
+without_less i all force (n ∷ ns) [] a = omega arith
+without_less i all force (n ∷ ns) (m ∷ ms) (inl a) = omega (arith, without_less i all force ns ms a.1)
+without_less i all force (n ∷ ns) (m ∷ ms) (inr a) = omega (arith, without_less i all force ns (m ∷ ms) a.1)
 
 take_low : (n : ℕ) (xs : List ℕ) → length (take n xs) ≤ n
 take_low zero xs = omega arith
 take_low (suc n) [] = omega arith
 take_low (suc n) (x ∷ xs) = let l = take_low n xs in omega arith
 
-pub queue_few : (i : Inputs) (observed : ℕ) (v : SearchData) → length (queue_of i observed v) ≤ taken_at_once
+queue_few : (i : Inputs) (observed : ℕ) (v : SearchData) → length (queue_of i observed v) ≤ taken_at_once
 queue_few i observed v = by (nat_lt (rules_of i).decl.observed observed)
   where
     by : (b : Bool) → length (cond {A = List ℕ} b [] (take taken_at_once (waiting_of v.nodes))) ≤ taken_at_once
     by true = omega arith
     by false = take_low taken_at_once (waiting_of v.nodes)
+
+pub contenders_few : (i : Inputs) (force observed : ℕ) (v : SearchData) (ps : List Plan) (cs : List Candidate) → AreContenders i v.nodes ps cs → AreWithout i v.nodes force (queue_of i observed v) (numbers_in cs) → length ps ≤ taken_at_once
+contenders_few i force observed v ps cs a w =
+    omega (arith, contenders_many i v.nodes ps cs a, length-map cs number_of, without_less i v.nodes force (queue_of i observed v) (numbers_in cs) w, queue_few i observed v)
 
 -- what the search takes is its queue
 pub tests_are : (i : Inputs) (k : Kept) → with_tests i k ≡ with_nodes i (queue_of i k.observed k.search) k

@@ -1,21 +1,23 @@
 -- The state of a session is that behind its quanta, or behind their end.
-use Rattle.std.proofs.Common.{◌≡◌, ap}
+use Rattle.std.proofs.Common.{◌≡◌, List, ap}
 use Rattle.std.specs.Prelude.{Bool, true, false, cond}
+use Rattle.pn_types.specs.declared.quantum.Quantum.{Quantum}
+use Rattle.session_spec.specs.Inputs.{Inputs}
 use Rattle.session_spec.specs.States.{State}
 use Rattle.session_spec.specs.Work.{closed, work}
-use Rattle.session.specs.Sessions.{SessionData, state_of}
+use Rattle.session.specs.Sessions.{state_at}
 
-module _ (s : SessionData) where
-  pub at_the_end : s.closed ≡ true → state_of s ≡ closed s.inputs (work s.inputs s.quanta)
-  at_the_end e = ap (λ b. cond b (closed s.inputs (work s.inputs s.quanta)) (work s.inputs s.quanta)) e
+module _ (i : Inputs) (quanta : List Quantum) (over : Bool) where
+  pub at_the_end : over ≡ true → state_at i quanta over ≡ closed i (work i quanta)
+  at_the_end e = ap (λ b. cond b (closed i (work i quanta)) (work i quanta)) e
 
-  pub before_it : s.closed ≡ false → state_of s ≡ work s.inputs s.quanta
-  before_it e = ap (λ b. cond b (closed s.inputs (work s.inputs s.quanta)) (work s.inputs s.quanta)) e
+  pub before_it : over ≡ false → state_at i quanta over ≡ work i quanta
+  before_it e = ap (λ b. cond b (closed i (work i quanta)) (work i quanta)) e
 
   -- what holds of both holds of it
-  pub of_both : (P : State → Type 0) → P (closed s.inputs (work s.inputs s.quanta)) → P (work s.inputs s.quanta) → P (state_of s)
-  of_both P ended going = by s.closed
+  pub of_both : (P : State → Type 0) → P (closed i (work i quanta)) → P (work i quanta) → P (state_at i quanta over)
+  of_both P ended going = by over
     where
-      by : (b : Bool) → P (cond b (closed s.inputs (work s.inputs s.quanta)) (work s.inputs s.quanta))
+      by : (b : Bool) → P (cond b (closed i (work i quanta)) (work i quanta))
       by true = ended
       by false = going

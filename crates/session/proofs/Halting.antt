@@ -1,6 +1,7 @@
 -- When no quantum of a hart can follow.
 use Rattle.std.proofs.Common.{◌≡◌, ℕ, zero, suc, ◌+◌, ◌<◌, ◌≤◌, ◌^◌, List, [], ◌∷◌, refl, ap, sym, ◌∙◌, subst, arith, length, inl, inr}
-use Rattle.std.specs.Prelude.{true, false, cond, drop, map, take}
+use Rattle.std.specs.Prelude.{Bool, Option, None, Some, IfSome, true, false, cond, drop, map, take}
+use Rattle.fold_hist.specs.Bins.{Histogram}
 use Rattle.std.specs.List.{AllByRecursion}
 use Rattle.std.proofs.lemmas.Bool.{true≢false}
 use Rattle.std.proofs.lemmas.List.FromFn.{length-map-range_with_len}
@@ -10,56 +11,61 @@ use Rattle.pn_types.specs.declared.quantum.Quantum.{Quantum}
 use Rattle.rv_mem.specs.Start.{program_of}
 use Rattle.rv_exec.specs.Start.{harts_from}
 use Rattle.machine.specs.Cores.{Core, first_hart, start_core}
-use Rattle.machine.specs.Quanta.{ticks_in}
+use Rattle.machine.specs.Quanta.{KeepsBudget, ticks_in}
 use Rattle.machine.proofs.Quanta.{time_goes_on}
 use Rattle.machine.specs.Replays.{owns}
 use Rattle.machine.specs.States.{quantum_turns}
 use Rattle.machine.specs.Turns.{is_runnable}
 use Rattle.mdl_check.specs.declared.checked.CheckedWish.{CheckedWish}
-use Rattle.session_spec.specs.States.{State}
+use Rattle.session_spec.specs.States.{Kept, State}
 use Rattle.session_spec.specs.Inputs.{Inputs}
 use Rattle.session_spec.specs.Admission.{with_admission}
 use Rattle.session_spec.proofs.Going.{program_is}
 use Rattle.session_spec.specs.Work.{Halted, IsAllowed, closed, work}
-use Rattle.session_spec.specs.Reads.{Desk, ticks_by}
-use Rattle.session_spec.proofs.Tending.{is_run}
+use Rattle.session_spec.specs.Reads.{ticks_by}
+use Rattle.session_spec.proofs.Runs.{is_run}
 use Rattle.session_kits.specs.declared.kit.Kit.{Kit}
 use Rattle.session.specs.Kept.{IsKept, IsSoundKit}
 use Rattle.session_kits.specs.Kits.{HasFew, HasHarts}
-use Rattle.session.proofs.Quanta.{more_sound}
-use Rattle.session.specs.Sessions.{SessionData, state_of}
+use Rattle.session.proofs.SoundKits.{more_sound}
+use Rattle.session.specs.Sessions.{state_at}
 use Rattle.session.specs.Contenders.{HasCost}
-use Rattle.session.specs.Tables.{CanSample, IsAdmission, Table, desk_at, kept_of}
+use Rattle.session.specs.Tables.{CanSample, IsAdmission, Table, kept_of, lasts_in}
 
 -- a session that wasn't closed
-pub going_state : (s : SessionData) → s.closed ≡ false → state_of s ≡ work s.inputs s.quanta
-going_state s e = ap (λ b. cond b (closed s.inputs (work s.inputs s.quanta)) (work s.inputs s.quanta)) e
+pub going_state : (i : Inputs) (quanta : List Quantum) (over : Bool) → over ≡ false → state_at i quanta over ≡ work i quanta
+going_state i quanta over e = ap (λ b. cond b (closed i (work i quanta)) (work i quanta)) e
 
-core_is : (s : SessionData) (later : List CheckedWish) (t : Table) → IsKept s later t → t.machine.state.core ≡ (state_of s).kept.machine.core
-core_is s later t k = ap (λ (d : Desk). d.kept.machine.core) k.desk.is
+pub core_is : (i : Inputs) (quanta : List Quantum) (over : Bool) (later : List CheckedWish) (t : Table) → IsKept i quanta over later t → t.machine.state.core ≡ (state_at i quanta over).kept.machine.core
+core_is i quanta over later t k = ap (λ (x : Kept). x.machine.core) k.state.kept
 
-pub open_is : (s : SessionData) (later : List CheckedWish) (t : Table) (h : ℕ) → IsKept s later t → is_runnable t.machine.state.core h ≡ true → is_runnable (state_of s).kept.machine.core h ≡ true
-open_is s later t h k e = ap (λ c. is_runnable c h) (sym (core_is s later t k)) ∙ e
+pub open_is : (i : Inputs) (quanta : List Quantum) (over : Bool) (later : List CheckedWish) (t : Table) (h : ℕ) → IsKept i quanta over later t → is_runnable t.machine.state.core h ≡ true → is_runnable (state_at i quanta over).kept.machine.core h ≡ true
+open_is i quanta over later t h k e = ap (λ c. is_runnable c h) (sym (core_is i quanta over later t k)) ∙ e
 
-pub stuck : (s : SessionData) (later : List CheckedWish) (t : Table) (h : ℕ) → IsKept s later t → s.closed ≡ false → is_runnable t.machine.state.core h ≡ false → Halted s.inputs s.quanta h
+pub stuck : (i : Inputs) (quanta : List Quantum) (over : Bool) (later : List CheckedWish) (t : Table) (h : ℕ) → IsKept i quanta over later t → over ≡ false → is_runnable t.machine.state.core h ≡ false → Halted i quanta h
 unfolding Halted
-stuck s later t h k going e = inl (ap (λ (x : State). is_runnable x.kept.machine.core h) (sym (going_state s going)) ∙ (ap (λ c. is_runnable c h) (sym (core_is s later t k)) ∙ e))
+stuck i quanta over later t h k going e = inl (ap (λ (x : State). is_runnable x.kept.machine.core h) (sym (going_state i quanta over going)) ∙ (ap (λ c. is_runnable c h) (sym (core_is i quanta over later t k)) ∙ e))
 
-pub full : (s : SessionData) (h : ℕ) → MAX_QUANTA ≤ length s.quanta → Halted s.inputs s.quanta h
+pub full : (i : Inputs) (quanta : List Quantum) (over : Bool) (h : ℕ) → MAX_QUANTA ≤ length quanta → Halted i quanta h
 unfolding Halted
-full s h l = inr l
+full i quanta over h l = inr l
 
-pub not_halted : (s : SessionData) (h : ℕ) → s.closed ≡ false → is_runnable (state_of s).kept.machine.core h ≡ true → length s.quanta < MAX_QUANTA → Halted s.inputs s.quanta h → ⊥
+pub not_halted : (i : Inputs) (quanta : List Quantum) (over : Bool) (h : ℕ) → over ≡ false → is_runnable (state_at i quanta over).kept.machine.core h ≡ true → length quanta < MAX_QUANTA → Halted i quanta h → ⊥
 unfolding Halted
-not_halted s h going e l (inl stops) = true≢false (sym e ∙ (ap (λ (x : State). is_runnable x.kept.machine.core h) (going_state s going) ∙ stops))
-not_halted s h going e l (inr many) = absurd (omega arith)
+not_halted i quanta over h going e l (inl stops) = true≢false (sym e ∙ (ap (λ (x : State). is_runnable x.kept.machine.core h) (going_state i quanta over going) ∙ stops))
+not_halted i quanta over h going e l (inr many) = absurd (omega arith)
+
+-- no hart has more ticks than the budget
+pub budget_kept : (i : Inputs) (quanta : List Quantum) (over : Bool) (later : List CheckedWish) (t : Table) → IsKept i quanta over later t → KeepsBudget t.machine.state.core
+budget_kept i quanta over later t k =
+    subst (λ (c : Core). KeepsBudget c) (sym (core_is i quanta over later t k)) (is_run i (state_at i quanta over) (lasts_in t.kits) k.state.sound).budget
 
 -- ---- what a call asks of a desk that is kept
 
-pub program_kept : (s : SessionData) (later : List CheckedWish) (t : Table) → IsKept s later t → t.machine.state.core.program ≡ program_of s.inputs.image
-program_kept s later t k =
-    let tied = k.desk.sound.tied in
-    ap (λ (c : Core). c.program) (core_is s later t k) ∙ program_is s.inputs (state_of s).kept.machine (state_of s).owns (state_of s).kept.shown (desk_at later t).lasts tied
+pub program_kept : (i : Inputs) (quanta : List Quantum) (over : Bool) (later : List CheckedWish) (t : Table) → IsKept i quanta over later t → t.machine.state.core.program ≡ program_of i.image
+program_kept i quanta over later t k =
+    let tied = k.state.sound.tied in
+    ap (λ (c : Core). c.program) (core_is i quanta over later t k) ∙ program_is i (state_at i quanta over).kept.machine (state_at i quanta over).owns (state_at i quanta over).kept.shown (lasts_in t.kits) tied
 
 pub fit_harts : (i : Inputs) (n m : ℕ) (kits : List Kit) → i.settings.harts ≡ m → AllByRecursion (IsSoundKit i n) kits → AllByRecursion (HasHarts m) kits
 fit_harts i n m [] e a = tt
@@ -67,7 +73,11 @@ fit_harts i n m (k ∷ kits) e a = (subst (λ h. k.first + k.count ≤ h) e (a.0
 
 fit_few : (i : Inputs) (n : ℕ) (kits : List Kit) → n < 2 ^ 32 → AllByRecursion (IsSoundKit i n) kits → AllByRecursion HasFew kits
 fit_few i n [] l a = tt
-fit_few i n (k ∷ kits) l a = ((let few = (a.0).few in omega arith), fit_few i n kits l a.1)
+fit_few i n (k ∷ kits) l a = (by k.hist (a.0).few, fit_few i n kits l a.1)
+  where
+    by : (o : Option Histogram) → IfSome o (λ h. h.count ≤ n) → IfSome o (λ h. h.count < 2 ^ 32)
+    by None few = tt
+    by (Some h) few = omega arith
 
 -- a pair costs what its tests cost
 pub costs : (i : Inputs) (n : ℕ) (kits : List Kit) → AllByRecursion (IsSoundKit i n) kits → AllByRecursion (HasCost i) kits
@@ -80,29 +90,27 @@ first_ticks : (more h n : ℕ) (image : Image) → ticks_in (map first_hart (har
 first_ticks zero h n image = refl
 first_ticks (suc more) h n image = let rest = first_ticks more (h + 1) n image in omega arith
 
-module _ (s : SessionData) (later : List CheckedWish) (t : Table) (k : IsKept s later t) where
-  marks_many : length t.marks ≡ s.inputs.settings.harts
+module _ (i : Inputs) (quanta : List Quantum) (over : Bool) (later : List CheckedWish) (t : Table) (k : IsKept i quanta over later t) where
+  marks_many : length t.marks ≡ i.settings.harts
   marks_many =
-      let state = state_of s in
-      ap (λ (d : Desk). length d.marks) k.desk.is
-      ∙ length-map-range_with_len (ticks_by (take state.kept.last state.owns)) 0 s.inputs.settings.harts
+      let state = state_at i quanta over in
+      ap (λ (l : List ℕ). length l) k.state.marks
+      ∙ length-map-range_with_len (ticks_by (take state.kept.last state.owns)) 0 i.settings.harts
 
   ticks_are : ticks_in t.machine.state.core.harts ≡ t.time
   ticks_are =
-      let i = s.inputs in
       let first = start_core i.image i.settings.harts i.settings.budget in
-      let ran = is_run i (state_of s) (desk_at later t).lasts k.desk.sound in
+      let ran = is_run i (state_at i quanta over) (lasts_in t.kits) k.state.sound in
       let none : ticks_in first.harts ≡ 0 = first_ticks i.settings.harts 0 i.settings.harts i.image in
       let on = time_goes_on ran.events first in
-      let core = ap (λ (c : Core). ticks_in c.harts) (core_is s later t k ∙ ran.core) in
+      let core = ap (λ (c : Core). ticks_in c.harts) (core_is i quanta over later t k ∙ ran.core) in
       let own = ap (λ (l : List ℕ). length l) ran.owns in
       let time = ran.time in
-      let same = ap (λ (d : Desk). d.kept.time) k.desk.is in
+      let same = ap (λ (x : Kept). x.time) k.state.kept in
       omega arith
 
-  pub can_sample : t.samples ≤ MAX_QUANTA → length s.quanta ≤ MAX_QUANTA → CanSample t
-  can_sample samples quanta =
-      let i = s.inputs in
+  pub can_sample : t.samples ≤ MAX_QUANTA → length quanta ≤ MAX_QUANTA → CanSample t
+  can_sample samples few =
       let same = k.harts in
       let many = k.many in
       let wishes = k.given.few_wishes in
@@ -117,16 +125,16 @@ module _ (s : SessionData) (later : List CheckedWish) (t : Table) (k : IsKept s 
         samples = omega arith;
         most = omega arith;
         ticks = omega arith;
+        live = k.live;
       }
 
 -- behind an admission
-module _ (s : SessionData) (later : List CheckedWish) (t admitted : Table) (looked : ℕ) (k : IsKept s later t) (few : length s.quanta < MAX_QUANTA) (a : IsAdmission s.inputs later t admitted looked) where
-  pub can_sample_now : s.closed ≡ false → CanSample admitted
+module _ (i : Inputs) (quanta : List Quantum) (over : Bool) (later : List CheckedWish) (t admitted : Table) (looked : ℕ) (k : IsKept i quanta over later t) (few : length quanta < MAX_QUANTA) (a : IsAdmission i later t admitted looked) where
+  pub can_sample_now : over ≡ false → CanSample admitted
   can_sample_now going =
-      let i = s.inputs in
-      let quanta : length s.quanta ≤ MAX_QUANTA = omega (arith, few) in
+      let most_quanta : length quanta ≤ MAX_QUANTA = omega (arith, few) in
       let samples = k.fewer going in
-      let c = can_sample s later t k (omega arith) quanta in
+      let c = can_sample i quanta over later t k (omega arith) most_quanta in
       let same : length admitted.machine.state.core.harts ≡ length t.machine.state.core.harts = ap (λ (x : Core). length x.harts) (a.stays).core in
       let sound = subst (λ m. AllByRecursion (IsSoundKit i m) admitted.kits) (sym (ap (λ (x : Table). x.samples) (a.stays).same)) (more_sound i t.samples t.kits admitted.kits k.kits a.kits) in
       let same_samples = ap (λ (x : Table). x.samples) (a.stays).same in
@@ -147,14 +155,15 @@ module _ (s : SessionData) (later : List CheckedWish) (t admitted : Table) (look
         samples = omega arith;
         most = subst (λ n. n ≤ MAX_HARTS) (sym same) c.most;
         ticks = omega arith;
+        live = a.live;
       }
 
   -- the entry is allowed
-  pub allowed_now : (q : Quantum) → q.worker < MAX_WORKERS → q.hart < s.inputs.settings.harts → 1 ≤ q.turns → q.turns ≤ MAX_QUANTUM → is_runnable (state_of s).kept.machine.core q.hart ≡ true
-      → q.owns ≡ length (owns (quantum_turns q.turns q.hart admitted.machine.state.core) admitted.machine.state.core) → IsAllowed s.inputs (state_of s).kept q
+  pub allowed_now : (q : Quantum) → q.worker < MAX_WORKERS → q.hart < i.settings.harts → 1 ≤ q.turns → q.turns ≤ MAX_QUANTUM → is_runnable (state_at i quanta over).kept.machine.core q.hart ≡ true
+      → q.owns ≡ length (owns (quantum_turns q.turns q.hart admitted.machine.state.core) admitted.machine.state.core) → IsAllowed i (state_at i quanta over).kept q
   allowed_now q worker hart some most runs own =
-      let kept : kept_of later t ≡ (state_of s).kept = ap (λ (d : Desk). d.kept) k.desk.is in
-      let core : admitted.machine.state.core ≡ (with_admission s.inputs (state_of s).kept).machine.core = ap (λ (d : Desk). d.kept.machine.core) a.desk ∙ ap (λ x. (with_admission s.inputs x).machine.core) kept in
+      let kept : kept_of later t ≡ (state_at i quanta over).kept = k.state.kept in
+      let core : admitted.machine.state.core ≡ (with_admission i (state_at i quanta over).kept).machine.core = ap (λ (x : Kept). x.machine.core) a.kept ∙ ap (λ x. (with_admission i x).machine.core) kept in
       record {
         worker = worker;
         hart = hart;

@@ -1,10 +1,13 @@
 pub mod Plans
 pub mod Readiness
+pub mod Steps
+pub mod Instrumented
 pub mod Considered
 pub mod Simulated
 pub mod Looks
 pub mod Waiting
-pub mod Raised
+pub mod Forces
+pub mod Left
 pub mod Takings
 pub mod Counting
 pub mod Contending
@@ -14,6 +17,8 @@ pub mod Fits
 pub mod ByTick
 pub mod Reported
 pub mod Sampling
+pub mod SoundKits
+pub mod Tabled
 pub mod Quanta
 pub mod Halting
 pub mod Ticks

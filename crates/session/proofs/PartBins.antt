@@ -64,11 +64,11 @@ part_of i s told part z =
 pub parts_told : PartsTold
 unfolding part_of
 parts_told = record {
-  works = λ i quanta part h. let s = work i quanta in part_of i s (bins_told.works i quanta) part (source i s.kept.shown s.recorded part h);
-  closes = λ i quanta part h. let s = closed i (work i quanta) in part_of i s (bins_told.closes i quanta) part (source i s.kept.shown s.recorded part h);
-  whole = λ i quanta p good first part h.
+  works = λ i quanta wide part h. let s = work i quanta in part_of i s (bins_told.works i quanta wide) part (source i s.kept.shown s.recorded part h);
+  closes = λ i quanta wide part h. let s = closed i (work i quanta) in part_of i s (bins_told.closes i quanta wide) part (source i s.kept.shown s.recorded part h);
+  whole = λ i quanta wide p good first part h.
       let s = closed i (work i quanta) in
       let z = source i s.kept.shown s.recorded part h in
-      let w = printed_told i quanta p good first z.n z.x z.r z.listed z.recorded z.wished in
-      record { part_of = part_of i s (bins_told.closes i quanta) part z; armed = ap (λ (q : ShownPart). q.from) z.is ∙ w.armed; to = w.to };
+      let w = printed_told i quanta wide p good first z.n z.x z.r z.listed z.recorded z.wished in
+      record { part_of = part_of i s (bins_told.closes i quanta wide) part z; armed = ap (λ (q : ShownPart). q.from) z.is ∙ w.armed; to = w.to };
 }

@@ -1,14 +1,15 @@
 -- The plans of wishes, and those of nodes behind them.
-use Rattle.std.proofs.Common.{◌≡◌, ℕ, zero, suc, ◌≤◌, List, [], ◌∷◌, ◌++◌, sym, ap, ◌∙◌, subst, arith, length}
+use Rattle.std.proofs.Common.{◌≡◌, ℕ, zero, suc, ◌≤◌, List, [], ◌∷◌, ◌++◌, Option, sym, ap, ◌∙◌, subst, arith, length}
 use Rattle.std.specs.Prelude.{drop, map, take}
 use Rattle.pn_types.specs.declared.plan.Plan.{Plan}
 use Rattle.mdl_check.specs.declared.checked.CheckedWish.{CheckedWish}
 use Rattle.instrument.specs.Needs.{Need, need_of}
 use Rattle.session_spec.specs.Inputs.{Inputs}
 use Rattle.session.specs.declared.candidate.Candidate.{Candidate}
-use Rattle.session.specs.Tables.{AreCandidates, AreReady}
+use Rattle.session.specs.Candidates.{AreOfWishes}
+use Rattle.session.specs.Tables.{AreReady}
+use Rattle.session.proofs.Considered.{plans_many}
 use Rattle.session.proofs.Contending.{needs_parted}
-use Rattle.session.proofs.Counting.{plans_many}
 use Rattle.session.proofs.Readiness.{all_ready}
 
 take_short : (n : ℕ) (xs : List Plan) → length (take n xs) ≤ length xs
@@ -21,7 +22,7 @@ pub record Parted (wishes : List CheckedWish) (plans all : List Plan) : Type 0 w
   pub front : take (length wishes) all ≡ plans
   pub back : drop (length wishes) all ≡ drop (length plans) all
 
-pub parted : (i : Inputs) (wishes : List CheckedWish) (plans : List Plan) (cs : List Candidate) (all : List Plan) → AreCandidates i wishes plans cs → take (length plans) all ≡ plans → Parted wishes plans all
+pub parted : (i : Inputs) (wishes : List CheckedWish) (plans : List Plan) (cs : List (Option Candidate)) (all : List Plan) → AreOfWishes i wishes plans cs → take (length plans) all ≡ plans → Parted wishes plans all
 parted i wishes plans cs all each others =
     let many = plans_many i wishes plans cs each in
     let short = take_short (length plans) all in

@@ -1,11 +1,10 @@
 -- Plans that are ready are used one after another.
-use Rattle.std.proofs.Common.{◌≡◌, ℕ, zero, suc, ◌+◌, ◌≤◌, List, [], ◌∷◌, Option, Some, None, refl, sym, ap, ◌∙◌, subst, arith, length, inl, inr}
-use Rattle.std.specs.Prelude.{Bool, true, false, cond, IfErr, IfOk, drop, slice_get, ◌⊎◌}
+use Rattle.std.proofs.Common.{◌≡◌, ℕ, zero, suc, ◌+◌, ◌≤◌, List, [], ◌∷◌, Some, refl, sym, ap, ◌∙◌, subst, arith, length, inl, inr}
+use Rattle.std.specs.Prelude.{Bool, true, false, cond, drop, slice_get, ◌⊎◌}
 use Rattle.pn_types.specs.declared.plan.Plan.{Plan}
 use Rattle.machine.specs.Cores.{In}
 use Rattle.instrument.specs.Needs.{Need, is_need, need_of, without}
 use Rattle.instrument.proofs.Ready.{one_less}
-use Rattle.session.specs.Candidates.{answer_of}
 use Rattle.session.specs.Tables.{AreReady}
 
 -- ---- what is ready
@@ -49,17 +48,10 @@ pub all_ready : (ns : List Need) → AreReady ns ns
 all_ready [] = tt
 all_ready (n ∷ ns) = inl (refl, all_ready ns)
 
--- ---- a plan is used, or isn't needed
-
-pub found_ready : {C : Type 0} (o : Option C) (plan : Plan) (rest ready : List Need) → AreReady (need_of plan ∷ rest) ready → IfOk (answer_of o plan) (λ p. In (need_of p) ready)
-found_ready None plan rest ready r = ready_in (need_of plan) rest ready r
-found_ready (Some cause) plan rest ready r = tt
-
-pub ready_behind : {C : Type 0} (o : Option C) (plan : Plan) (rest ready new : List Need) → AreReady (need_of plan ∷ rest) ready
-    → IfOk (answer_of o plan) (λ p. (new ≡ ready) ⊎ (new ≡ without (need_of p) ready)) → IfErr (answer_of o plan) (λ cause. new ≡ ready) → AreReady rest new
-ready_behind None plan rest ready new r (inl e) err = subst (AreReady rest) (sym e) (less_ready (need_of plan) rest ready r)
-ready_behind None plan rest ready new r (inr e) err = subst (AreReady rest) (sym e) (used (need_of plan) rest ready r)
-ready_behind (Some cause) plan rest ready new r ok err = subst (AreReady rest) (sym err) (less_ready (need_of plan) rest ready r)
+-- a plan is used up, or isn't
+pub ready_behind : (plan : Plan) (rest ready new : List Need) → AreReady (need_of plan ∷ rest) ready → (new ≡ ready) ⊎ (new ≡ without (need_of plan) ready) → AreReady rest new
+ready_behind plan rest ready new r (inl e) = subst (AreReady rest) (sym e) (less_ready (need_of plan) rest ready r)
+ready_behind plan rest ready new r (inr e) = subst (AreReady rest) (sym e) (used (need_of plan) rest ready r)
 
 -- ---- lists from a place on
 

@@ -1,6 +1,6 @@
 -- What the code tells of what it holds is what a report shows of the state.
-use Rattle.std.proofs.Common.{◌≡◌, ℕ, suc, ◌+◌, ◌<◌, List, [], ◌∷◌, ◌++◌, get_or, length, map, take, Some, refl, sym, ap, ◌∙◌, subst, arith}
-use Rattle.std.specs.Prelude.{◌&&◌, Bool, Option, None, cond, false, true, is_none, is_some, not, nat_lt, slice_get}
+use Rattle.std.proofs.Common.{◌≡◌, ℕ, suc, ◌+◌, ◌<◌, List, [], ◌∷◌, ◌++◌, get_or, length, map, take, Some, refl, sym, ap, ap₂, ◌∙◌, subst, arith}
+use Rattle.std.specs.Prelude.{◌&&◌, Bool, Option, None, cond, false, true, is_none, nat_lt, slice_get}
 use Rattle.std.proofs.Math.Seq.{take-suc}
 use Rattle.std.proofs.lemmas.List.{append-nil, append_assoc}
 use Rattle.std.proofs.lemmas.Option.{slice_get_within, get_or_from_slice_get}
@@ -9,20 +9,20 @@ use Rattle.rv_word.specs.declared.outcome.Cause.TheVariants as cause
 use Rattle.rv_word.specs.Exec.{Prog}
 use Rattle.rv_word.specs.Plain.{PlainHart}
 use Rattle.tramp_spec.specs.Harts.{Hart}
-use Rattle.fold_hist.specs.Bins.{hist_of}
+use Rattle.fold_hist.specs.Bins.{Histogram, hist_of}
 use Rattle.fold_hist.specs.declared.bin.Bin.{Bin}
 use Rattle.mdl_check.specs.declared.checked.CheckedWish.{CheckedWish}
 use Rattle.machine.specs.Cores.{Core}
 use Rattle.machine.specs.Same.{SameHart, SameProgram}
 use Rattle.report.specs.declared.parts.ShownPart.{ShownPart}
 use Rattle.session_spec.specs.Inputs.{Inputs}
-use Rattle.session_spec.specs.Reads.{Desk, IsDesk}
-use Rattle.session_spec.specs.States.{State}
-use Rattle.session_spec.proofs.Tending.{is_run}
+use Rattle.session_spec.specs.declared.data.Shown.{Shown}
+use Rattle.session_spec.specs.States.{Kept, State}
+use Rattle.session_spec.proofs.Runs.{is_run}
 use Rattle.session_kits.specs.declared.kit.Kit.{Kit}
 use Rattle.session.specs.Parts.{ended_by, hart_part, parts_of, program_of_run, refused_part, search_part, shown_part, shown_parts}
-use Rattle.session.specs.Seen.{hart_seen, kit_part, kit_parts, table_parts}
-use Rattle.session.specs.Tables.{Table, desk_at}
+use Rattle.session.specs.Seen.{hart_seen, kit_parts, parts_by, table_parts}
+use Rattle.session.specs.Tables.{AreFolded, IsTableOf, Table, lasts_in, shown_in}
 
 -- one more of a list was pushed
 pub one_more : {A : Type 0} (xs old new : List A) (n : ℕ) (x : A) → old ≡ take n xs → slice_get xs n ≡ Some x → new ≡ old ++ x ∷ [] → new ≡ take (n + 1) xs
@@ -66,67 +66,54 @@ same_parts budget c (x ∷ xs) (y ∷ ys) many same =
 
 -- ---- what is shown
 
-same_shown : (i : Inputs) (ks : List Kit) (rs : List (List Bin)) → map (λ (k : Kit). k.hist) ks ≡ map (hist_of i.settings.bins) rs → kit_parts i ks ≡ shown_parts i (map (λ (k : Kit). k.shown) ks) rs
-same_shown i [] rs e = refl
-same_shown i (k ∷ ks) [] e = absurd (cc)
-same_shown i (k ∷ ks) (r ∷ rs) e =
-    let first : k.hist ≡ hist_of i.settings.bins r = cc in
-    let rest : map (λ (k : Kit). k.hist) ks ≡ map (hist_of i.settings.bins) rs = cc in
-    ap (λ h. cond {A = List ShownPart} (is_none k.shown.node) (shown_part i k.shown h ∷ []) [] ++ kit_parts i ks) first
-    ∙ ap (λ ps. cond {A = List ShownPart} (is_none k.shown.node) (shown_part i k.shown (hist_of i.settings.bins r) ∷ []) [] ++ ps) (same_shown i ks rs rest)
+-- those that were wished are those that have a histogram
+same_one : (i : Inputs) (x : Shown) (r : List Bin) (b : Bool) → parts_by i x (cond b (Some (hist_of i.settings.bins r)) None) ≡ cond {A = List ShownPart} b (shown_part i x (hist_of i.settings.bins r) ∷ []) []
+same_one i x r true = refl
+same_one i x r false = refl
+
+same_shown : (i : Inputs) (ks : List Kit) (rs : List (List Bin)) → AreFolded i ks rs → kit_parts i ks ≡ shown_parts i (shown_in ks) rs
+same_shown i [] [] f = refl
+same_shown i [] (r ∷ rs) f = absurd f
+same_shown i (k ∷ ks) [] f = absurd f
+same_shown i (k ∷ ks) (r ∷ rs) f = ap₂ (λ (x xs : List ShownPart). x ++ xs) (ap (parts_by i k.shown) f.0 ∙ same_one i k.shown r (is_none k.shown.node)) (same_shown i ks rs f.1)
 
 -- one more of the pairs
-kits_append : (i : Inputs) (ks : List Kit) (k : Kit) → kit_parts i (ks ++ k ∷ []) ≡ kit_parts i ks ++ (cond {A = List ShownPart} (is_none k.shown.node) (kit_part i k ∷ []) [])
+kits_append : (i : Inputs) (ks : List Kit) (k : Kit) → kit_parts i (ks ++ k ∷ []) ≡ kit_parts i ks ++ parts_by i k.shown k.hist
 kits_append i [] k = append-nil _
-kits_append i (x ∷ ks) k =
-    ap (λ ps. cond {A = List ShownPart} (is_none x.shown.node) (kit_part i x ∷ []) [] ++ ps) (kits_append i ks k)
-    ∙ sym (append_assoc (cond {A = List ShownPart} (is_none x.shown.node) (kit_part i x ∷ []) []) (kit_parts i ks) _)
+kits_append i (x ∷ ks) k = ap (λ ps. parts_by i x.shown x.hist ++ ps) (kits_append i ks k) ∙ sym (append_assoc (parts_by i x.shown x.hist) (kit_parts i ks) _)
 
-kit_more : (i : Inputs) (n : ℕ) (ks : List Kit) (k : Kit) → n < length ks → k ≡ get_or ks n k
-    → kit_parts i (take (n + 1) ks) ≡ kit_parts i (take n ks) ++ (cond {A = List ShownPart} (is_none k.shown.node) (kit_part i k ∷ []) [])
-kit_more i n ks k l is =
-    let one : n + 1 ≡ suc n = omega arith in
-    ap (λ m. kit_parts i (take m ks)) one ∙ (ap (kit_parts i) (take-suc ks n k l) ∙ (ap (λ (y : Kit). kit_parts i (take n ks ++ y ∷ [])) (sym is) ∙ kits_append i (take n ks) k))
+module _ (i : Inputs) (n : ℕ) (ks : List Kit) (k : Kit) (l : n < length ks) (is : k ≡ get_or ks n k) where
+  kit_more : kit_parts i (take (n + 1) ks) ≡ kit_parts i (take n ks) ++ parts_by i k.shown k.hist
+  kit_more =
+      let one : n + 1 ≡ suc n = omega arith in
+      ap (λ m. kit_parts i (take m ks)) one ∙ (ap (kit_parts i) (take-suc ks n k l) ∙ (ap (λ (y : Kit). kit_parts i (take n ks ++ y ∷ [])) (sym is) ∙ kits_append i (take n ks) k))
 
-none_is : (o : Option ℕ) (b : Bool) → is_some o ≡ not b → is_none o ≡ b
-none_is None true e = refl
-none_is None false e = absurd (cc)
-none_is (Some n) true e = absurd (cc)
-none_is (Some n) false e = refl
+  pub kit_shown : (h : Histogram) → k.hist ≡ Some h → kit_parts i (take (n + 1) ks) ≡ kit_parts i (take n ks) ++ shown_part i k.shown h ∷ []
+  kit_shown h e = kit_more ∙ ap (λ o. kit_parts i (take n ks) ++ parts_by i k.shown o) e
 
--- one of a node is none of those that were wished
-module _ (i : Inputs) (n : ℕ) (ks : List Kit) (k : Kit) (l : n < length ks) (is : k ≡ get_or ks n k) (b : Bool) (none : is_some k.shown.node ≡ not b) where
-  by_node : kit_parts i (take (n + 1) ks) ≡ kit_parts i (take n ks) ++ (cond {A = List ShownPart} b (kit_part i k ∷ []) [])
-  by_node = kit_more i n ks k l is ∙ ap (λ b. kit_parts i (take n ks) ++ (cond {A = List ShownPart} b (kit_part i k ∷ []) [])) (none_is k.shown.node b none)
-
-  pub kit_shown : b ≡ true → kit_parts i (take (n + 1) ks) ≡ kit_parts i (take n ks) ++ kit_part i k ∷ []
-  kit_shown e = by_node ∙ ap (λ b. kit_parts i (take n ks) ++ (cond {A = List ShownPart} b (kit_part i k ∷ []) [])) e
-
-  pub kit_tests : b ≡ false → kit_parts i (take (n + 1) ks) ≡ kit_parts i (take n ks)
-  kit_tests e = by_node ∙ (ap (λ b. kit_parts i (take n ks) ++ (cond {A = List ShownPart} b (kit_part i k ∷ []) [])) e ∙ append-nil _)
+  pub kit_tests : k.hist ≡ None → kit_parts i (take (n + 1) ks) ≡ kit_parts i (take n ks)
+  kit_tests e = kit_more ∙ (ap (λ o. kit_parts i (take n ks) ++ parts_by i k.shown o) e ∙ append-nil _)
 
 -- ---- the whole
 
-module _ (i : Inputs) (s : State) (later : List CheckedWish) (t : Table) (k : IsDesk i s (desk_at later t)) where
+module _ (i : Inputs) (s : State) (later : List CheckedWish) (t : Table) (k : IsTableOf i s later t) where
   same : SameProgram t.machine.state.core (program_of_run i s.owns)
   same =
-      let ran = is_run i s (desk_at later t).lasts k.sound in
-      subst (λ c. SameProgram c (program_of_run i s.owns)) (sym (ap (λ (d : Desk). d.kept.machine.core) k.is)) ran.same
+      let ran = is_run i s (lasts_in t.kits) k.sound in
+      subst (λ c. SameProgram c (program_of_run i s.owns)) (sym (ap (λ (x : Kept). x.machine.core) k.kept)) ran.same
 
   harts : map (hart_seen i.settings.budget t.machine.state.core) t.machine.state.core.harts ≡ map (hart_part i.settings.budget) (program_of_run i s.owns).harts
   harts = same_parts i.settings.budget t.machine.state.core t.machine.state.core.harts (program_of_run i s.owns).harts same.many same.harts
 
   shown : kit_parts i t.kits ≡ shown_parts i s.kept.shown s.recorded
-  shown =
-      same_shown i t.kits s.recorded (ap (λ (d : Desk). d.hists) k.is)
-      ∙ ap (λ ss. shown_parts i ss s.recorded) (ap (λ (d : Desk). d.kept.shown) k.is)
+  shown = same_shown i t.kits s.recorded k.hists ∙ ap (λ (x : Kept). shown_parts i x.shown s.recorded) k.kept
 
   pub parts_are : table_parts i t ≡ parts_of i s
   parts_are =
       let held = table_parts i t in
       let all = parts_of i s in
       ap (λ hs. record held { harts = hs }) harts
-      ∙ ap (λ (d : Desk). record held { harts = all.harts; samples = d.kept.samples }) k.is
+      ∙ ap (λ (x : Kept). record held { harts = all.harts; samples = x.samples }) k.kept
       ∙ ap (λ (p : Prog). record held { harts = all.harts; samples = all.samples; output = p.out }) same.prog
-      ∙ ap (λ (d : Desk). record all { refused = map (refused_part i) d.kept.refused; shown = held.shown; search = search_part i i.checked.search d.kept.search.nodes }) k.is
+      ∙ ap (λ (x : Kept). record all { refused = map (refused_part i) x.refused; shown = held.shown; search = search_part i i.checked.search x.search.nodes }) k.kept
       ∙ ap (λ ps. record all { shown = ps }) shown

@@ -8,10 +8,11 @@ use Rattle.machine.specs.Events.{Event}
 use Rattle.machine.specs.Quanta.{ticks_in}
 use Rattle.machine.specs.Replays.{owns, replay}
 use Rattle.machine.proofs.Quanta.{time_goes_on}
-use Rattle.instrument.specs.Scenes.{Happens}
+use Rattle.instrument.specs.Scenes.{Happens, Hands}
 use Rattle.instrumented.specs.Instrumented.{Instrumented, done, taken}
 use Rattle.instrumented.proofs.Acts.{done_is}
 use Rattle.session_kits.specs.Kits.{HasHarts}
+use Rattle.session_kits.proofs.Live.{live_repeated, live_taken}
 use Rattle.session.specs.Tables.{CanSample, Table, table_handed, table_taken}
 
 core_taken : (es : List Event) (m : Instrumented) → (taken es m).core ≡ replay es m.core
@@ -37,6 +38,7 @@ module _ (t new : Table) (c : CanSample t) where
         samples = c.samples;
         most = subst (λ n. n ≤ MAX_HARTS) (sym same) c.most;
         ticks = omega arith;
+        live = live_taken t.machine.state t.kits t.live c.live es;
       })
 
   pub can_handed : new ≡ table_handed t → new.machine.state.core.harts ≡ t.machine.state.core.harts → CanSample new
@@ -54,6 +56,7 @@ module _ (t new : Table) (c : CanSample t) where
         samples = c.samples;
         most = subst (λ n. n ≤ MAX_HARTS) (sym same) c.most;
         ticks = omega arith;
+        live = live_repeated t.machine.state t.kits t.live c.live 8 Hands tt;
       })
 
 -- no hart has more ticks than all together

@@ -1,9 +1,12 @@
--- What the code does with its table is what the definitions do.
-use Rattle.std.proofs.Common.{◌≡◌, ℕ, List, [], ◌∷◌, ◌++◌, Option, Some, None, refl, sym, ap, ap₂, ◌∙◌}
+-- What the code does with each pair, and with what a session goes on from, is what the definitions do.
+use Rattle.std.proofs.Common.{◌≡◌, ℕ, ◌<◌, ◌≤◌, ◌^◌, List, [], ◌∷◌, ◌++◌, Option, Some, None, refl, sym, ap, ap₂, ◌∙◌, arith}
 use Rattle.std.specs.Prelude.{Bool, true, false, cond, is_none, map, ◌&&◌}
 use Rattle.std.specs.List.{AllByRecursion, range_with_len}
-use Rattle.fold_hist.specs.Bins.{Histogram}
+use Rattle.std.specs.Option.{option_map}
+use Rattle.fold_hist.specs.declared.bin.Bin.{Bin}
+use Rattle.fold_hist.specs.Bins.{Histogram, hist_of}
 use Rattle.fold_hist.specs.Steps.{pushed}
+use Rattle.fold_hist.proofs.Pushes.{pushed_is}
 use Rattle.machine.specs.Measures.{difference}
 use Rattle.mdl_check.specs.declared.checked.CheckedWish.{CheckedWish}
 use Rattle.resource_tree.specs.Foci.{harts_of as harts_at}
@@ -12,31 +15,25 @@ use Rattle.instrumented.specs.Instrumented.{Instrumented}
 use Rattle.session_spec.specs.declared.data.Latest.{Latest}
 use Rattle.session_spec.specs.declared.data.Shown.{Shown}
 use Rattle.session_spec.specs.Inputs.{Inputs}
-use Rattle.session_spec.specs.States.{Kept}
 use Rattle.session_spec.specs.Due.{all_armed, arm_all, is_armed, is_ready, machine_armed, place_behind, sampled_to, with_arms, with_frees, with_next, with_samples}
 use Rattle.session_spec.specs.Turns.{with_entries, with_hart, with_quiet}
-use Rattle.session_spec.specs.Readings.{lasts_armed, lasts_now, read_now, reading_by, ticks_between, ticks_of}
+use Rattle.session_spec.specs.Readings.{lasts_armed, lasts_now, read_now, reading_by, recorded_read, sum_read, ticks_between, ticks_of}
 use Rattle.session_spec.specs.Verdicts.{with_search_end, with_verdicts}
-use Rattle.session_spec.specs.Reads.{desk_armed, desk_ended, desk_freed, desk_judged, desk_next, desk_quiet, desk_sampled, desk_tests, desk_turned, hists_read, latest_read, node_read_by, nodes_read}
+use Rattle.session_spec.specs.Reads.{latest_read, node_read_by, nodes_read}
 use Rattle.w3_search.specs.declared.node.NodeSample.{NodeSample}
 use Rattle.w3_search.specs.Steps.{search_step}
 use Rattle.session_kits.proofs.Dropped.{without_tests_are}
 use Rattle.session_kits.specs.declared.kit.Kit.{Kit}
 use Rattle.session_kits.specs.Kits.{kit_armed, kit_latest, kit_reading, kit_sampled, kit_test, kit_test_by, kits_armed, kits_latest, kits_tests, machine_of_armed}
-use Rattle.session.specs.Tables.{Table, desk_at, kept_of, table_armed, table_ended, table_freed, table_handed, table_judged, table_next, table_quiet, table_sampled, table_turned}
+use Rattle.session.specs.Tables.{AreFolded, Table, hist_at, kept_of, lasts_in, shown_in, table_armed, table_ended, table_freed, table_handed, table_judged, table_next, table_quiet, table_sampled, table_turned}
 
 -- the harts of a pair are those of its focus
 pub record IsOf (i : Inputs) (k : Kit) : Type 0 where
   pub harts : (k.first, k.count) ≡ harts_at i.tree.harts k.shown.focus.hart
 
-abbrev pub shown_in : List Kit → List Shown
-shown_in kits = map (λ (k : Kit). k.shown) kits
-
-abbrev pub lasts_in : List Kit → List ℕ
-lasts_in kits = map (λ (k : Kit). k.last) kits
-
-abbrev pub hists_in : List Kit → List Histogram
-hists_in kits = map (λ (k : Kit). k.hist) kits
+-- a difference of readings has 64 bits
+small : (a b : ℕ) → difference a b < 2 ^ 64
+small a b = omega arith
 
 module _ (i : Inputs) (m : Instrumented) where
   pub reading_is : (k : Kit) → IsOf i k → kit_reading m k ≡ read_now i m k.shown
@@ -45,11 +42,18 @@ module _ (i : Inputs) (m : Instrumented) where
   -- ---- samples
 
   module _ (time : ℕ) (k : Kit) (o : IsOf i k) where
+    abbrev sampled_kit : Kit
+    sampled_kit = record k {
+      shown = record k.shown { from = time };
+      last = kit_reading m k;
+      hist = option_map (λ (h : Histogram). pushed h (record { from = k.shown.from; to = time; sum = difference k.last (kit_reading m k) })) k.hist;
+    }
+
     shown_one : (b : Bool) → is_armed m.placer k.shown ≡ b → (kit_sampled m time k).shown ≡ sampled_to m.placer time k.shown
     unfolding kit_sampled
     shown_one b e = by (is_armed m.placer k.shown)
       where
-        by : (b : Bool) → (cond b (record k { shown = record k.shown { from = time }; last = kit_reading m k; hist = pushed k.hist (record { from = k.shown.from; to = time; sum = difference k.last (kit_reading m k) }) }) k).shown ≡ cond b (record k.shown { from = time }) k.shown
+        by : (b : Bool) → (cond b sampled_kit k).shown ≡ cond b (record k.shown { from = time }) k.shown
         by true = refl
         by false = refl
 
@@ -57,18 +61,38 @@ module _ (i : Inputs) (m : Instrumented) where
     unfolding kit_sampled
     last_one = by (is_armed m.placer k.shown)
       where
-        by : (b : Bool) → (cond b (record k { shown = record k.shown { from = time }; last = kit_reading m k; hist = pushed k.hist (record { from = k.shown.from; to = time; sum = difference k.last (kit_reading m k) }) }) k).last ≡ cond b (read_now i m k.shown) k.last
+        by : (b : Bool) → (cond b sampled_kit k).last ≡ cond b (read_now i m k.shown) k.last
         by true = reading_is k o
         by false = refl
 
-    hist_one : (kit_sampled m time k).hist ≡ cond (is_armed m.placer k.shown) (pushed k.hist (record { from = k.shown.from; to = time; sum = difference k.last (read_now i m k.shown) })) k.hist
+    abbrev bin_read : Bin
+    bin_read = record { from = k.shown.from; to = time; sum = sum_read i m k.shown k.last }
+
+    same_node : (kit_sampled m time k).shown.node ≡ k.shown.node
     unfolding kit_sampled
-    hist_one = by (is_armed m.placer k.shown)
+    same_node = by (is_armed m.placer k.shown)
       where
-        by : (b : Bool) → (cond b (record k { shown = record k.shown { from = time }; last = kit_reading m k; hist = pushed k.hist (record { from = k.shown.from; to = time; sum = difference k.last (kit_reading m k) }) }) k).hist
-            ≡ cond b (pushed k.hist (record { from = k.shown.from; to = time; sum = difference k.last (read_now i m k.shown) })) k.hist
-        by true = ap (λ r. pushed k.hist (record { from = k.shown.from; to = time; sum = difference k.last r })) (reading_is k o)
+        by : (b : Bool) → (cond b sampled_kit k).shown.node ≡ k.shown.node
+        by true = refl
         by false = refl
+
+    -- a sample in the histogram of those before it, if there is one
+    one_more : 1 ≤ i.settings.bins → (r : List Bin) (b : Bool)
+        → option_map (λ (h : Histogram). pushed h bin_read) (cond b (Some (hist_of i.settings.bins r)) None) ≡ cond b (Some (hist_of i.settings.bins (r ++ bin_read ∷ []))) None
+    one_more some r true = ap (λ (h : Histogram). Some h) (pushed_is i.settings.bins r bin_read some (small k.last (read_now i m k.shown)))
+    one_more some r false = refl
+
+    hist_one : 1 ≤ i.settings.bins → (r : List Bin) → k.hist ≡ hist_at i k.shown r
+        → (kit_sampled m time k).hist ≡ hist_at i (kit_sampled m time k).shown (cond (is_armed m.placer k.shown) (r ++ bin_read ∷ []) r)
+    unfolding kit_sampled
+    hist_one some r e = by (is_armed m.placer k.shown)
+      where
+        by : (b : Bool) → (cond b sampled_kit k).hist
+            ≡ hist_at i (cond b sampled_kit k).shown (cond b (r ++ bin_read ∷ []) r)
+        by true =
+            ap (λ x. option_map (λ (h : Histogram). pushed h (record { from = k.shown.from; to = time; sum = difference k.last x })) k.hist) (reading_is k o)
+            ∙ (ap (option_map (λ (h : Histogram). pushed h bin_read)) e ∙ one_more some r (is_none k.shown.node))
+        by false = e
 
     abbrev latest_of : ℕ → ℕ → List Latest
     latest_of place r = record { shown = place; from = k.shown.from; to = time; sum = difference k.last r } ∷ []
@@ -99,9 +123,12 @@ module _ (i : Inputs) (m : Instrumented) where
     lasts_sampled [] a = refl
     lasts_sampled (k ∷ kits) a = ap₂ (λ (x : ℕ) (xs : List ℕ). x ∷ xs) (last_one time k a.0) (lasts_sampled kits a.1)
 
-    pub hists_sampled : (kits : List Kit) → AllByRecursion (IsOf i) kits → hists_in (map (kit_sampled m time) kits) ≡ hists_read i m time (shown_in kits) (lasts_in kits) (hists_in kits)
-    hists_sampled [] a = refl
-    hists_sampled (k ∷ kits) a = ap₂ (λ (x : Histogram) (xs : List Histogram). x ∷ xs) (hist_one time k a.0) (hists_sampled kits a.1)
+    pub folded_sampled : 1 ≤ i.settings.bins → (kits : List Kit) → AllByRecursion (IsOf i) kits → (rs : List (List Bin)) → AreFolded i kits rs
+        → AreFolded i (map (kit_sampled m time) kits) (recorded_read i m time (shown_in kits) (lasts_in kits) rs)
+    folded_sampled some [] a [] f = tt
+    folded_sampled some [] a (r ∷ rs) f = absurd f
+    folded_sampled some (k ∷ kits) a [] f = absurd f
+    folded_sampled some (k ∷ kits) a (r ∷ rs) f = (hist_one time k a.0 some r f.0, folded_sampled some kits a.1 rs f.1)
 
     pub latest_sampled : (place : ℕ) (kits : List Kit) → AllByRecursion (IsOf i) kits → kits_latest m time place kits ≡ latest_read place i m time (shown_in kits) (lasts_in kits)
     latest_sampled place [] a = refl
@@ -131,13 +158,14 @@ module _ (i : Inputs) (time : ℕ) where
         by true = reading_is i (machine_armed m k.shown) k o
         by false = refl
 
-    armed_hist : (kit_armed time m k).hist ≡ k.hist
+    armed_hist : (r : List Bin) → k.hist ≡ hist_at i k.shown r → (kit_armed time m k).hist ≡ hist_at i (kit_armed time m k).shown r
     unfolding kit_armed
-    armed_hist = by (is_ready m k.shown)
+    armed_hist r e = by (is_ready m k.shown)
       where
-        by : (b : Bool) → (cond b (record k { shown = record k.shown { armed = Some time; from = time }; last = kit_reading (machine_armed m k.shown) k }) k).hist ≡ k.hist
-        by true = refl
-        by false = refl
+        by : (b : Bool) → (cond b (record k { shown = record k.shown { armed = Some time; from = time }; last = kit_reading (machine_armed m k.shown) k }) k).hist
+            ≡ hist_at i (cond b (record k { shown = record k.shown { armed = Some time; from = time }; last = kit_reading (machine_armed m k.shown) k }) k).shown r
+        by true = e
+        by false = e
 
   pub machine_all : (m : Instrumented) (kits : List Kit) → machine_of_armed m kits ≡ arm_all m (shown_in kits)
   machine_all m [] = refl
@@ -151,62 +179,47 @@ module _ (i : Inputs) (time : ℕ) where
   lasts_all m [] a = refl
   lasts_all m (k ∷ kits) a = ap₂ (λ (x : ℕ) (xs : List ℕ). x ∷ xs) (armed_last m k a.0) (lasts_all (machine_armed m k.shown) kits a.1)
 
-  pub hists_all : (m : Instrumented) (kits : List Kit) → AllByRecursion (IsOf i) kits → hists_in (kits_armed time m kits) ≡ hists_in kits
-  hists_all m [] a = refl
-  hists_all m (k ∷ kits) a = ap₂ (λ (x : Histogram) (xs : List Histogram). x ∷ xs) (armed_hist m k a.0) (hists_all (machine_armed m k.shown) kits a.1)
+  pub folded_armed : (m : Instrumented) (kits : List Kit) → AllByRecursion (IsOf i) kits → (rs : List (List Bin)) → AreFolded i kits rs → AreFolded i (kits_armed time m kits) rs
+  folded_armed m [] a [] f = tt
+  folded_armed m [] a (r ∷ rs) f = absurd f
+  folded_armed m (k ∷ kits) a [] f = absurd f
+  folded_armed m (k ∷ kits) a (r ∷ rs) f = (armed_hist m k a.0 r f.0, folded_armed (machine_armed m k.shown) kits a.1 rs f.1)
 
--- ---- steps
+-- ---- what a session goes on from
 
 module _ (i : Inputs) (ws : List CheckedWish) (t : Table) where
-  pub turned_is : (h n : ℕ) → desk_at ws (table_handed (table_turned h n t)) ≡ desk_turned h n (desk_at ws t)
+  pub turned_is : (h n : ℕ) → kept_of ws (table_handed (table_turned h n t)) ≡ with_entries (with_hart h n (kept_of ws t))
   unfolding with_hart with_entries
   turned_is h n = refl
 
-  pub quiet_is : desk_at ws (table_quiet t) ≡ desk_quiet (desk_at ws t)
+  pub quiet_is : kept_of ws (table_quiet t) ≡ with_quiet (kept_of ws t)
   unfolding with_quiet
   quiet_is = refl
+
+  pub freed_is : kept_of ws (table_freed t) ≡ with_frees (kept_of ws t)
+  unfolding with_frees
+  freed_is = refl
 
   module _ (a : AllByRecursion (IsOf i) t.kits) where
     abbrev m : Instrumented
     m = t.machine.state
 
-    -- what a session goes on from behind a sample, where this is shown
-    abbrev kept_with : List Shown → Kept
-    kept_with shown = record (kept_of ws (table_sampled t)) { shown = shown }
-
-    pub sampled_is : desk_at ws (table_sampled t) ≡ desk_sampled i (desk_at ws t)
+    pub sampled_is : kept_of ws (table_sampled t) ≡ with_samples (kept_of ws t)
     unfolding with_samples
-    sampled_is =
-        ap (λ (s : List Shown). record { kept = kept_with s; lasts = lasts_in (map (kit_sampled m t.time) t.kits); hists = hists_in (map (kit_sampled m t.time) t.kits); latest = kits_latest m t.time 0 t.kits; marks = ticks_of m }) (shown_sampled i m t.time t.kits a)
-        ∙ (ap (λ (l : List ℕ). record { kept = with_samples (kept_of ws t); lasts = l; hists = hists_in (map (kit_sampled m t.time) t.kits); latest = kits_latest m t.time 0 t.kits; marks = ticks_of m }) (lasts_sampled i m t.time t.kits a)
-        ∙ ap₂ (λ (h : List Histogram) (l : List Latest). record { kept = with_samples (kept_of ws t); lasts = lasts_now i m (shown_in t.kits) (lasts_in t.kits); hists = h; latest = l; marks = ticks_of m }) (hists_sampled i m t.time t.kits a) (latest_sampled i m t.time 0 t.kits a))
+    sampled_is = ap (λ (s : List Shown). record (kept_of ws (table_sampled t)) { shown = s }) (shown_sampled i m t.time t.kits a)
 
-    pub tests_is : (table_sampled t).tests ≡ desk_tests i (desk_at ws t)
-    tests_is = tests_sampled i m t.time t.marks t.kits a
-
-    abbrev kept_of_armed : Instrumented → List Shown → Kept
-    kept_of_armed x shown = record (kept_of ws t) { machine = x; shown = shown }
-
-    pub armed_is : desk_at ws (table_armed t) ≡ desk_armed i (desk_at ws t)
+    pub armed_is : kept_of ws (table_armed t) ≡ with_arms (kept_of ws t)
     unfolding with_arms
-    armed_is =
-        ap₂ (λ (x : Instrumented) (s : List Shown). record { kept = kept_of_armed x s; lasts = lasts_in (kits_armed t.time m t.kits); hists = hists_in (kits_armed t.time m t.kits); latest = t.latest; marks = t.marks }) (machine_all i t.time m t.kits) (shown_armed i t.time m t.kits a)
-        ∙ ap₂ (λ (l : List ℕ) (h : List Histogram). record { kept = with_arms (kept_of ws t); lasts = l; hists = h; latest = t.latest; marks = t.marks }) (lasts_all i t.time m t.kits a) (hists_all i t.time m t.kits a)
+    armed_is = ap₂ (λ (x : Instrumented) (s : List Shown). record (kept_of ws t) { machine = x; shown = s }) (machine_all i t.time m t.kits) (shown_armed i t.time m t.kits a)
 
-  pub freed_is : desk_at ws (table_freed t) ≡ desk_freed (desk_at ws t)
-  unfolding with_frees
-  freed_is = refl
-
-  pub judged_is : desk_at ws (table_judged t) ≡ desk_judged t.tests (desk_at ws t)
+  pub judged_is : kept_of ws (table_judged t) ≡ with_verdicts t.tests (kept_of ws t)
   unfolding with_verdicts
-  judged_is =
-      let search = search_step t.time t.tests t.search in
-      ap (λ (k : Kept). record (desk_at ws t) { kept = k }) (sym (without_tests_are search.drops (record (kept_of ws t) { search = search })))
+  judged_is = let search = search_step t.time t.tests t.search in sym (without_tests_are search.drops (record (kept_of ws t) { search = search }))
 
-  pub next_is : (width : ℕ) → desk_at ws (table_next width t) ≡ desk_next width (desk_at ws t)
+  pub next_is : (width : ℕ) → kept_of ws (table_next width t) ≡ with_next width (kept_of ws t)
   unfolding with_next
   next_is width = refl
 
-  pub ended_is : desk_at ws (table_ended t) ≡ desk_ended (desk_at ws t)
+  pub ended_is : kept_of ws (table_ended t) ≡ with_search_end (kept_of ws t)
   unfolding with_search_end
   ended_is = refl

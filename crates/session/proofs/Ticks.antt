@@ -1,6 +1,7 @@
 -- A report's numbers of a session are small.
 use Rattle.std.proofs.Common.{◌≡◌, ℕ, suc, ◌+◌, ◌*◌, ◌<◌, ◌≤◌, ◌^◌, List, [], ◌∷◌, Some, length, map, refl, ap, ◌∙◌, subst, arith}
-use Rattle.std.specs.Prelude.{fold, slice_get, sum_by}
+use Rattle.std.specs.Prelude.{Bool, fold, slice_get, sum_by}
+use Rattle.pn_types.specs.declared.quantum.Quantum.{Quantum}
 use Rattle.std.proofs.lemmas.List.{length-map}
 use Rattle.pn_types.specs.declared.limits.TheConstants.{MAX_BUDGET, MAX_HARTS}
 use Rattle.tramp_spec.specs.Harts.{Hart}
@@ -13,12 +14,13 @@ use Rattle.machine.specs.Effects.{after}
 use Rattle.machine.proofs.Quanta.{budget_is_kept}
 use Rattle.machine.proofs.Steps.{fixed}
 use Rattle.report.specs.declared.parts.HartPart.{HartPart}
-use Rattle.session_spec.specs.Reads.{Desk}
-use Rattle.session_spec.proofs.Tending.{is_run}
+use Rattle.session_spec.specs.Inputs.{Inputs}
+use Rattle.session_spec.specs.States.{Kept}
+use Rattle.session_spec.proofs.Runs.{is_run}
 use Rattle.session.specs.Kept.{IsKept}
 use Rattle.session.specs.Seen.{hart_seen, table_parts}
-use Rattle.session.specs.Sessions.{SessionData, state_of}
-use Rattle.session.specs.Tables.{Table, desk_at}
+use Rattle.session.specs.Sessions.{state_at}
+use Rattle.session.specs.Tables.{Table, lasts_in}
 
 budget_stays : (es : List Event) (c : Core) → (replay es c).budget ≡ c.budget
 budget_stays [] c = refl
@@ -33,29 +35,28 @@ sum_from budget limit c (x ∷ xs) a low =
     let more : suc (length xs) * limit ≡ limit + length xs * limit = omega arith in
     omega arith
 
-module _ (s : SessionData) (later : List CheckedWish) (t : Table) (k : IsKept s later t) where
+module _ (i : Inputs) (quanta : List Quantum) (over : Bool) (later : List CheckedWish) (t : Table) (k : IsKept i quanta over later t) where
   low : (h : ℕ) (x : Hart) → slice_get t.machine.state.core.harts h ≡ Some x → x.ticks ≤ MAX_BUDGET
   low h x e =
-      let i = s.inputs in
       let first = start_core i.image i.settings.harts i.settings.budget in
-      let ran = is_run i (state_of s) (desk_at later t).lasts k.desk.sound in
-      let core : t.machine.state.core ≡ replay ran.events first = ap (λ (d : Desk). d.kept.machine.core) k.desk.is ∙ ran.core in
-      let below : KeepsBudget (replay ran.events first) = budget_is_kept i.image i.settings.harts i.settings.budget ran.events k.desk.sound.tied.program ran.legal in
+      let ran = is_run i (state_at i quanta over) (lasts_in t.kits) k.state.sound in
+      let core : t.machine.state.core ≡ replay ran.events first = ap (λ (x : Kept). x.machine.core) k.state.kept ∙ ran.core in
+      let below : KeepsBudget (replay ran.events first) = budget_is_kept i.image i.settings.harts i.settings.budget ran.events k.state.sound.tied.program ran.legal in
       let few = below h x (subst (λ (c : Core). slice_get c.harts h ≡ Some x) core e) in
       let budget = budget_stays ran.events first in
       let most = k.given.settings.budget.1 in
       omega arith
 
-  pub parts_few : length (table_parts s.inputs t).harts ≤ MAX_HARTS
+  pub parts_few : length (table_parts i t).harts ≤ MAX_HARTS
   parts_few =
-      let many = length-map t.machine.state.core.harts (hart_seen s.inputs.settings.budget t.machine.state.core) in
+      let many = length-map t.machine.state.core.harts (hart_seen i.settings.budget t.machine.state.core) in
       let harts = k.harts in
       let most = k.given.settings.harts.1 in
       omega arith
 
-  pub ticks_few : sum_by (λ part. part.ticks) (table_parts s.inputs t).harts < 2 ^ 64
+  pub ticks_few : sum_by (λ part. part.ticks) (table_parts i t).harts < 2 ^ 64
   ticks_few =
-      let sum = sum_from s.inputs.settings.budget MAX_BUDGET t.machine.state.core t.machine.state.core.harts 0 low in
+      let sum = sum_from i.settings.budget MAX_BUDGET t.machine.state.core t.machine.state.core.harts 0 low in
       let harts = k.harts in
       let most = k.given.settings.harts.1 in
       omega arith

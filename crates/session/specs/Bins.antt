@@ -1,5 +1,5 @@
 -- What the bins of a report tell of the program's own run.
-use Rattle.std.specs.Prelude.{◌≡◌, ℕ, Some, None, Ok, List, [], length}
+use Rattle.std.specs.Prelude.{◌≡◌, ℕ, ◌≤◌, Some, None, Ok, List, [], length}
 use Rattle.pn_types.specs.declared.plan.Plan.{Plan}
 use Rattle.pn_types.specs.declared.quantum.Quantum.{Quantum}
 use Rattle.resource_tree.specs.Foci.{canonical}
@@ -15,8 +15,8 @@ use Rattle.session_laws.specs.Bins.{AreMeasured}
 use Rattle.session_laws.specs.Printed.{AreForOpening}
 use Rattle.session.specs.Parts.{metric_of, name_of, parts_of}
 
--- The part of a pair that was wished. Its bins follow one another from its arming on, and each is what its metric's plan at its focus
--- measures over it; where it wasn't armed it has none.
+-- The part of a pair that was wished. Its bins follow one another from its arming on, none is empty, and each is what its metric's plan
+-- at its focus measures over it; where it wasn't armed it has none.
 pub record IsPartOf (i : Inputs) (s : State) (part : ShownPart) : Type 0 where
   pub x : Shown
   pub listed : In x s.kept.shown
@@ -43,8 +43,9 @@ AreParts i s = (part : ShownPart) → In part (parts_of i s).shown → IsPartOf 
 abbrev pub AreWholeParts : Inputs → State → Type 0
 AreWholeParts i s = (part : ShownPart) → In part (parts_of i s).shown → IsWholePart i s part
 
--- They are such behind each quantum and behind the end. Where all wishes are for the opening, and none drops a pair, they are whole.
+-- They are such behind each quantum and behind the end, where time passes between two due works. Where all wishes are for the opening, and
+-- none drops a pair, they are whole.
 pub record PartsTold : Type 0 where
-  pub works : (i : Inputs) (quanta : List Quantum) → AreParts i (work i quanta)
-  pub closes : (i : Inputs) (quanta : List Quantum) → AreParts i (closed i (work i quanta))
-  pub whole : (i : Inputs) (quanta : List Quantum) → IsProgram i.image → ArePlansGood i → AreForOpening i → AreWholeParts i (closed i (work i quanta))
+  pub works : (i : Inputs) (quanta : List Quantum) → 1 ≤ i.settings.width → AreParts i (work i quanta)
+  pub closes : (i : Inputs) (quanta : List Quantum) → 1 ≤ i.settings.width → AreParts i (closed i (work i quanta))
+  pub whole : (i : Inputs) (quanta : List Quantum) → 1 ≤ i.settings.width → IsProgram i.image → ArePlansGood i → AreForOpening i → AreWholeParts i (closed i (work i quanta))

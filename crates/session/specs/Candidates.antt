@@ -1,16 +1,22 @@
--- For proofs alone: what is known of a plan before it is admitted.
-use Rattle.std.specs.Prelude.{◌≡◌, ℕ, ◌<◌, ◌^◌, Option, Result, Ok, Err, Some, None}
+-- For proofs alone: what is known of a pair before it is admitted, and what comes of its admission.
+use Rattle.std.specs.Prelude.{◌≡◌, ℕ, ◌+◌, ◌<◌, ◌≤◌, ◌^◌, if◌then◌else◌, true, false, Option, Ok, Err, Some, None, List, [], ◌∷◌, is_none, is_some}
 use Rattle.pn_types.specs.declared.focus.Focus.{Focus}
-use Rattle.pn_types.specs.declared.pick.BarCause.{BarCause}
-use Rattle.pn_types.specs.declared.pick.PickCause.{PickCause}
 use Rattle.pn_types.specs.declared.plan.Plan.{Plan}
 use Rattle.prim_code.specs.Counts.{predicted}
+use Rattle.fold_hist.specs.Bins.{Histogram, hist_of}
+use Rattle.resource_tree.specs.Foci.{harts_of}
+use Rattle.mdl_check.specs.declared.checked.CheckedWish.{CheckedWish}
 use Rattle.mdl_plan.specs.declared.fault.PlanFault.{PlanFault}
 use Rattle.instrument.specs.Admission.{slot_count}
 use Rattle.instrument.specs.Armable.{IsArmable}
-use Rattle.session_spec.specs.Inputs.{Inputs, cause_of_plan, planned}
-use Rattle.session_spec.specs.Searches.{bar_of_plan}
+use Rattle.instrument.specs.declared.number.InstrumentNo.{InstrumentNo}
+use Rattle.session_spec.specs.declared.data.Shown.{Shown}
+use Rattle.session_spec.specs.Inputs.{Inputs, planned}
 use Rattle.session_spec.specs.Plans.{IsGood}
+use Rattle.session_kits.specs.declared.kit.Kit.{Kit}
+use Rattle.session.specs.declared.candidate.Candidate.{Candidate}
+
+-- ---- a pair
 
 -- a plan that can be measured, is short, and can be armed
 pub record IsShort (i : Inputs) (plan : Plan) : Type 0 where
@@ -19,20 +25,57 @@ pub record IsShort (i : Inputs) (plan : Plan) : Type 0 where
   pub slots : slot_count plan.vars < 2 ^ 32
   pub armable : IsArmable plan.opens
 
--- the plan of a metric at a focus, or why there is none, by its cause in each case
-abbrev pub IsPlanned : {C : Type 0} → (PlanFault → Option C) → Inputs → ℕ → Focus → Result Plan C → Type 0
-IsPlanned cause i metric focus (Ok plan) = (planned i metric focus ≡ Ok plan) × IsShort i plan
-IsPlanned cause i metric focus (Err c) = (fault : PlanFault) × (planned i metric focus ≡ Err fault) × (cause fault ≡ Some c)
+-- the plan of a metric at a focus, unless there is none by this fault
+abbrev pub IsPlanned : Inputs → ℕ → Focus → Option PlanFault → Plan → Type 0
+IsPlanned i metric focus None plan = (planned i metric focus ≡ Ok plan) × IsShort i plan
+IsPlanned i metric focus (Some fault) plan = planned i metric focus ≡ Err fault
 
--- what is wished
-abbrev pub IsAnswer : Inputs → ℕ → Focus → Result Plan PickCause → Type 0
-IsAnswer i metric focus r = IsPlanned cause_of_plan i metric focus r
+-- a focus names a hart that there is
+abbrev pub IsWithin : Inputs → Focus → Type 0
+IsWithin i focus = (harts_of i.tree.harts focus.hart).0 + (harts_of i.tree.harts focus.hart).1 ≤ i.settings.harts
 
--- what a node is tested by
-abbrev pub IsNodeAnswer : Inputs → ℕ → Focus → Result Plan BarCause → Type 0
-IsNodeAnswer i metric focus r = IsPlanned bar_of_plan i metric focus r
+-- a histogram of no sample, where no node is tested
+abbrev pub first_hist : Inputs → Option ℕ → Option Histogram
+first_hist i node = if is_none node then Some (hist_of i.settings.bins []) else None
 
--- a plan, unless it is refused
-abbrev pub answer_of : {C : Type 0} → Option C → Plan → Result Plan C
-answer_of None plan = Ok plan
-answer_of (Some cause) plan = Err cause
+-- what is known of a candidate with its plan
+pub record IsCandidate (i : Inputs) (plan : Plan) (c : Candidate) : Type 0 where
+  pub planned : IsPlanned i c.metric c.focus c.fault plan
+  pub words : predicted plan < 2 ^ 32
+  pub within : IsWithin i c.focus
+  pub hist : c.hist ≡ first_hist i c.node
+
+-- whose node, metric and focus these are
+pub record IsPairOf (node : Option ℕ) (metric : ℕ) (focus : Focus) (c : Candidate) : Type 0 where
+  pub node_is : c.node ≡ node
+  pub metric_is : c.metric ≡ metric
+  pub focus_is : c.focus ≡ focus
+
+-- ---- wishes
+
+-- what a wish needs to be looked at
+abbrev pub IsOfWish : Inputs → CheckedWish → Plan → Option Candidate → Type 0
+IsOfWish i w plan None = (w.show ≡ false) × (predicted plan < 2 ^ 32)
+IsOfWish i w plan (Some c) = (w.show ≡ true) × IsPairOf None w.metric w.focus c × IsCandidate i plan c
+
+-- the same of several
+abbrev pub AreOfWishes : Inputs → List CheckedWish → List Plan → List (Option Candidate) → Type 0
+AreOfWishes i [] [] [] = Unit {0}
+AreOfWishes i (w ∷ ws) (plan ∷ plans) (c ∷ cs) = IsOfWish i w plan c × AreOfWishes i ws plans cs
+AreOfWishes i ws plans cs = ⊥
+
+-- ---- its instrument
+
+-- what is shown or tested by the instrument of this number, which isn't armed yet
+abbrev pub newly_shown : Candidate → InstrumentNo → Shown
+newly_shown c number = record { instrument = number; node = c.node; metric = c.metric; focus = c.focus; armed = None; from = 0 }
+
+abbrev pub new_kit : Inputs → Plan → Candidate → InstrumentNo → Kit
+new_kit i plan c number = record {
+  shown = newly_shown c number;
+  cost = if is_some c.node then predicted plan else 0;
+  first = (harts_of i.tree.harts c.focus.hart).0;
+  count = (harts_of i.tree.harts c.focus.hart).1;
+  last = 0;
+  hist = c.hist;
+}

@@ -1,7 +1,8 @@
 -- For proofs alone: what a session keeps.
-use Rattle.std.specs.Prelude.{◌≡◌, ℕ, ◌+◌, ◌*◌, ◌<◌, ◌≤◌, ◌^◌, true, false, List, [], length}
+use Rattle.std.specs.Prelude.{◌≡◌, ℕ, ◌+◌, ◌*◌, ◌<◌, ◌≤◌, ◌^◌, true, false, Bool, IfSome, List, [], length}
 use Rattle.std.specs.List.{AllByRecursion}
 use Rattle.pn_types.specs.declared.limits.TheConstants.{MAX_QUANTUM}
+use Rattle.pn_types.specs.declared.quantum.Quantum.{Quantum}
 use Rattle.mdl_check.specs.declared.checked.CheckedWish.{CheckedWish}
 use Rattle.machine.specs.Cores.{In}
 use Rattle.machine.specs.Events.{IsQuiet}
@@ -11,40 +12,42 @@ use Rattle.session_spec.specs.Inputs.{Inputs, first_wishes, later_wishes}
 use Rattle.session_spec.specs.Opening.{wished}
 use Rattle.session_spec.specs.Work.{AreAllowed}
 use Rattle.session_spec.specs.Plans.{ArePlansGood}
-use Rattle.session_spec.specs.Reads.{IsDesk}
 use Rattle.session_spec.specs.Searches.{rules_of}
 use Rattle.session_spec.specs.Tests.{taken_at_once, with_tests}
 use Rattle.session_kits.specs.declared.kit.Kit.{Kit}
+use Rattle.session_kits.specs.Kits.{AreLive}
 use Rattle.session.specs.Contenders.{HasCost}
 use Rattle.session.specs.Given.{AreGiven, IsWishOf}
-use Rattle.session.specs.Sessions.{SessionData, state_of}
-use Rattle.session.specs.Tables.{IsMore, IsStill, Table, desk_at, first_table, kept_of}
+use Rattle.session.specs.Sessions.{state_at}
+use Rattle.session.specs.Tables.{IsMore, IsStill, IsTableOf, Table, first_table, kept_of}
 
 -- the harts of a pair are those of its focus, and there are so many; it has as many samples at most as were taken
 pub record IsSoundKit (i : Inputs) (samples : ℕ) (k : Kit) : Type 0 where
   pub harts : (k.first, k.count) ≡ harts_of i.tree.harts k.shown.focus.hart
   pub within : k.first + k.count ≤ i.settings.harts
-  pub few : k.hist.count ≤ samples
+  pub few : IfSome k.hist (λ hist. hist.count ≤ samples)
   pub cost : HasCost i k
 
-pub record IsKept (s : SessionData) (later : List CheckedWish) (t : Table) : Type 0 where
-  pub given : AreGiven s.inputs
-  pub good : ArePlansGood s.inputs
-  pub allowed : AreAllowed s.inputs s.quanta
-  pub desk : IsDesk s.inputs (state_of s) (desk_at later t)
-  pub kits : AllByRecursion (IsSoundKit s.inputs t.samples) t.kits
-  pub many : length t.kits + length later ≤ length s.inputs.checked.wishes + taken_at_once * (length s.quanta + 1)
-  pub wishes : (w : CheckedWish) → In w later → IsWishOf s.inputs w
-  pub harts : length t.machine.state.core.harts ≡ s.inputs.settings.harts
-  pub places : t.places ≡ s.inputs.settings.harts
-  pub rules : t.search.rules ≡ rules_of s.inputs
-  pub soon : s.closed ≡ false → t.last < t.due
-  pub idle : s.closed ≡ false → t.idle ≤ MAX_QUANTUM * length s.quanta
-  pub samples : t.samples ≤ length s.quanta + 1
-  pub fewer : s.closed ≡ false → t.samples ≤ length s.quanta
-  pub time : t.time ≤ 2 ^ 33 * (length s.quanta + 1)
-  pub sooner : s.closed ≡ false → t.time ≤ 2 ^ 33 * length s.quanta
-  pub quiet : s.closed ≡ true → IsQuiet t.machine.state.core
+-- behind these quanta, and behind the end where it was closed
+pub record IsKept (i : Inputs) (quanta : List Quantum) (over : Bool) (later : List CheckedWish) (t : Table) : Type 0 where
+  pub given : AreGiven i
+  pub good : ArePlansGood i
+  pub allowed : AreAllowed i quanta
+  pub state : IsTableOf i (state_at i quanta over) later t
+  pub live : AreLive t.machine.state.placer t.kits t.live
+  pub kits : AllByRecursion (IsSoundKit i t.samples) t.kits
+  pub many : length t.kits + length later ≤ length i.checked.wishes + taken_at_once * (length quanta + 1)
+  pub wishes : (w : CheckedWish) → In w later → IsWishOf i w
+  pub harts : length t.machine.state.core.harts ≡ i.settings.harts
+  pub places : t.places ≡ i.settings.harts
+  pub rules : t.search.rules ≡ rules_of i
+  pub soon : over ≡ false → t.last < t.due
+  pub idle : over ≡ false → t.idle ≤ MAX_QUANTUM * length quanta
+  pub samples : t.samples ≤ length quanta + 1
+  pub fewer : over ≡ false → t.samples ≤ length quanta
+  pub time : t.time ≤ 2 ^ 33 * (length quanta + 1)
+  pub sooner : over ≡ false → t.time ≤ 2 ^ 33 * length quanta
+  pub quiet : over ≡ true → IsQuiet t.machine.state.core
 
 -- the desk behind the admissions of the opening
 pub record IsWished (i : Inputs) (t : Table) : Type 0 where
@@ -53,6 +56,7 @@ pub record IsWished (i : Inputs) (t : Table) : Type 0 where
   pub kept : kept_of (later_wishes i) t ≡ with_tests i (wished i)
   pub kits : IsMore i [] t.kits
   pub few : length t.kits ≤ length (first_wishes i) + taken_at_once
+  pub live : AreLive t.machine.state.placer t.kits t.live
   pub still : IsStill (first_table i) t
 
 -- the same, as a whole

@@ -2,6 +2,7 @@ pub mod Tables
 pub mod Given
 pub mod Candidates
 pub mod Contenders
+pub mod KnownCosts
 pub mod Outcomes
 pub mod Sessions
 pub mod Kept

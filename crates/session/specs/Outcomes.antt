@@ -1,19 +1,60 @@
--- For proofs alone: what comes of a wish that is looked at.
-use Rattle.std.specs.Prelude.{None, [], ◌∷◌, ◌++◌}
-use Rattle.mdl_check.specs.declared.checked.CheckedWish.{CheckedWish}
-use Rattle.instrumented.specs.Instrumented.{Instrumented}
-use Rattle.session_spec.specs.declared.data.Shown.{Shown}
-use Rattle.session_spec.specs.States.{Kept}
-use Rattle.session_spec.specs.Admission.{refused_wish}
-use Rattle.session.specs.declared.outcome.Outcome.{Outcome}
-use Rattle.session.specs.declared.outcome.Outcome.TheVariants.{Refused, Shown as Shows, Done}
+-- For proofs alone: what comes of the admission of a pair.
+use Rattle.std.specs.Prelude.{◌≡◌, ℕ, ◌+◌, ◌≤◌, ◌⊎◌, Option, Ok, Err, Some, None, [], ◌∷◌, ◌++◌, length}
+use Rattle.pn_types.specs.declared.pick.BarCause.{BarCause}
+use Rattle.pn_types.specs.declared.pick.PickCause.{PickCause}
+use Rattle.pn_types.specs.declared.plan.Plan.{Plan}
+use Rattle.mdl_plan.specs.declared.fault.PlanFault.{PlanFault}
+use Rattle.instrument.specs.Needs.{need_of, without}
+use Rattle.instrument.specs.Placements.{Placements, admission}
+use Rattle.instrument.specs.Scenes.{Admits}
 use Rattle.instrument.specs.declared.number.InstrumentNo.{InstrumentNo}
+use Rattle.instrumented.specs.Instrumented.{done}
+use Rattle.session_spec.specs.Inputs.{Inputs, cause_of_plan, cause_of_refusal}
+use Rattle.session_spec.specs.Searches.{bar_of_plan, bar_of_refusal}
+use Rattle.session_kits.specs.Kits.{AreLive}
+use Rattle.session.specs.Candidates.{new_kit}
+use Rattle.session.specs.Tables.{IsMore, IsStill, Table}
+use Rattle.session.specs.declared.candidate.Candidate.{Candidate}
+use Rattle.session.specs.declared.failure.Failure.{Failure}
+use Rattle.session.specs.declared.failure.Failure.TheVariants.{NoPlan, Refused}
 
--- the pair of a wish, shown by an instrument that isn't armed yet
-abbrev pub newly_shown : CheckedWish → InstrumentNo → Shown
-newly_shown w number = record { instrument = number; node = None; metric = w.metric; focus = w.focus; armed = None; from = 0 }
+-- ---- causes
 
-abbrev pub kept_by : CheckedWish → Outcome → Instrumented → Kept → Kept
-kept_by w (Refused cause) m k = record k { machine = m; refused = k.refused ++ refused_wish w k.time cause ∷ [] }
-kept_by w (Shows number) m k = record k { machine = m; shown = k.shown ++ newly_shown w number ∷ [] }
-kept_by w Done m k = record k { machine = m }
+abbrev pub pick_cause_of : Failure → Option PickCause
+pick_cause_of (NoPlan fault) = cause_of_plan fault
+pick_cause_of (Refused refused) = cause_of_refusal refused
+
+abbrev pub bar_cause_of : Failure → Option BarCause
+bar_cause_of (NoPlan fault) = bar_of_plan fault
+bar_cause_of (Refused refused) = bar_of_refusal refused
+
+-- ---- one pair
+
+-- it has an instrument from now on
+pub record IsInstrumented (i : Inputs) (plan : Plan) (c : Candidate) (limit : Option ℕ) (old new : Table) (number : InstrumentNo) : Type 0 where
+  pub planned : c.fault ≡ None
+  pub placed : admission old.machine.state.placer plan limit ≡ Ok new.machine.state.placer
+  pub number_is : number.n ≡ old.machine.state.placer.count
+  pub machine : new.machine.state ≡ done (Admits plan limit) old.machine.state
+  pub kits : new.kits ≡ old.kits ++ new_kit i plan c number ∷ []
+
+-- why it has none
+abbrev pub IsFailure : Placements → Plan → Option PlanFault → Option ℕ → Failure → Type 0
+IsFailure p plan fault limit (NoPlan f) = fault ≡ Some f
+IsFailure p plan fault limit (Refused refused) = (fault ≡ None) × (admission p plan limit ≡ Err refused)
+
+-- it has none, and there is room still
+pub record IsFailed (plan : Plan) (fault : Option PlanFault) (limit : Option ℕ) (old new : Table) (failure : Failure) : Type 0 where
+  pub why : IsFailure old.machine.state.placer plan fault limit failure
+  pub machine : new.machine.state ≡ old.machine.state
+  pub kits : new.kits ≡ old.kits
+  pub room : new.room ≡ old.room
+
+-- What one step of an admission changes, for which this plan is ready: there is one pair more at most, and none is different.
+pub record IsStep (i : Inputs) (plan : Plan) (old new : Table) : Type 0 where
+  pub kits : IsMore i old.kits new.kits
+  pub few : length new.kits ≤ length old.kits + 1
+  pub room : old.room ≤ new.room + 1
+  pub ready : (new.machine.ready ≡ old.machine.ready) ⊎ (new.machine.ready ≡ without (need_of plan) old.machine.ready)
+  pub live : AreLive new.machine.state.placer new.kits new.live
+  pub still : IsStill old new

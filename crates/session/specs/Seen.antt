@@ -1,11 +1,13 @@
 -- For proofs alone: what the code reports of what it holds.
-use Rattle.std.specs.Prelude.{ℕ, if◌then◌else◌, List, [], ◌∷◌, ◌++◌, is_none, map, nat_lt}
+use Rattle.std.specs.Prelude.{ℕ, Option, None, Some, List, [], ◌∷◌, ◌++◌, map, nat_lt}
+use Rattle.fold_hist.specs.Bins.{Histogram}
 use Rattle.tramp_spec.specs.Harts.{Hart}
 use Rattle.machine.specs.Cores.{Core}
 use Rattle.machine.specs.Places.{program_pc}
 use Rattle.report.specs.declared.parts.HartPart.{HartPart}
 use Rattle.report.specs.declared.parts.ReportParts.{ReportParts}
 use Rattle.report.specs.declared.parts.ShownPart.{ShownPart}
+use Rattle.session_spec.specs.declared.data.Shown.{Shown}
 use Rattle.session_spec.specs.Inputs.{Inputs}
 use Rattle.session_kits.specs.declared.kit.Kit.{Kit}
 use Rattle.session.specs.Parts.{ended_by, refused_part, search_part, shown_part}
@@ -15,13 +17,14 @@ use Rattle.session.specs.Tables.{Table}
 abbrev pub hart_seen : ℕ → Core → Hart → HartPart
 hart_seen budget c x = record { ticks = x.ticks; stop = ended_by x.stop (nat_lt x.ticks budget); pc = program_pc c.code c.rows x }
 
-abbrev pub kit_part : Inputs → Kit → ShownPart
-kit_part i k = shown_part i k.shown k.hist
+-- those that have a histogram
+abbrev pub parts_by : Inputs → Shown → Option Histogram → List ShownPart
+parts_by i s None = []
+parts_by i s (Some h) = shown_part i s h ∷ []
 
--- those that were wished
 abbrev pub kit_parts : Inputs → List Kit → List ShownPart
 kit_parts i [] = []
-kit_parts i (k ∷ ks) = (if is_none k.shown.node then kit_part i k ∷ [] else []) ++ kit_parts i ks
+kit_parts i (k ∷ ks) = parts_by i k.shown k.hist ++ kit_parts i ks
 
 abbrev pub table_parts : Inputs → Table → ReportParts
 table_parts i t = record {

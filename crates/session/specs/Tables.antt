@@ -1,5 +1,5 @@
 -- For proofs alone: what the code of a session holds.
-use Rattle.std.specs.Prelude.{◌≡◌, ℕ, zero, suc, ◌+◌, ◌-◌, ◌<◌, ◌≤◌, ◌^◌, ◌⊎◌, nat_le, nat_lt, if◌then◌else◌, Bool, true, false, List, [], ◌∷◌, ◌++◌, IfOk, drop, length, map, replicate}
+use Rattle.std.specs.Prelude.{◌≡◌, ℕ, zero, suc, ◌+◌, ◌-◌, ◌<◌, ◌≤◌, ◌^◌, ◌⊎◌, nat_le, nat_lt, if◌then◌else◌, Bool, true, false, Option, Some, None, is_none, List, [], ◌∷◌, ◌++◌, drop, length, map, replicate}
 use Rattle.std.specs.List.{AllByRecursion}
 use Rattle.mdl_check.specs.declared.checked.CheckedWish.{CheckedWish}
 use Rattle.machine.specs.Events.{Event}
@@ -13,33 +13,31 @@ use Rattle.instrumented.specs.Instrumented.{first_instrumented, repeated, taken}
 use Rattle.resource_tree.specs.Foci.{harts_of}
 use Rattle.session_spec.specs.declared.data.Latest.{Latest}
 use Rattle.session_spec.specs.declared.data.RefusedWish.{RefusedWish}
+use Rattle.session_spec.specs.declared.data.Shown.{Shown}
 use Rattle.session_spec.specs.Inputs.{Inputs}
-use Rattle.session_spec.specs.States.{Kept}
+use Rattle.session_spec.specs.States.{Kept, State}
+use Rattle.session_spec.specs.Reads.{IsSound, marks_of}
 use Rattle.session_spec.specs.Due.{next_due, observed_cost}
 use Rattle.session_spec.specs.Readings.{ticks_of}
-use Rattle.session_spec.specs.Reads.{Desk, desk_admitted}
+use Rattle.session_spec.specs.Admission.{with_admission}
 use Rattle.session_spec.specs.Tests.{taken_at_once}
 use Rattle.w3_search.specs.declared.node.NodeSample.{NodeSample}
 use Rattle.w3_search.specs.Steps.{SearchData, search_step, with_end}
-use Rattle.instrument.specs.declared.number.InstrumentNo.{InstrumentNo}
 use Rattle.fold_hist.specs.Bins.{Histogram, hist_of}
+use Rattle.fold_hist.specs.declared.bin.Bin.{Bin}
 use Rattle.pn_types.specs.declared.limits.TheConstants.{MAX_HARTS}
-use Rattle.pn_types.specs.declared.plan.Plan.{Plan}
-use Rattle.prim_code.specs.Counts.{predicted}
-use Rattle.session.specs.Candidates.{IsAnswer, IsShort, answer_of}
-use Rattle.session.specs.declared.candidate.Candidate.{Candidate}
 use Rattle.session.specs.Contenders.{cost_of, first_search}
-use Rattle.session.specs.Given.{IsWishOf}
-use Rattle.session.specs.Outcomes.{newly_shown}
 use Rattle.session_kits.specs.declared.kit.Kit.{Kit}
-use Rattle.session_kits.specs.Kits.{HasFew, HasHarts, dropped_tests, kit_sampled, kits_armed, kits_latest, kits_tests, machine_of_armed}
+use Rattle.session_kits.specs.Kits.{AreLive, HasFew, HasHarts, dropped_tests, kit_sampled, kits_armed, kits_latest, kits_tests, live_of, machine_of_armed}
 
--- the machine, the wishes that were refused, the pairs that are or were shown, the search, the latest samples of what was wished and
--- of nodes, how many ticks each hart had then, for how many harts there is room to read them, and for how many more pairs
+-- the machine, the wishes that were refused, the pairs that are or were shown, the places of those that may still be sampled, the
+-- search, the latest samples of what was wished and of nodes, how many ticks each hart had then, for how many harts there is room to
+-- read them, and for how many more pairs
 pub record Table : Type 0 where
   pub machine : InstrumentedData
   pub refused : List RefusedWish
   pub kits : List Kit
+  pub live : List ℕ
   pub search : SearchData
   pub latest : List Latest
   pub tests : List NodeSample
@@ -56,13 +54,20 @@ pub record Table : Type 0 where
 
 -- ---- what a session goes on from
 
+abbrev pub shown_in : List Kit → List Shown
+shown_in kits = map (λ (k : Kit). k.shown) kits
+
+-- what was read last of each
+abbrev pub lasts_in : List Kit → List ℕ
+lasts_in kits = map (λ (k : Kit). k.last) kits
+
 -- with the wishes that are to come
 abbrev pub kept_of : List CheckedWish → Table → Kept
 kept_of ws t = record {
   machine = t.machine.state;
   wishes = ws;
   refused = t.refused;
-  shown = map (λ (k : Kit). k.shown) t.kits;
+  shown = shown_in t.kits;
   search = t.search;
   time = t.time;
   due = t.due;
@@ -73,8 +78,25 @@ kept_of ws t = record {
   observed = t.observed;
 }
 
-abbrev pub desk_at : List CheckedWish → Table → Desk
-desk_at ws t = record { kept = kept_of ws t; lasts = map (λ (k : Kit). k.last) t.kits; hists = map (λ (k : Kit). k.hist) t.kits; latest = t.latest; marks = t.marks }
+-- the histogram of a pair with these samples, if it was wished
+abbrev pub hist_at : Inputs → Shown → List Bin → Option Histogram
+hist_at i s r = if is_none s.node then Some (hist_of i.settings.bins r) else None
+
+-- each has the histogram of its samples, if it was wished
+abbrev pub AreFolded : Inputs → List Kit → List (List Bin) → Type 0
+AreFolded i [] [] = Unit {0}
+AreFolded i [] (r ∷ rs) = ⊥
+AreFolded i (k ∷ ks) [] = ⊥
+AreFolded i (k ∷ ks) (r ∷ rs) = (k.hist ≡ hist_at i k.shown r) × AreFolded i ks rs
+
+-- A table is a state's: what a session goes on from is the same, each sample stands in its histogram, and the latest samples and how
+-- many ticks each hart had then are the state's.
+pub record IsTableOf (i : Inputs) (s : State) (later : List CheckedWish) (t : Table) : Type 0 where
+  pub kept : kept_of later t ≡ s.kept
+  pub hists : AreFolded i t.kits s.recorded
+  pub latest : t.latest ≡ s.latest
+  pub marks : t.marks ≡ marks_of i s
+  pub sound : IsSound i s (lasts_in t.kits)
 
 -- where nothing was done yet, and work is due at this time
 abbrev pub table_at_first : InstrumentedData → SearchData → List ℕ → ℕ → ℕ → Table
@@ -82,6 +104,7 @@ table_at_first machine search marks places due = record {
   machine = machine;
   refused = [];
   kits = [];
+  live = [];
   search = search;
   latest = [];
   tests = [];
@@ -115,6 +138,7 @@ pub record CanSample (t : Table) : Type 0 where
   pub samples : t.samples < 2 ^ 63
   pub most : length t.machine.state.core.harts ≤ MAX_HARTS
   pub ticks : ticks_in t.machine.state.core.harts ≤ t.time
+  pub live : AreLive t.machine.state.placer t.kits t.live
 
 -- turns
 abbrev pub table_taken : List Event → Table → Table
@@ -146,8 +170,12 @@ table_sampled t = record t {
   observed = observed_cost t.idle (t.time - t.last);
 }
 
+abbrev pub table_swept : Table → Table
+table_swept t = record t { machine = record t.machine { state = repeated (length t.machine.state.placer.book.agenda) Sweeps t.machine.state } }
+
+-- and tests that are gone are forgotten
 abbrev pub table_freed : Table → Table
-table_freed t = record t { machine = record t.machine { state = repeated (length t.machine.state.placer.book.agenda) Sweeps t.machine.state } }
+table_freed t = record (table_swept t) { live = live_of (table_swept t).machine.state.placer t.kits t.live }
 
 abbrev pub table_armed : Table → Table
 table_armed t = record t {
@@ -195,34 +223,10 @@ table_tended width h n t = if nat_le (table_begun h n t).due (table_begun h n t)
 
 -- ---- a pair that is to be shown
 
-abbrev pub new_kit : Inputs → CheckedWish → InstrumentNo → Histogram → Kit
-new_kit i w number hist = record {
-  shown = newly_shown w number;
-  cost = 0;
-  first = (harts_of i.tree.harts w.focus.hart).0;
-  count = (harts_of i.tree.harts w.focus.hart).1;
-  last = 0;
-  hist = hist;
-}
-
--- what a wish needs to be looked at
-pub record IsCandidate (i : Inputs) (w : CheckedWish) (plan : Plan) (c : Candidate) : Type 0 where
-  pub wish : IsWishOf i w
-  pub answer : w.show ≡ true → IsAnswer i w.metric w.focus (answer_of c.refusal plan)
-  pub short : IfOk (answer_of c.refusal plan) (IsShort i)
-  pub words : predicted plan < 2 ^ 32
-  pub hist : c.hist ≡ hist_of i.settings.bins []
-
--- the same of several
-abbrev pub AreCandidates : Inputs → List CheckedWish → List Plan → List Candidate → Type 0
-AreCandidates i [] [] [] = Unit {0}
-AreCandidates i (w ∷ ws) (plan ∷ plans) (c ∷ cs) = IsCandidate i w plan c × AreCandidates i ws plans cs
-AreCandidates i ws plans cs = ⊥
-
 -- a pair that was admitted: nothing was read of it yet
 pub record IsNew (i : Inputs) (k : Kit) : Type 0 where
   pub last : k.last ≡ 0
-  pub hist : k.hist ≡ hist_of i.settings.bins []
+  pub hist : k.hist ≡ hist_at i k.shown []
   pub harts : (k.first, k.count) ≡ harts_of i.tree.harts k.shown.focus.hart
   pub within : k.first + k.count ≤ i.settings.harts
   pub cost : k.cost ≡ cost_of i k.shown
@@ -248,16 +252,17 @@ IsCount time (w ∷ ws) (suc n) = (nat_le w.at time ≡ true) × IsCount time ws
 
 -- what no admission changes
 pub record IsStill (old new : Table) : Type 0 where
-  pub same : new ≡ record old { machine = new.machine; refused = new.refused; kits = new.kits; search = new.search; room = new.room; worked = new.worked }
+  pub same : new ≡ record old { machine = new.machine; refused = new.refused; kits = new.kits; live = new.live; search = new.search; room = new.room; worked = new.worked }
   pub core : new.machine.state.core ≡ old.machine.state.core
   pub rules : new.search.rules ≡ old.search.rules
 
 -- behind an admission in which so many of the wishes were looked at
 pub record IsAdmission (i : Inputs) (later : List CheckedWish) (old new : Table) (n : ℕ) : Type 0 where
   pub looked : n ≤ length later
-  pub desk : desk_at (drop n later) new ≡ desk_admitted i (desk_at later old)
+  pub kept : kept_of (drop n later) new ≡ with_admission i (kept_of later old)
   pub kits : IsMore i old.kits new.kits
   pub few : length new.kits ≤ length old.kits + n + taken_at_once
+  pub live : AreLive new.machine.state.placer new.kits new.live
   pub stays : IsStill old new
 
 -- nothing but the memory that was taken has changed

@@ -1,7 +1,7 @@
 //! Admissions: the wishes whose ticks have come are looked at, and then the search takes nodes.
 
-ghost use Rattle.std.specs.Prelude.{◌≡◌, ◌+◌, ◌<◌, ◌≤◌, ◌^◌, List, IfOk, OnErr, OnOk, drop, length};
-ghost use Rattle.std.specs.List.{AllByRecursion};
+ghost use Rattle.std.specs.Prelude.{◌≡◌, ◌+◌, ◌<◌, ◌≤◌, ◌^◌, if◌then◌else◌, List, IfOk, OnErr, OnOk, drop, length};
+ghost use Rattle.std.specs.List.{AllByRecursion, list_all};
 ghost use Rattle.mdl_check.specs.declared.checked.CheckedWish.{CheckedWish};
 ghost use Rattle.machine.specs.Cores.{In};
 ghost use Rattle.rv_mem.specs.Start.{program_of};
@@ -9,18 +9,42 @@ ghost use Rattle.session.specs.Given.{AreGiven, IsWishOf};
 ghost use Rattle.session_spec.specs.Opening.{with_all};
 ghost use Rattle.session_spec.specs.Searches.{rules_of};
 ghost use Rattle.session_spec.specs.Tests.{taken_at_once, with_tests};
-ghost use Rattle.session.specs.Contenders.{HasCost};
+ghost use Rattle.session_kits.specs.Kits.{AreLive};
+ghost use Rattle.session.specs.Contenders.{HasCost, force_in};
+ghost use Rattle.session.specs.KnownCosts.{AreKnown};
 ghost use Rattle.session.specs.Tables.{IsAdmission, IsMore, IsSame, IsStill, kept_of};
 
-use crate::contenders::prepare_nodes;
 use crate::desk::Desk;
 use crate::inputs::Inputs;
-use crate::preparing::{Prepared, count_due, prepare_all};
+use crate::known_costs::KnownCosts;
+use crate::preparing::{Prepared, count_due, prepare_wishes};
 use mdl_check::CheckedWish;
 use pn_types::NoMemory;
 use std::alloc::Global;
 
+/// Whether no wish drops a pair.
+fn show_all(wishes: &[CheckedWish]) -> bool
+    ensures { result ≡ list_all (λ w. w.show) wishes.now }
+{
+    wishes.iter().all(|wish| wish.show)
+}
+
 impl Desk {
+    /// What the costs in force aren't below at any time of an admission in which these wishes are looked at: the costs that are in
+    /// force, and none where a pair is dropped.
+    fn least_force(&self, wishes: &[CheckedWish]) -> u64
+        requires few { length self.now.kits < 2 ^ 31 }
+        requires low { AllByRecursion (λ k. k.cost < 2 ^ 32) self.now.kits }
+        requires live { AreLive self.now.machine.state.placer self.now.kits self.now.live }
+        ensures least { result ≡ (if list_all (λ w. w.show) wishes.now then force_in self.now.machine.state.placer self.now.kits else 0) }
+        ensures bound { result < 2 ^ 63 }
+    {
+        if show_all(wishes) {
+            return self.in_force();
+        }
+        0
+    }
+
     /// Wishes are looked at, one after another, and then the search takes nodes. All memory is taken before anything changes.
     ///
     /// # Errors
@@ -32,6 +56,7 @@ impl Desk {
         alloc: Global,
         inputs: &Inputs,
         wishes: &[CheckedWish],
+        costs: &mut KnownCosts,
     ) -> Result<(), NoMemory>
         requires given { AreGiven inputs.now }
         requires wishes { (w : CheckedWish) → In w wishes.now → IsWishOf inputs.now w }
@@ -39,17 +64,22 @@ impl Desk {
         requires rules { self.old.search.rules ≡ rules_of inputs.now }
         requires few { length self.old.kits + length wishes.now + taken_at_once < 2 ^ 31 }
         requires costs { AllByRecursion (HasCost inputs.now) self.old.kits }
+        requires live { AreLive self.old.machine.state.placer self.old.kits self.old.live }
+        requires known { AreKnown inputs.now costs.old }
         ensures kept { OnOk result ((ws : List CheckedWish) → kept_of ws self.new ≡ with_tests inputs.now (with_all inputs.now wishes.now (kept_of ws self.old))) }
         ensures kits { OnOk result (IsMore inputs.now self.old.kits self.new.kits) }
         ensures few { OnOk result (length self.new.kits ≤ length self.old.kits + length wishes.now + taken_at_once) }
         ensures still { OnOk result (IsStill self.old self.new) }
+        ensures live { OnOk result (AreLive self.new.machine.state.placer self.new.kits self.new.live) }
         ensures err { OnErr result (IsSame self.old self.new) }
+        ensures known { AreKnown inputs.now costs.new }
     {
         let Prepared {
             mut plans,
             candidates,
-        } = prepare_all(alloc, inputs, wishes)?;
-        let contenders = prepare_nodes(alloc, inputs, &self.search, self.observed, &mut plans)?;
+        } = prepare_wishes(alloc, inputs, wishes)?;
+        let force = self.least_force(wishes);
+        let contenders = self.prepare_nodes(alloc, inputs, force, costs, &mut plans)?;
         self.reserve(alloc, &plans)?;
         let (of_wishes, of_nodes) = plans.split_at(wishes.len());
         self.consider_all(alloc, inputs, wishes, of_wishes, candidates);
@@ -69,6 +99,7 @@ fn admit(
     inputs: &Inputs,
     wishes: &[CheckedWish],
     desk: &mut Desk,
+    costs: &mut KnownCosts,
 ) -> Result<usize, NoMemory>
     requires given { AreGiven inputs.now }
     requires wishes { (w : CheckedWish) → In w wishes.now → IsWishOf inputs.now w }
@@ -76,14 +107,17 @@ fn admit(
     requires rules { desk.old.search.rules ≡ rules_of inputs.now }
     requires few { length desk.old.kits + length wishes.now + taken_at_once < 2 ^ 31 }
     requires costs { AllByRecursion (HasCost inputs.now) desk.old.kits }
+    requires live { AreLive desk.old.machine.state.placer desk.old.kits desk.old.live }
+    requires known { AreKnown inputs.now costs.old }
     ensures ok { IfOk result (IsAdmission inputs.now wishes.now desk.old desk.new) }
     ensures err { OnErr result (IsSame desk.old desk.new) }
+    ensures known { AreKnown inputs.now costs.new }
 {
     if !desk.worked {
         return Ok(0);
     }
     let due = count_due(wishes, desk.time);
-    desk.admit(alloc, inputs, &wishes[..due])?;
+    desk.admit(alloc, inputs, &wishes[..due], costs)?;
     desk.rest();
     Ok(due)
 }
@@ -100,6 +134,7 @@ pub(crate) fn admit_from(
     wishes: &[CheckedWish],
     looked: usize,
     desk: &mut Desk,
+    costs: &mut KnownCosts,
 ) -> Result<usize, NoMemory>
     requires looked { looked ≤ length wishes.now }
     requires given { AreGiven inputs.now }
@@ -108,8 +143,11 @@ pub(crate) fn admit_from(
     requires rules { desk.old.search.rules ≡ rules_of inputs.now }
     requires few { length desk.old.kits + length (drop looked wishes.now) + taken_at_once < 2 ^ 31 }
     requires costs { AllByRecursion (HasCost inputs.now) desk.old.kits }
+    requires live { AreLive desk.old.machine.state.placer desk.old.kits desk.old.live }
+    requires known { AreKnown inputs.now costs.old }
     ensures ok { IfOk result (IsAdmission inputs.now (drop looked wishes.now) desk.old desk.new) }
     ensures err { OnErr result (IsSame desk.old desk.new) }
+    ensures known { AreKnown inputs.now costs.new }
 {
-    admit(alloc, inputs, &wishes[looked..], desk)
+    admit(alloc, inputs, &wishes[looked..], desk, costs)
 }

@@ -1,41 +1,42 @@
-//! What a wish needs to be looked at, which takes memory.
+//! Pairs for which instruments are wanted.
 
-ghost use Rattle.std.specs.Prelude.{◌≡◌, IfOk, true};
-ghost use Rattle.session.specs.Candidates.{IsAnswer, IsShort};
-ghost use Rattle.session.specs.Given.{AreGiven, IsWishOf};
-ghost use Rattle.session.specs.Tables.{IsCandidate};
+ghost use Rattle.std.specs.Prelude.{◌≡◌, IfOk};
+ghost use Rattle.session.specs.Candidates.{IsCandidate, IsPairOf, IsWithin, first_hist};
+ghost use Rattle.session.specs.Given.{AreGiven};
 
 use crate::inputs::Inputs;
-use crate::planning::{plan_wish, split};
+use crate::planning::plan_or_fault;
 use fold_hist::Hist;
-use mdl_check::CheckedWish;
-use pn_types::{NoMemory, PickCause, Plan};
+use mdl_plan::PlanFault;
+use pn_types::{Focus, NoMemory, Plan};
 use std::alloc::Global;
 
-/// Why a wish is refused whatever is shown, if it is, and an empty histogram for its samples.
+/// A metric at a focus for which an instrument is wanted.
 #[derive(Drop)]
 pub(crate) struct Candidate {
-    pub(crate) refusal: Option<PickCause>,
-    pub(crate) hist: Hist,
+    // The node of the search that it is to test. None where the pair was wished.
+    pub(crate) node: Option<u32>,
+    pub(crate) metric: u32,
+    pub(crate) focus: Focus,
+    // Why there is no plan of it, if there is none.
+    pub(crate) fault: Option<PlanFault>,
+    // For its samples. None where a node is tested.
+    pub(crate) hist: Option<Hist>,
 }
 
-/// The plan of what is wished, or why there is none: a wish that a pair be shown no longer needs no plan.
-fn answer_wish(
-    alloc: Global,
-    inputs: &Inputs,
-    wish: &CheckedWish,
-) -> Result<Result<Plan, PickCause>, NoMemory>
+/// An empty histogram, where no node is tested.
+fn first_hist(alloc: Global, inputs: &Inputs, node: Option<u32>) -> Result<Option<Hist>, NoMemory>
     requires { AreGiven inputs.now }
-    ensures answer { IfOk result (λ answer. wish.now.show ≡ true → IsAnswer inputs.now wish.now.metric wish.now.focus answer) }
-    ensures short { IfOk result (λ answer. IfOk answer (IsShort inputs.now)) }
+    ensures { IfOk result (λ hist. hist ≡ first_hist inputs.now node) }
 {
-    if !wish.show {
-        return Ok(Err(PickCause::NotShown));
+    if node.is_some() {
+        return Ok(None);
     }
-    plan_wish(alloc, inputs, wish.metric, &wish.focus)
+    Ok(Some(Hist::new(alloc, inputs.settings.bins)?))
 }
 
-/// What a wish needs to be looked at: a plan, unless it is refused whatever is shown, and a histogram.
+/// What the admission of a metric at a focus needs: its plan, or one of nothing and why there is none; and where no node is to be
+/// tested a histogram.
 ///
 /// # Errors
 ///
@@ -43,14 +44,25 @@ fn answer_wish(
 pub(crate) fn prepare(
     alloc: Global,
     inputs: &Inputs,
-    wish: &CheckedWish,
+    node: Option<u32>,
+    metric: u32,
+    focus: Focus,
 ) -> Result<(Plan, Candidate), NoMemory>
     requires given { AreGiven inputs.now }
-    requires wish { IsWishOf inputs.now wish.now }
-    ensures { IfOk result (λ made. IsCandidate inputs.now wish.now made.0 made.1) }
+    requires within { IsWithin inputs.now focus }
+    ensures candidate { IfOk result (λ made. IsCandidate inputs.now made.0 made.1) }
+    ensures pair { IfOk result (λ made. IsPairOf node metric focus made.1) }
 {
-    let hist = Hist::new(alloc, inputs.settings.bins)?;
-    let answer = answer_wish(alloc, inputs, wish)?;
-    let (plan, refusal) = split(alloc, answer);
-    Ok((plan, Candidate { refusal, hist }))
+    let hist = first_hist(alloc, inputs, node)?;
+    let (plan, fault) = plan_or_fault(alloc, inputs, metric, &focus)?;
+    Ok((
+        plan,
+        Candidate {
+            node,
+            metric,
+            focus,
+            fault,
+            hist,
+        },
+    ))
 }

@@ -1,56 +1,96 @@
-//! A wish is looked at, with what it needs at hand.
+//! Wishes are looked at, with what they need at hand.
 
-ghost use Rattle.std.specs.Prelude.{◌≡◌, ◌+◌, ◌<◌, ◌≤◌, ◌⊎◌, ◌++◌, ◌∷◌, List, [], IfErr, IfOk, true, length, map};
+ghost use Rattle.std.specs.Prelude.{◌≡◌, ◌+◌, ◌<◌, ◌≤◌, ◌++◌, List, None, Some, find, length, map, not};
+ghost use Rattle.std.specs.Option.{option_map};
 ghost use Rattle.rv_mem.specs.Start.{program_of};
-ghost use Rattle.mdl_check.specs.declared.checked.CheckedWish.{CheckedWish};
 ghost use Rattle.machine.specs.Cores.{In};
-ghost use Rattle.instrument.specs.Needs.{Need, need_of, without};
-ghost use Rattle.instrument.specs.declared.number.InstrumentNo.{InstrumentNo};
-ghost use Rattle.session_spec.specs.Admission.{with_wish};
+ghost use Rattle.mdl_check.specs.Rules.{is_same_focus};
+ghost use Rattle.mdl_check.specs.declared.checked.CheckedWish.{CheckedWish};
+ghost use Rattle.instrument.specs.Needs.{Need, need_of};
+ghost use Rattle.instrument.specs.Placements.{is_leaving, state_of};
+ghost use Rattle.session_spec.specs.Admission.{shows, with_plan, with_refused, with_wish};
+ghost use Rattle.session_spec.specs.Inputs.{planned};
 ghost use Rattle.session_spec.specs.Opening.{with_all};
-ghost use Rattle.session.specs.Candidates.{IsAnswer, IsShort, answer_of};
-ghost use Rattle.session.specs.Tables.{AreCandidates, AreReady, IsMore, kept_of, new_kit};
+ghost use Rattle.session_kits.specs.Kits.{AreLive};
+ghost use Rattle.session.specs.Candidates.{AreOfWishes, IsCandidate, IsOfWish, IsPairOf};
+ghost use Rattle.session.specs.Outcomes.{IsStep};
+ghost use Rattle.session.specs.Tables.{AreReady, IsMore, IsStill, kept_of};
 
 use crate::candidate::Candidate;
 use crate::desk::Desk;
 use crate::inputs::Inputs;
-use crate::outcome::Outcome;
-use crate::room::{put_kit, put_refused};
-use crate::wishing::look;
-use fold_hist::Hist;
-use instrument::InstrumentNo;
+use crate::room::put_refused;
+use instrument::{InstrumentNo, State};
+use instrumented::InstrumentedMachine;
 use mdl_check::CheckedWish;
-use pn_types::Plan;
+use pn_types::{Focus, PickCause, Plan};
 use session_kits::Kit;
-use session_spec::{RefusedWish, Shown};
+use session_spec::RefusedWish;
 use std::alloc::Global;
 use std::collections::VecDeque;
 
-/// A pair that is to be shown, not armed yet.
-fn new_kit(inputs: &Inputs, wish: &CheckedWish, number: InstrumentNo, hist: Hist) -> Kit
-    ensures { result ≡ new_kit inputs.now wish.now number hist }
+/// Whether two foci are the same.
+fn same(a: &Focus, b: &Focus) -> bool
+    ensures { result ≡ is_same_focus (Some a.now) (Some b.now) }
 {
-    let (first, count) = inputs.tree.harts(&wish.focus);
-    Kit {
-        shown: Shown {
-            instrument: number,
-            node: None,
-            metric: wish.metric,
-            focus: wish.focus,
-            armed: None,
-            from: 0,
-        },
-        cost: 0,
-        first,
-        count,
-        last: 0,
-        hist,
-    }
+    a == b
+}
+
+/// Whether the instrument is being placed or armed.
+fn stands(machine: &InstrumentedMachine, number: InstrumentNo) -> bool
+    ensures { result ≡ not (is_leaving (state_of machine.now.state.placer number.n)) }
+{
+    matches!(machine.state(number), State::Placing | State::Armed)
+}
+
+/// Whether a pair is shown that is the wish's.
+fn shows(machine: &InstrumentedMachine, kit: &Kit, wish: &CheckedWish) -> bool
+    ensures { result ≡ shows machine.now.state.placer wish.now kit.now.shown }
+{
+    kit.shown.node.is_none()
+        && kit.shown.metric == wish.metric
+        && same(&kit.shown.focus, &wish.focus)
+        && stands(machine, kit.shown.instrument)
+}
+
+/// The instrument that shows the pair of a wish.
+fn find_shown(
+    machine: &InstrumentedMachine,
+    kits: &[Kit],
+    wish: &CheckedWish,
+) -> Option<InstrumentNo>
+    ensures { result ≡ option_map (λ k. k.shown.instrument) (find (λ k. shows machine.now.state.placer wish.now k.shown) kits.now) }
+{
+    let kit = kits.iter().find(|kit| shows(machine, kit, wish))?;
+    Some(kit.shown.instrument)
 }
 
 impl Desk {
-    /// Looks at a wish, for which there is room. It has a plan, which is ready, unless it is refused.
-    pub(crate) fn consider(
+    /// Puts a wish among those that are refused, if there is a cause. There is room for it.
+    fn refuse(&mut self, wish: &CheckedWish, cause: Option<PickCause>)
+        requires room { 0 < self.old.room }
+        ensures kept { (ws : List CheckedWish) → kept_of ws self.new ≡ with_refused cause wish.now (kept_of ws self.old) }
+        ensures room { self.old.room ≤ self.new.room + 1 }
+        ensures same { self.new ≡ record self.old { refused = self.new.refused; room = self.new.room } }
+    {
+        let Some(cause) = cause else {
+            return;
+        };
+        self.room -= 1;
+        put_refused(
+            &mut self.refused,
+            RefusedWish {
+                show: wish.show,
+                metric: wish.metric,
+                focus: wish.focus,
+                at: self.time,
+                cause,
+            },
+        );
+    }
+
+    /// Shows the pair of a wish, which isn't shown: it gets an instrument, or the wish is refused.
+    fn show(
         &mut self,
         alloc: Global,
         inputs: &Inputs,
@@ -60,66 +100,69 @@ impl Desk {
     )
         requires room { 0 < self.old.room }
         requires program { self.old.machine.state.core.program ≡ program_of inputs.now.image }
-        requires short { IfOk (answer_of candidate.refusal plan.now) (IsShort inputs.now) }
-        requires answer { wish.now.show ≡ true → IsAnswer inputs.now wish.now.metric wish.now.focus (answer_of candidate.refusal plan.now) }
-        requires ready { IfOk (answer_of candidate.refusal plan.now) (λ plan. In (need_of plan) self.old.machine.ready) }
-        ensures kept { (ws : List CheckedWish) → kept_of ws self.new ≡ with_wish inputs.now wish.now (kept_of ws self.old) }
-        ensures kits { (self.new.kits ≡ self.old.kits) ⊎ ((number : InstrumentNo) × (self.new.kits ≡ self.old.kits ++ new_kit inputs.now wish.now number candidate.hist ∷ [])) }
-        ensures room { self.new.room + 1 ≡ self.old.room }
-        ensures same { self.new ≡ record self.old { machine = self.new.machine; refused = self.new.refused; kits = self.new.kits; room = self.new.room } }
-        ensures core { self.new.machine.state.core ≡ self.old.machine.state.core }
-        ensures ok { IfOk (answer_of candidate.refusal plan.now) (λ plan. (self.new.machine.ready ≡ self.old.machine.ready) ⊎ (self.new.machine.ready ≡ without (need_of plan) self.old.machine.ready)) }
-        ensures err { IfErr (answer_of candidate.refusal plan.now) (λ cause. self.new.machine.ready ≡ self.old.machine.ready) }
+        requires pair { IsPairOf None wish.now.metric wish.now.focus candidate }
+        requires candidate { IsCandidate inputs.now plan.now candidate }
+        requires ready { In (need_of plan.now) self.old.machine.ready }
+        requires live { AreLive self.old.machine.state.placer self.old.kits self.old.live }
+        ensures kept { (ws : List CheckedWish) → kept_of ws self.new ≡ with_plan (planned inputs.now wish.now.metric wish.now.focus) wish.now (kept_of ws self.old) }
+        ensures step { IsStep inputs.now plan.now self.old self.new }
+        ensures search { self.new.search ≡ self.old.search }
     {
-        let outcome = look(
-            alloc,
-            &mut self.machine,
-            &self.kits,
-            wish,
-            plan,
-            candidate.refusal,
-        );
-        match outcome {
-            Outcome::Refused(cause) => put_refused(
-                &mut self.refused,
-                RefusedWish {
-                    show: wish.show,
-                    metric: wish.metric,
-                    focus: wish.focus,
-                    at: self.time,
-                    cause,
-                },
-            ),
-            Outcome::Shown(number) => {
-                let kit = new_kit(inputs, wish, number, candidate.hist);
-                put_kit(&mut self.kits, kit);
-            }
-            Outcome::Done => {}
+        match self.instrument(alloc, inputs, plan, candidate, None) {
+            Ok(_) => {}
+            Err(failure) => self.refuse(wish, failure.pick_cause()),
         }
-        self.room -= 1;
     }
 
-    /// Looks at wishes, one after another. For each there is room, and each has a plan, which is ready, unless it is refused. What
-    /// else is ready, stays so.
+    /// Looks at a wish, for which there is room, with what it needs. Its plan is ready.
+    fn consider(
+        &mut self,
+        alloc: Global,
+        inputs: &Inputs,
+        wish: &CheckedWish,
+        plan: &Plan,
+        candidate: Option<Candidate>,
+    )
+        requires room { 0 < self.old.room }
+        requires program { self.old.machine.state.core.program ≡ program_of inputs.now.image }
+        requires candidate { IsOfWish inputs.now wish.now plan.now candidate }
+        requires ready { In (need_of plan.now) self.old.machine.ready }
+        requires live { AreLive self.old.machine.state.placer self.old.kits self.old.live }
+        ensures kept { (ws : List CheckedWish) → kept_of ws self.new ≡ with_wish inputs.now wish.now (kept_of ws self.old) }
+        ensures step { IsStep inputs.now plan.now self.old self.new }
+        ensures search { self.new.search ≡ self.old.search }
+    {
+        let shown = find_shown(&self.machine, &self.kits.all, wish);
+        match (candidate, shown) {
+            (Some(candidate), None) => self.show(alloc, inputs, wish, plan, candidate),
+            (Some(_), Some(_)) => self.refuse(wish, Some(PickCause::AlreadyShown)),
+            (None, Some(number)) => self.machine.drop(number),
+            (None, None) => self.refuse(wish, Some(PickCause::NotShown)),
+        }
+    }
+
+    /// Looks at wishes, one after another, with what they need. For each there is room, and its plan is ready. What else is ready,
+    /// stays so.
     pub(crate) fn consider_all(
         &mut self,
         alloc: Global,
         inputs: &Inputs,
         wishes: &[CheckedWish],
         plans: &[Plan],
-        candidates: VecDeque<Candidate>,
+        candidates: VecDeque<Option<Candidate>>,
     )
         requires room { length wishes.now ≤ self.old.room }
-        requires many { length plans.now ≡ length wishes.now }
         requires program { self.old.machine.state.core.program ≡ program_of inputs.now.image }
-        requires each { AreCandidates inputs.now wishes.now plans.now candidates.items }
+        requires each { AreOfWishes inputs.now wishes.now plans.now candidates.items }
         requires ready { AreReady (map need_of plans.now) self.old.machine.ready }
+        requires live { AreLive self.old.machine.state.placer self.old.kits self.old.live }
         ensures kept { (ws : List CheckedWish) → kept_of ws self.new ≡ with_all inputs.now wishes.now (kept_of ws self.old) }
         ensures kits { IsMore inputs.now self.old.kits self.new.kits }
         ensures few { length self.new.kits ≤ length self.old.kits + length wishes.now }
-        ensures room { self.new.room + length wishes.now ≡ self.old.room }
-        ensures same { self.new ≡ record self.old { machine = self.new.machine; refused = self.new.refused; kits = self.new.kits; room = self.new.room } }
-        ensures core { self.new.machine.state.core ≡ self.old.machine.state.core }
+        ensures room { self.old.room ≤ self.new.room + length wishes.now }
+        ensures live { AreLive self.new.machine.state.placer self.new.kits self.new.live }
+        ensures still { IsStill self.old self.new }
+        ensures search { self.new.search ≡ self.old.search }
         ensures left { (needs : List Need) → AreReady (map need_of plans.now ++ needs) self.old.machine.ready → AreReady needs self.new.machine.ready }
     {
         let mut candidates = candidates;

@@ -4,13 +4,13 @@ ghost use Rattle.machine.specs.Events.{IsQuiet};
 ghost use Rattle.machine.specs.Replays.{owns};
 ghost use Rattle.machine.specs.States.{quantum_turns};
 ghost use Rattle.machine.specs.Turns.{is_runnable};
-ghost use Rattle.session_kits.specs.Kits.{HasHarts};
+ghost use Rattle.session_kits.specs.Kits.{AreLive, HasHarts};
 ghost use Rattle.session.specs.Tables.{CanSample, table_armed, table_freed, table_handed, table_judged, table_next, table_quiet, table_sampled, table_turned};
 
 use instrumented::InstrumentedMachine;
 use machine::Sample;
 use pn_types::HartNo;
-use session_kits::{Kit, arm_kits, drop_tests, hand_out, mark_ticks, sample_kits, sweep};
+use session_kits::{Kits, arm_kits, drop_tests, hand_out, mark_ticks, sample_kits, sweep};
 use session_spec::{Latest, RefusedWish};
 use std::marker::Model;
 use w3_search::{NodeSample, Search};
@@ -23,7 +23,7 @@ pub(crate) struct Desk {
     pub(crate) machine: InstrumentedMachine,
     pub(crate) refused: Vec<RefusedWish>,
     // What is or was shown, in the order of admission.
-    pub(crate) kits: Vec<Kit>,
+    pub(crate) kits: Kits,
     pub(crate) search: Search,
     // The samples that were taken together last, of what was wished and of the nodes under test.
     pub(crate) latest: Vec<Latest>,
@@ -60,7 +60,8 @@ impl Model for Desk {
     ghost view = { λ d. record {
       machine = d.machine;
       refused = d.refused.items;
-      kits = d.kits.items;
+      kits = d.kits.all.items;
+      live = d.kits.live.items;
       search = d.search;
       latest = d.latest.items;
       tests = d.tests.items;
@@ -76,8 +77,8 @@ impl Model for Desk {
       observed = d.observed;
     } };
 
-    ghost invariant = { λ d. (vec_len d.refused + d.room ≤ vec_capacity d.refused) × (vec_len d.kits + d.room ≤ vec_capacity d.kits)
-        × (vec_len d.kits + d.room ≤ vec_capacity d.latest) × (vec_len d.kits + d.room ≤ vec_capacity d.tests) };
+    ghost invariant = { λ d. (vec_len d.refused + d.room ≤ vec_capacity d.refused) × (vec_len d.kits.all + d.room ≤ vec_capacity d.kits.all) × (vec_len d.kits.live + d.room ≤ vec_capacity d.kits.live)
+        × (vec_len d.kits.all + d.room ≤ vec_capacity d.latest) × (vec_len d.kits.all + d.room ≤ vec_capacity d.tests) };
 }
 
 // By a call of its own: what drops it need not prove the drops of all its parts.
@@ -121,6 +122,7 @@ impl Desk {
         requires time { self.old.time < 2 ^ 63 }
         requires idle { self.old.idle < 2 ^ 63 }
         ensures table { self.new ≡ table_turned hart most self.old }
+        ensures live { AreLive self.old.machine.state.placer self.old.kits self.old.live → AreLive self.new.machine.state.placer self.new.kits self.new.live }
         ensures owns { result ≡ length (owns (quantum_turns most hart self.old.machine.state.core) self.old.machine.state.core) }
         ensures harts { length self.new.machine.state.core.harts ≡ length self.old.machine.state.core.harts }
         ensures later { self.new.time < self.old.time + 2 ^ 32 }
@@ -135,6 +137,8 @@ impl Desk {
     /// Hands out eight entries of the agenda.
     #[inline(always)]
     pub(crate) fn hand_out(&mut self)
+        requires live { AreLive self.old.machine.state.placer self.old.kits self.old.live }
+        ensures live { AreLive self.new.machine.state.placer self.new.kits self.new.live }
         ensures table { self.new ≡ table_handed self.old }
         ensures harts { self.new.machine.state.core.harts ≡ self.old.machine.state.core.harts }
     {
@@ -146,6 +150,7 @@ impl Desk {
         requires time { self.old.time < 2 ^ 63 }
         requires idle { self.old.idle < 2 ^ 63 }
         ensures table { self.new ≡ table_quiet self.old }
+        ensures live { AreLive self.old.machine.state.placer self.old.kits self.old.live → AreLive self.new.machine.state.placer self.new.kits self.new.live }
         ensures quiet { IsQuiet self.new.machine.state.core }
         ensures harts { length self.new.machine.state.core.harts ≡ length self.old.machine.state.core.harts }
         ensures later { self.new.time < self.old.time + 2 ^ 32 }
@@ -166,6 +171,7 @@ impl Desk {
         requires later { self.old.last < self.old.time }
         ensures table { self.new ≡ table_sampled self.old }
         ensures still { self.new.machine ≡ self.old.machine }
+        ensures live { AreLive self.new.machine.state.placer self.new.kits self.new.live }
         ensures harts { AllByRecursion (HasHarts (length self.old.machine.state.core.harts)) self.new.kits }
     {
         self.latest.clear();
@@ -186,15 +192,19 @@ impl Desk {
         self.last = self.time;
     }
 
-    /// Does each Free in the agenda that no unlinking of its point stands before. No hart is inside a trampoline.
+    /// Does each Free in the agenda that no unlinking of its point stands before, and forgets tests that are gone then. No hart is
+    /// inside a trampoline.
     pub(crate) fn free(&mut self)
         requires quiet { IsQuiet self.old.machine.state.core }
+        requires live { AreLive self.old.machine.state.placer self.old.kits self.old.live }
+        ensures live { AreLive self.new.machine.state.placer self.new.kits self.new.live }
         ensures table { self.new ≡ table_freed self.old }
         ensures harts { self.new.machine.state.core.harts ≡ self.old.machine.state.core.harts }
         ensures quiet { IsQuiet self.new.machine.state.core }
     {
         let entries = self.machine.agenda_len();
         sweep(&mut self.machine, entries);
+        self.kits.forget_gone(&self.machine);
     }
 
     /// Arms what is being placed and has all its sites linked. No hart is inside a trampoline.
@@ -202,6 +212,8 @@ impl Desk {
         requires quiet { IsQuiet self.old.machine.state.core }
         requires places { self.old.places ≡ length self.old.machine.state.core.harts }
         requires harts { AllByRecursion (HasHarts (length self.old.machine.state.core.harts)) self.old.kits }
+        requires live { AreLive self.old.machine.state.placer self.old.kits self.old.live }
+        ensures live { AreLive self.new.machine.state.placer self.new.kits self.new.live }
         ensures table { self.new ≡ table_armed self.old }
         ensures harts { length self.new.machine.state.core.harts ≡ length self.old.machine.state.core.harts }
     {
@@ -215,6 +227,8 @@ impl Desk {
 
     /// Tells the search of the samples of its nodes, and drops the instruments of those whose tests ended.
     pub(crate) fn judge(&mut self)
+        requires live { AreLive self.old.machine.state.placer self.old.kits self.old.live }
+        ensures live { AreLive self.new.machine.state.placer self.new.kits self.new.live }
         ensures table { self.new ≡ table_judged self.old }
         ensures core { self.new.machine.state.core ≡ self.old.machine.state.core }
     {

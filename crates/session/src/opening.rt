@@ -19,6 +19,7 @@ use instrumented::InstrumentedMachine;
 use machine::Sample;
 use mdl_ast::{Constraint, Metric};
 use pn_types::{NoMemory, Plan, Seq};
+use session_kits::Kits;
 use std::alloc::Global;
 use w3_search::Search;
 
@@ -71,7 +72,10 @@ impl Desk {
         Desk {
             machine,
             refused: Vec::new(alloc),
-            kits: Vec::new(alloc),
+            kits: Kits {
+                all: Vec::new(alloc),
+                live: Vec::new(alloc),
+            },
             search,
             latest: Vec::new(alloc),
             tests: Vec::new(alloc),
@@ -129,8 +133,9 @@ impl Desk {
         let more = plans.len();
         self.room = 0;
         self.refused.reserve(more)?;
-        self.kits.reserve(more)?;
-        let all = self.kits.len() + more;
+        self.kits.all.reserve(more)?;
+        self.kits.live.reserve(more)?;
+        let all = self.kits.all.len() + more;
         self.latest.reserve(all)?;
         self.tests.reserve(all)?;
         self.machine.reserve(alloc, plans)?;

@@ -2,19 +2,20 @@
 
 ghost use Rattle.std.specs.Prelude.{◌≡◌, ◌≤◌, ◌<◌, IfOk, Some, length, map, slice_get};
 ghost use Rattle.std.specs.Option.{option_map};
-ghost use Rattle.session.specs.Parts.{ended_by, metric_of, name_of, refused_part, units_of};
-ghost use Rattle.session.specs.Seen.{hart_seen, kit_part, kit_parts, table_parts};
+ghost use Rattle.session.specs.Parts.{ended_by, metric_of, name_of, refused_part, shown_part, units_of};
+ghost use Rattle.session.specs.Seen.{hart_seen, kit_parts, table_parts};
 
 use crate::desk::Desk;
 use crate::inputs::Inputs;
 use crate::node_parts::search_part;
+use fold_hist::Hist;
 use instrumented::InstrumentedMachine;
 use mdl_ast::Metric;
 use pn_types::{HartNo, MAX_HARTS, NoMemory, Seq, Settings, StopText, Text};
 use report::{HartPart, RefusedPart, ReportParts, ShownPart};
 use rv_word::Cause;
 use session_kits::Kit;
-use session_spec::RefusedWish;
+use session_spec::{RefusedWish, Shown};
 use std::alloc::Global;
 
 /// How a hart ended, as a report says it.
@@ -126,16 +127,21 @@ fn refused_parts(
 }
 
 /// What a report shows of a pair of metric and focus that is or was shown.
-fn shown_part(alloc: Global, inputs: &Inputs, kit: &Kit) -> Result<ShownPart, NoMemory>
-    ensures { IfOk result (λ part. part ≡ kit_part inputs.now kit.now) }
+fn shown_part(
+    alloc: Global,
+    inputs: &Inputs,
+    shown: &Shown,
+    hist: &Hist,
+) -> Result<ShownPart, NoMemory>
+    ensures { IfOk result (λ part. part ≡ shown_part inputs.now shown.now hist.now) }
 {
-    let bins = kit.hist.bins().to_vec(alloc)?;
+    let bins = hist.bins().to_vec(alloc)?;
     Ok(ShownPart {
-        metric: name(alloc, inputs, kit.shown.metric)?,
-        focus: inputs.tree.focus_text(alloc, &kit.shown.focus)?,
-        units: units(alloc, inputs, kit.shown.metric)?,
-        from: kit.shown.armed,
-        width: kit.hist.width(),
+        metric: name(alloc, inputs, shown.metric)?,
+        focus: inputs.tree.focus_text(alloc, &shown.focus)?,
+        units: units(alloc, inputs, shown.metric)?,
+        from: shown.armed,
+        width: hist.width(),
         bins: Seq::from_vec(bins),
     })
 }
@@ -146,8 +152,8 @@ fn shown_parts(alloc: Global, inputs: &Inputs, kits: &[Kit]) -> Result<Vec<Shown
 {
     let mut parts = Vec::new(alloc);
     for kit in kits {
-        if kit.shown.node.is_none() {
-            parts.push(shown_part(alloc, inputs, kit)?)?;
+        if let Some(hist) = &kit.hist {
+            parts.push(shown_part(alloc, inputs, &kit.shown, hist)?)?;
         }
     }
     Ok(parts)
@@ -169,7 +175,7 @@ pub(crate) fn desk_parts(
         samples: desk.samples,
         output: Text::from_vec(output),
         refused: Seq::from_vec(refused_parts(alloc, inputs, desk.refused.as_slice())?),
-        shown: Seq::from_vec(shown_parts(alloc, inputs, desk.kits.as_slice())?),
+        shown: Seq::from_vec(shown_parts(alloc, inputs, desk.kits.all.as_slice())?),
         search: search_part(alloc, inputs, desk.search.nodes())?,
     })
 }

@@ -1,25 +1,46 @@
-//! All that several wishes need to be looked at.
+//! What wishes need to be looked at, which takes memory.
 
-ghost use Rattle.std.specs.Prelude.{◌≡◌, ◌<◌, ◌≤◌, ◌^◌, IfOk, OnErr, OnOk, [], length, map};
-ghost use Rattle.std.specs.List.{AllByRecursion};
+ghost use Rattle.std.specs.Prelude.{◌<◌, IfOk};
 ghost use Rattle.machine.specs.Cores.{In};
-ghost use Rattle.prim_code.specs.Counts.{predicted};
 ghost use Rattle.mdl_check.specs.declared.checked.CheckedWish.{CheckedWish};
+ghost use Rattle.session.specs.Candidates.{AreOfWishes, IsOfWish};
 ghost use Rattle.session.specs.Given.{AreGiven, IsWishOf};
-ghost use Rattle.session.specs.Tables.{AreCandidates, IsCount};
+ghost use Rattle.session.specs.Tables.{IsCount};
 
 use crate::candidate::{Candidate, prepare};
 use crate::inputs::Inputs;
+use crate::planning::nothing;
 use mdl_check::CheckedWish;
 use pn_types::{NoMemory, Plan};
 use std::alloc::Global;
 use std::collections::VecDeque;
 
-/// The plans of wishes, and what else each needs, in their order.
+/// The plans of wishes, and what else each needs, in their order. A wish to drop a pair needs nothing, and has a plan of nothing.
 #[derive(Drop)]
 pub(crate) struct Prepared {
     pub(crate) plans: Vec<Plan>,
-    pub(crate) candidates: VecDeque<Candidate>,
+    pub(crate) candidates: VecDeque<Option<Candidate>>,
+}
+
+/// What a wish needs to be looked at.
+///
+/// # Errors
+///
+/// `NoMemory` where memory is wanting.
+fn prepare_wish(
+    alloc: Global,
+    inputs: &Inputs,
+    wish: &CheckedWish,
+) -> Result<(Plan, Option<Candidate>), NoMemory>
+    requires given { AreGiven inputs.now }
+    requires wish { IsWishOf inputs.now wish.now }
+    ensures { IfOk result (λ made. IsOfWish inputs.now wish.now made.0 made.1) }
+{
+    if !wish.show {
+        return Ok((nothing(alloc), None));
+    }
+    let (plan, candidate) = prepare(alloc, inputs, None, wish.metric, wish.focus)?;
+    Ok((plan, Some(candidate)))
 }
 
 /// What wishes need to be looked at.
@@ -27,19 +48,19 @@ pub(crate) struct Prepared {
 /// # Errors
 ///
 /// `NoMemory` where memory is wanting.
-pub(crate) fn prepare_all(
+pub(crate) fn prepare_wishes(
     alloc: Global,
     inputs: &Inputs,
     wishes: &[CheckedWish],
 ) -> Result<Prepared, NoMemory>
     requires given { AreGiven inputs.now }
     requires wishes { (w : CheckedWish) → In w wishes.now → IsWishOf inputs.now w }
-    ensures each { IfOk result (λ p. AreCandidates inputs.now wishes.now p.plans.items p.candidates.items) }
+    ensures { IfOk result (λ p. AreOfWishes inputs.now wishes.now p.plans.items p.candidates.items) }
 {
     let mut plans = Vec::new(alloc);
     let mut candidates = VecDeque::new(alloc);
     for wish in wishes {
-        let (plan, candidate) = prepare(alloc, inputs, wish)?;
+        let (plan, candidate) = prepare_wish(alloc, inputs, wish)?;
         plans.push(plan)?;
         candidates.push_back(candidate)?;
     }

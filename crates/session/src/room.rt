@@ -3,7 +3,6 @@
 ghost use Rattle.std.specs.Prelude.{◌≡◌, ◌+◌, ◌<◌, ◌≤◌, ◌++◌, ◌∷◌, [], vec_len, vec_capacity};
 
 use pn_types::{Focus, Quantum};
-use session_kits::Kit;
 use session_spec::RefusedWish;
 
 /// Puts a refused wish behind the others, for which there is room.
@@ -25,16 +24,6 @@ pub(crate) fn put_refused(list: &mut Vec<RefusedWish>, refused: RefusedWish)
         at: refused.at,
         cause: refused.cause,
     });
-}
-
-/// Puts a pair behind the others, for which there is room.
-pub(crate) fn put_kit(list: &mut Vec<Kit>, kit: Kit)
-    requires { vec_len list.old < vec_capacity list.old }
-    ensures items { list.new.items ≡ list.old.items ++ kit ∷ [] }
-    ensures len { vec_len list.new ≡ vec_len list.old + 1 }
-    ensures room { vec_capacity list.old ≤ vec_capacity list.new }
-{
-    let _room = list.push(kit);
 }
 
 /// Puts a quantum behind the others, for which there is room.

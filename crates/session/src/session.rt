@@ -1,4 +1,5 @@
-ghost use Rattle.std.specs.Prelude.{◌≡◌, ℕ, ◌<◌, ◌≤◌, ◌^◌, ◌++◌, ◌∷◌, [], IfErr, IfNone, IfOk, IfSome, IsTrue, None, OnErr, false, length, sum_by, true};
+ghost use Rattle.std.specs.Prelude.{◌≡◌, ℕ, ◌<◌, ◌≤◌, ◌^◌, ◌++◌, ◌∷◌, ◌&&◌, [], IfErr, IfNone, IfOk, IfSome, IsTrue, None, OnErr, false, length, nat_lt, sum_by, true};
+ghost use Rattle.machine.specs.Quanta.{KeepsBudget};
 ghost use Rattle.machine.specs.Turns.{is_runnable};
 ghost use Rattle.session_spec.specs.Inputs.{inputs_of};
 ghost use Rattle.session_spec.specs.Opening.{bad_pick};
@@ -14,17 +15,19 @@ ghost use Rattle.session_laws.specs.Told.{AreBarred};
 ghost use Rattle.session.specs.Bins.{AreParts, AreWholeParts};
 ghost use Rattle.session.specs.Given.{AreGiven};
 ghost use Rattle.session.specs.Parts.{parts_of};
-ghost use Rattle.session.specs.Sessions.{begun, IsStartFault, state_of};
+ghost use Rattle.session.specs.Sessions.{begun, IsStartFault, session_at, state_of};
 ghost use Rattle.w3_search.specs.History.{IsHistory};
 
 use crate::admitting::admit_from;
 use crate::desk::Desk;
 use crate::fault::StartFault;
 use crate::inputs::Inputs;
+use crate::known_costs::KnownCosts;
 use crate::later::later;
 use crate::parts::desk_parts;
 use crate::room::put_quantum;
 use crate::starting::opened;
+use instrumented::InstrumentedMachine;
 use mdl_check::{Checked, CheckedWish};
 use pn_types::{
     HartNo, Image, MAX_HARTS, MAX_QUANTA, MAX_QUANTUM, MAX_WORKERS, NoMemory, Point, Proc, Quantum,
@@ -43,21 +46,27 @@ pub struct Session {
     wishes: Vec<CheckedWish>,
     looked: usize,
     desk: Desk,
+    costs: KnownCosts,
     quanta: Vec<Quantum>,
     closed: bool,
     alloc: Global,
 }
 
 impl Model for Session {
+    ghost use Rattle.std.specs.Coded.{codes};
     ghost use Rattle.std.specs.Prelude.{◌≤◌, drop, vec_len};
+    ghost use Rattle.machine.specs.Codes.{core_code};
+    ghost use Rattle.session.specs.KnownCosts.{AreKnown};
     ghost use Rattle.session.specs.Kept.{IsKept};
     ghost use Rattle.session.specs.Sessions.{SessionData};
 
     ghost Value = { SessionData };
 
-    ghost view = { λ s. record { inputs = s.inputs; quanta = s.quanta.items; closed = s.closed } };
+    ghost coded = { Prim.hlevel (codes, core_code) };
 
-    ghost invariant = { λ s. IsKept (record { inputs = s.inputs; quanta = s.quanta.items; closed = s.closed }) (drop s.looked s.wishes.items) s.desk × (s.looked ≤ vec_len s.wishes) };
+    ghost view = { λ s. record { inputs = s.inputs; machine = s.desk.machine.state; quanta = s.quanta.items; closed = s.closed } };
+
+    ghost invariant = { λ s. IsKept s.inputs s.quanta.items s.closed (drop s.looked s.wishes.items) s.desk × (s.looked ≤ vec_len s.wishes) × AreKnown s.inputs s.costs };
 }
 
 // By a call of its own: what drops it need not prove the drops of all its parts.
@@ -68,6 +77,7 @@ impl Drop for Session {
             wishes: _,
             looked: _,
             desk: _,
+            costs: _,
             quanta: _,
             closed: _,
             alloc: _,
@@ -112,17 +122,26 @@ impl Session {
         ensures picked { IfOk result (λ session. bad_pick inputs ≡ None) }
         ensures refused { IfErr result (IsStartFault inputs) }
     {
-        let desk = opened(alloc, &inputs)?;
+        let mut costs = KnownCosts::new(alloc);
+        let desk = opened(alloc, &inputs, &mut costs)?;
         let wishes = later(alloc, inputs.checked.wishes.as_slice())?;
         Ok(Session {
             inputs,
             wishes,
             looked: 0,
             desk,
+            costs,
             quanta: Vec::new(alloc),
             closed: false,
             alloc,
         })
+    }
+
+    /// The machine with its instruments, to look at.
+    pub fn machine(&self) -> &InstrumentedMachine
+        ensures { result.now.state ≡ self.now.machine }
+    {
+        &self.desk.machine
     }
 
     /// The quanta that it took.
@@ -174,8 +193,9 @@ impl Session {
         desk_parts(self.alloc, &self.inputs, &self.desk)
     }
 
-    /// What holds of it: each of its quanta was allowed when it came; and its machine came about by events of which each could happen,
-    /// is the unpatched program's behind a legal run of it, and so has its memory, output, ticks and stops. What was recorded for an
+    /// What holds of it: each of its quanta was allowed when it came; its machine is the one that the definitions say; and that came
+    /// about by events of which each could happen, is the unpatched program's behind a legal run of it, and so has its memory, output,
+    /// ticks and stops. What was recorded for an
     /// instrument, and what its part of a report shows, follows from its arming on, and is what its plan measures on that run; so is
     /// what was told of it; and each sample is a difference of readings. Where all wishes are for the opening, and none drops a pair,
     /// that is so of the whole run. The search's nodes are a history; each verdict is that of the program's own run, by the samples of
@@ -183,6 +203,7 @@ impl Session {
     /// why not; and what is under test costs no more than the limit, at each moment.
     pub fn laws(&self)
         ensures allowed { AreAllowed self.now.inputs self.now.quanta }
+        ensures machine { self.now.machine ≡ (state_of self.now).kept.machine }
         ensures run { IsRun self.now.inputs (state_of self.now) }
         ensures bins { AreRecorded self.now.inputs (state_of self.now) }
         ensures parts { AreParts self.now.inputs (state_of self.now) }
@@ -200,11 +221,12 @@ impl Session {
         let _nodes = self.desk.search.nodes();
     }
 
-    /// Whether a quantum of the hart can follow: it is runnable, and there are fewer quanta than there may be. The hart is one of
-    /// the settings'.
+    /// Whether the hart is runnable, and there are fewer quanta than there may be: then, and only then, a quantum of it can follow,
+    /// unless the session was closed. The hart is one of the settings'.
     #[inline(always)]
     pub fn runnable(&self, hart: u32) -> bool
         requires { hart < self.now.inputs.settings.harts }
+        ensures exact { result ≡ (nat_lt (length self.now.quanta) MAX_QUANTA && is_runnable (state_of self.now).kept.machine.core hart) }
         ensures open { IsTrue result → is_runnable (state_of self.now).kept.machine.core hart ≡ true }
         ensures few { IsTrue result → length self.now.quanta < MAX_QUANTA }
         ensures halted { self.now.closed ≡ false → result ≡ false → Halted self.now.inputs self.now.quanta hart }
@@ -247,6 +269,9 @@ impl Session {
         ensures inputs { self.new.inputs ≡ self.old.inputs }
         ensures closed { self.new.closed ≡ false }
         ensures taken { IfOk result (λ answer. IfSome answer (λ q. self.new.quanta ≡ self.old.quanta ++ q ∷ [])) }
+        ensures machine { self.new.machine ≡ (state_of self.new).kept.machine }
+        // No hart has more ticks than the budget.
+        ensures budget { KeepsBudget self.new.machine.core }
         ensures asked { IfOk result (λ answer. IfSome answer (λ q. q ≡ quantum_of self.old.inputs worker hart turns (state_of self.old).kept)) }
         ensures halted { IfOk result (λ answer. IfNone answer (Halted self.old.inputs self.old.quanta hart)) }
         ensures none { IfOk result (λ answer. IfNone answer (self.new ≡ self.old)) }
@@ -264,6 +289,7 @@ impl Session {
             &self.wishes,
             self.looked,
             &mut self.desk,
+            &mut self.costs,
         )?;
         // From here on nothing fails.
         self.looked += looked;
@@ -282,7 +308,7 @@ impl Session {
     /// all that is armed is sampled once more. No quantum follows.
     pub fn close(&mut self)
         requires { self.old.closed ≡ false }
-        ensures { self.new ≡ record self.old { closed = true } }
+        ensures { self.new ≡ session_at self.old.inputs self.old.quanta true }
     {
         self.desk.end();
         self.closed = true;

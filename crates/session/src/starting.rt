@@ -1,16 +1,18 @@
 //! How a session begins.
 
-ghost use Rattle.std.specs.Prelude.{◌≡◌, IfErr, IfOk, None, OnOk};
+ghost use Rattle.std.specs.Prelude.{◌≡◌, IfErr, IfOk, None, OnOk, [], false};
 ghost use Rattle.std.specs.Option.{option_map};
 ghost use Rattle.session_spec.specs.Inputs.{later_wishes};
 ghost use Rattle.session_spec.specs.Opening.{bad_pick, first_refused};
+ghost use Rattle.session.specs.KnownCosts.{AreKnown};
 ghost use Rattle.session.specs.Given.{AreGiven};
 ghost use Rattle.session.specs.Kept.{IsAdmitted, IsKept};
-ghost use Rattle.session.specs.Sessions.{begun, IsStartFault};
+ghost use Rattle.session.specs.Sessions.{IsStartFault};
 
 use crate::desk::Desk;
 use crate::fault::StartFault;
 use crate::inputs::Inputs;
+use crate::known_costs::KnownCosts;
 use crate::later::first;
 use crate::parts::refused_part;
 use pn_types::NoMemory;
@@ -22,14 +24,16 @@ use std::alloc::Global;
 /// # Errors
 ///
 /// `NoMemory` where memory is wanting.
-fn admitted(alloc: Global, inputs: &Inputs) -> Result<Desk, NoMemory>
-    requires { AreGiven inputs.now }
+fn admitted(alloc: Global, inputs: &Inputs, costs: &mut KnownCosts) -> Result<Desk, NoMemory>
+    requires given { AreGiven inputs.now }
+    requires known { AreKnown inputs.now costs.old }
+    ensures known { AreKnown inputs.now costs.new }
     ensures admitted { IfOk result (IsAdmitted inputs.now) }
     ensures picked { IfOk result (λ desk. first_refused desk.refused ≡ bad_pick inputs.now) }
 {
     let wishes = first(alloc, inputs.checked.wishes.as_slice())?;
     let mut desk = Desk::new(alloc, inputs)?;
-    desk.admit(alloc, inputs, &wishes)?;
+    desk.admit(alloc, inputs, &wishes, costs)?;
     Ok(desk)
 }
 
@@ -64,13 +68,19 @@ fn pick(alloc: Global, inputs: &Inputs, refused: &[RefusedWish]) -> Result<(), S
 /// # Errors
 ///
 /// `NoMemory` where memory is wanting; `BadPick` with the first wish of the opening that is refused, if one is.
-pub(crate) fn opened(alloc: Global, inputs: &Inputs) -> Result<Desk, StartFault>
-    requires { AreGiven inputs.now }
-    ensures kept { IfOk result (IsKept (begun inputs.now) (later_wishes inputs.now)) }
+pub(crate) fn opened(
+    alloc: Global,
+    inputs: &Inputs,
+    costs: &mut KnownCosts,
+) -> Result<Desk, StartFault>
+    requires given { AreGiven inputs.now }
+    requires known { AreKnown inputs.now costs.old }
+    ensures known { AreKnown inputs.now costs.new }
+    ensures kept { IfOk result (IsKept inputs.now [] false (later_wishes inputs.now)) }
     ensures picked { IfOk result (λ desk. bad_pick inputs.now ≡ None) }
     ensures refused { IfErr result (IsStartFault inputs.now) }
 {
-    let mut desk = admitted(alloc, inputs)?;
+    let mut desk = admitted(alloc, inputs, costs)?;
     pick(alloc, inputs, &desk.refused)?;
     desk.open();
     Ok(desk)

@@ -5,7 +5,7 @@ ghost use Rattle.std.specs.List.{AllByRecursion};
 ghost use Rattle.machine.specs.Events.{IsQuiet};
 ghost use Rattle.machine.specs.Replays.{owns};
 ghost use Rattle.machine.specs.States.{quantum_turns};
-ghost use Rattle.session_kits.specs.Kits.{HasHarts};
+ghost use Rattle.session_kits.specs.Kits.{AreLive, HasHarts};
 ghost use Rattle.session.specs.Tables.{CanSample, table_closed, table_opened, table_tended, table_worked};
 
 use crate::desk::Desk;
@@ -25,6 +25,7 @@ impl Desk {
         ensures harts { length self.new.machine.state.core.harts ≡ length self.old.machine.state.core.harts }
         ensures later { self.new.time < self.old.time + 2 ^ 32 }
         ensures soon { self.new.last < self.new.due }
+        ensures live { AreLive self.new.machine.state.placer self.new.kits self.new.live }
     {
         self.settle();
         self.sample();
@@ -50,6 +51,7 @@ impl Desk {
         ensures later { self.new.time < self.old.time + 2 ^ 33 }
         ensures idle { self.new.idle ≤ self.old.idle + most }
         ensures soon { self.new.last < self.new.due }
+        ensures live { AreLive self.new.machine.state.placer self.new.kits self.new.live }
     {
         let owns = self.turn(hart, most);
         self.hand_out();
@@ -68,6 +70,7 @@ impl Desk {
         ensures quiet { IsQuiet self.new.machine.state.core }
         ensures harts { length self.new.machine.state.core.harts ≡ length self.old.machine.state.core.harts }
         ensures later { self.new.time < self.old.time + 2 ^ 32 }
+        ensures live { AreLive self.new.machine.state.placer self.new.kits self.new.live }
     {
         self.settle();
         if self.last < self.time {
@@ -82,6 +85,8 @@ impl Desk {
         requires quiet { IsQuiet self.old.machine.state.core }
         requires places { self.old.places ≡ length self.old.machine.state.core.harts }
         requires harts { AllByRecursion (HasHarts (length self.old.machine.state.core.harts)) self.old.kits }
+        requires live { AreLive self.old.machine.state.placer self.old.kits self.old.live }
+        ensures live { AreLive self.new.machine.state.placer self.new.kits self.new.live }
         ensures table { self.new ≡ table_opened self.old }
         ensures harts { length self.new.machine.state.core.harts ≡ length self.old.machine.state.core.harts }
     {

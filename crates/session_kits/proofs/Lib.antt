@@ -2,5 +2,11 @@ pub mod Repeated
 pub mod Arms
 pub mod Ticks
 pub mod Sampled
+pub mod GoneTests
+pub mod Places
 pub mod Walks
 pub mod Dropped
+pub mod Live
+pub mod Sums
+pub mod Armings
+pub mod Seeking

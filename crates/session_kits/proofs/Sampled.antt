@@ -1,6 +1,7 @@
 -- The samples of pairs, one by one and together.
 use Rattle.std.proofs.Common.{◌≡◌, ℕ, Bool, true, false, cond, Option, Some, None, List, [], ◌∷◌, refl, sym, ap, ap₂, ◌∙◌}
 use Rattle.std.specs.Prelude.{◌&&◌, is_none}
+use Rattle.std.specs.Option.{option_map}
 use Rattle.std.proofs.lemmas.Bool.{cond-true, cond-false}
 use Rattle.fold_hist.specs.declared.bin.Bin.{Bin}
 use Rattle.fold_hist.specs.Bins.{Histogram}
@@ -13,12 +14,19 @@ use Rattle.session_spec.specs.Due.{is_armed}
 use Rattle.session_kits.specs.declared.kit.Kit.{Kit}
 use Rattle.session_kits.specs.Kits.{kit_bin, kit_latest, kit_reading, kit_sampled, kit_test, kit_test_by, kit_ticks, latest_by, test_by}
 
+-- a histogram, if there is one, with one sample more
+abbrev pub recorded : Bin → Option Histogram → Option Histogram
+recorded bin hist = option_map (λ (h : Histogram). pushed h bin) hist
+
 module _ (m : Instrumented) (time : ℕ) (k : Kit) where
+  abbrev pub one_bin : Bin
+  one_bin = record { from = k.shown.from; to = time; sum = difference k.last (kit_reading m k) }
+
   abbrev pub armed_kit : Kit
   armed_kit = record k {
     shown = record k.shown { from = time };
     last = kit_reading m k;
-    hist = pushed k.hist (record { from = k.shown.from; to = time; sum = difference k.last (kit_reading m k) });
+    hist = recorded one_bin k.hist;
   }
 
   pub kit_off : is_armed m.placer k.shown ≡ false → kit_sampled m time k ≡ k
@@ -28,9 +36,6 @@ module _ (m : Instrumented) (time : ℕ) (k : Kit) where
   pub kit_on : is_armed m.placer k.shown ≡ true → kit_sampled m time k ≡ armed_kit
   unfolding kit_sampled
   kit_on e = cond-true (is_armed m.placer k.shown) armed_kit k e
-
-  abbrev pub one_bin : Bin
-  one_bin = record { from = k.shown.from; to = time; sum = difference k.last (kit_reading m k) }
 
   abbrev some_bin : ℕ → Option Bin
   some_bin sum = Some (record { from = k.shown.from; to = time; sum = sum })
@@ -42,12 +47,12 @@ module _ (m : Instrumented) (time : ℕ) (k : Kit) where
   bin_on e = cond-true (is_armed m.placer k.shown) (Some one_bin) None e
 
   -- what the code makes of it
-  pub sampled_now : (reading sum : ℕ) (hist : Histogram) → is_armed m.placer k.shown ≡ true → reading ≡ kit_reading m k → sum ≡ difference k.last reading
-      → hist ≡ pushed k.hist (record { from = k.shown.from; to = time; sum = sum }) → record k { shown = record k.shown { from = time }; last = reading; hist = hist } ≡ kit_sampled m time k
+  pub sampled_now : (reading sum : ℕ) (hist : Option Histogram) → is_armed m.placer k.shown ≡ true → reading ≡ kit_reading m k → sum ≡ difference k.last reading
+      → hist ≡ recorded (record { from = k.shown.from; to = time; sum = sum }) k.hist → record k { shown = record k.shown { from = time }; last = reading; hist = hist } ≡ kit_sampled m time k
   sampled_now reading sum hist a r s h =
       let total : sum ≡ difference k.last (kit_reading m k) = s ∙ ap (difference k.last) r in
-      ap₂ (λ (x : ℕ) (y : Histogram). record k { shown = record k.shown { from = time }; last = x; hist = y }) r
-      (h ∙ ap (λ (x : ℕ). pushed k.hist (record { from = k.shown.from; to = time; sum = x })) total)
+      ap₂ (λ (x : ℕ) (y : Option Histogram). record k { shown = record k.shown { from = time }; last = x; hist = y }) r
+      (h ∙ ap (λ (x : ℕ). recorded (record { from = k.shown.from; to = time; sum = x }) k.hist) total)
       ∙ sym (kit_on a)
 
   pub bin_now : (reading sum : ℕ) → is_armed m.placer k.shown ≡ true → reading ≡ kit_reading m k → sum ≡ difference k.last reading

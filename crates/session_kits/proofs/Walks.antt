@@ -1,14 +1,15 @@
--- The list of pairs that are sampled one after another.
-use Rattle.std.proofs.Common.{◌≡◌, ℕ, ◌+◌, ◌<◌, ◌≤◌, Option, Some, None, List, [], ◌∷◌, ◌++◌, drop, take, map, get_or, set, length, sym, ap, ap₂, subst, ◌∙◌, arith, append_assoc}
+-- The list of pairs, where those at live places are sampled one after another.
+use Rattle.std.proofs.Common.{◌≡◌, ℕ, ◌+◌, ◌≤◌, Option, Some, None, List, [], ◌∷◌, ◌++◌, map, length, sym, ap, ap₂, ◌∙◌, arith, append_assoc, append-nil}
+use Rattle.std.specs.Prelude.{true}
 use Rattle.std.specs.List.{AllByRecursion}
-use Rattle.std.proofs.lemmas.List.{drop-set-lt, drop_more, take_more_set}
 use Rattle.fold_hist.specs.declared.bin.Bin.{Bin}
 use Rattle.instrumented.specs.Instrumented.{Instrumented}
 use Rattle.w3_search.specs.declared.node.NodeSample.{NodeSample}
 use Rattle.session_spec.specs.declared.data.Latest.{Latest}
 use Rattle.session_spec.specs.Due.{place_behind}
 use Rattle.session_kits.specs.declared.kit.Kit.{Kit}
-use Rattle.session_kits.specs.Kits.{kit_bin, kit_ticks, kits_latest, kits_tests, latest_by, test_by}
+use Rattle.session_kits.specs.Kits.{HasFew, HasHarts, is_gone_test, kit_bin, kit_sampled, kit_ticks, kits_latest, kits_tests, latest_by, test_by}
+use Rattle.session_kits.proofs.GoneTests.{gone_latest, gone_place, gone_sampled, gone_samples}
 use Rattle.session_kits.proofs.Sampled.{latest_is, test_is}
 
 -- a pair gives one sample at most
@@ -26,40 +27,58 @@ pub behind_within : (o : Option ℕ) (place : ℕ) → place_behind o place ≤ 
 behind_within None place = omega arith
 behind_within (Some n) place = omega arith
 
--- pair k at place i becomes another
-module _ (ks : List Kit) (i : ℕ) (k new : Kit) (within : i < length ks) (at : k ≡ get_or ks i k) where
-  rest : drop (i + 1) (set ks i new) ≡ drop (i + 1) ks
-  rest = drop-set-lt (i + 1) ks i new (omega arith)
+-- The pairs before a place were sampled, of the old ones, and those from it on weren't yet; these are the samples so far.
+pub record AreSampled (m : Instrumented) (time : ℕ) (marks : List ℕ) (old : List Kit) (ls : List Latest) (ts : List NodeSample) (latest_now : List Latest) (tests_now : List NodeSample) (wished : ℕ)
+    (front left : List Kit) : Type 0 where
+  pub done : front ++ map (kit_sampled m time) left ≡ map (kit_sampled m time) old
+  pub latest : latest_now ++ kits_latest m time wished left ≡ ls ++ kits_latest m time 0 old
+  pub tests : tests_now ++ kits_tests m marks left ≡ ts ++ kits_tests m marks old
+  pub harts : AllByRecursion (HasHarts (length m.core.harts)) left
+  pub few : AllByRecursion HasFew left
 
-  here : drop i ks ≡ k ∷ drop (i + 1) ks
-  here = drop_more ks i k within ∙ ap (λ (x : Kit). x ∷ drop (i + 1) ks) (sym at)
+module _ (m : Instrumented) (time : ℕ) (marks : List ℕ) (old : List Kit) (ls : List Latest) (ts : List NodeSample) where
+  -- a test that is gone stays what it is, and gives no sample
+  pub sampled_pass : (latest : List Latest) (tests : List NodeSample) (wished : ℕ) (front : List Kit) (k : Kit) (left : List Kit) → is_gone_test m.placer k ≡ true
+      → AreSampled m time marks old ls ts latest tests wished front (k ∷ left) → AreSampled m time marks old ls ts latest tests wished (front ++ k ∷ []) left
+  sampled_pass latest tests wished front k left g h = record {
+    done = append_assoc front (k ∷ []) (map (kit_sampled m time) left) ∙ (ap (λ (x : Kit). front ++ x ∷ map (kit_sampled m time) left) (sym (gone_sampled m k g time)) ∙ h.done);
+    latest = ap₂ (λ (xs : List Latest) (w : ℕ). latest ++ (xs ++ kits_latest m time w left)) (sym (gone_latest m k g time wished)) (sym (gone_place m.placer k g wished)) ∙ h.latest;
+    tests = ap (λ (xs : List NodeSample). tests ++ (xs ++ kits_tests m marks left)) (sym (gone_samples m k g marks)) ∙ h.tests;
+    harts = (h.harts).1;
+    few = (h.few).1;
+  }
 
-  pub all_behind : (P : Kit → Type 0) → AllByRecursion P (drop i ks) → AllByRecursion P (drop (i + 1) (set ks i new))
-  all_behind P all = subst (AllByRecursion P) (sym rest) (subst (AllByRecursion P) here all).1
+  -- a pair is sampled
+  module _ (latest : List Latest) (tests : List NodeSample) (wished : ℕ) (front : List Kit) (k : Kit) (left : List Kit) (h : AreSampled m time marks old ls ts latest tests wished front (k ∷ left))
+      (bin : Option Bin) (is_bin : bin ≡ kit_bin m time k) where
+    latest_more : (now : List Latest) (next : ℕ) → now ≡ latest ++ latest_by k.shown.node wished bin → next ≡ place_behind k.shown.node wished
+        → now ++ kits_latest m time next left ≡ ls ++ kits_latest m time 0 old
+    latest_more now next e n =
+        ap₂ (λ (xs : List Latest) (w : ℕ). xs ++ kits_latest m time w left) e n
+        ∙ (append_assoc latest (latest_by k.shown.node wished bin) (kits_latest m time (place_behind k.shown.node wished) left)
+        ∙ (ap (λ (b : Option Bin). latest ++ (latest_by k.shown.node wished b ++ kits_latest m time (place_behind k.shown.node wished) left)) is_bin
+        ∙ (ap (λ (xs : List Latest). latest ++ (xs ++ kits_latest m time (place_behind k.shown.node wished) left)) (latest_is m time k wished) ∙ h.latest)))
 
-  pub kits_step : (f : Kit → Kit) → new ≡ f k → take (i + 1) (set ks i new) ++ map f (drop (i + 1) (set ks i new)) ≡ take i ks ++ map f (drop i ks)
-  kits_step f e =
-      ap₂ (λ (xs ys : List Kit). xs ++ map f ys) (take_more_set ks i new within) rest
-      ∙ append_assoc (take i ks) (new ∷ []) (map f (drop (i + 1) ks))
-      ∙ ap (λ (x : Kit). take i ks ++ x ∷ map f (drop (i + 1) ks)) e
-      ∙ ap (λ (xs : List Kit). take i ks ++ map f xs) (sym here)
+    tests_more : (now : List NodeSample) → now ≡ tests ++ test_by k.shown.node (kit_ticks m marks k) bin → now ++ kits_tests m marks left ≡ ts ++ kits_tests m marks old
+    tests_more now e =
+        ap (λ (xs : List NodeSample). xs ++ kits_tests m marks left) e
+        ∙ (append_assoc tests (test_by k.shown.node (kit_ticks m marks k) bin) (kits_tests m marks left)
+        ∙ (ap (λ (b : Option Bin). tests ++ (test_by k.shown.node (kit_ticks m marks k) b ++ kits_tests m marks left)) is_bin
+        ∙ (ap (λ (xs : List NodeSample). tests ++ (xs ++ kits_tests m marks left)) (test_is m time k marks) ∙ h.tests)))
 
-  module _ (m : Instrumented) (time : ℕ) (bin : Option Bin) (is_bin : bin ≡ kit_bin m time k) where
-    pub latest_step : (place next : ℕ) (ls now : List Latest) → now ≡ ls ++ latest_by k.shown.node place bin → next ≡ place_behind k.shown.node place
-        → now ++ kits_latest m time next (drop (i + 1) (set ks i new)) ≡ ls ++ kits_latest m time place (drop i ks)
-    latest_step place next ls now e n =
-        ap₂ (λ (xs : List Latest) (p : ℕ). xs ++ kits_latest m time p (drop (i + 1) (set ks i new))) e n
-        ∙ append_assoc ls (latest_by k.shown.node place bin) (kits_latest m time (place_behind k.shown.node place) (drop (i + 1) (set ks i new)))
-        ∙ ap₂ (λ (b : Option Bin) (xs : List Kit). ls ++ (latest_by k.shown.node place b ++ kits_latest m time (place_behind k.shown.node place) xs)) is_bin rest
-        ∙ ap (λ (xs : List Latest). ls ++ (xs ++ kits_latest m time (place_behind k.shown.node place) (drop (i + 1) ks))) (latest_is m time k place)
-        ∙ ap (λ (xs : List Kit). ls ++ kits_latest m time place xs) (sym here)
+    pub sampled_more : (new : Kit) (now : List Latest) (now_tests : List NodeSample) (next : ℕ) → new ≡ kit_sampled m time k → now ≡ latest ++ latest_by k.shown.node wished bin
+        → now_tests ≡ tests ++ test_by k.shown.node (kit_ticks m marks k) bin → next ≡ place_behind k.shown.node wished
+        → AreSampled m time marks old ls ts now now_tests next (front ++ new ∷ []) left
+    sampled_more new now now_tests next is e t n = record {
+      done = append_assoc front (new ∷ []) (map (kit_sampled m time) left) ∙ (ap (λ (x : Kit). front ++ x ∷ map (kit_sampled m time) left) is ∙ h.done);
+      latest = latest_more now next e n;
+      tests = tests_more now_tests t;
+      harts = (h.harts).1;
+      few = (h.few).1;
+    }
 
-    pub tests_step : (marks : List ℕ) (ticks : ℕ) (ls now : List NodeSample) → now ≡ ls ++ test_by k.shown.node ticks bin → ticks ≡ kit_ticks m marks k
-        → now ++ kits_tests m marks (drop (i + 1) (set ks i new)) ≡ ls ++ kits_tests m marks (drop i ks)
-    tests_step marks ticks ls now e t =
-        ap (λ (xs : List NodeSample). xs ++ kits_tests m marks (drop (i + 1) (set ks i new))) e
-        ∙ append_assoc ls (test_by k.shown.node ticks bin) (kits_tests m marks (drop (i + 1) (set ks i new)))
-        ∙ ap₂ (λ (b : Option Bin) (xs : List Kit). ls ++ (test_by k.shown.node ticks b ++ kits_tests m marks xs)) is_bin rest
-        ∙ ap (λ (n : ℕ). ls ++ (test_by k.shown.node n (kit_bin m time k) ++ kits_tests m marks (drop (i + 1) ks))) t
-        ∙ ap (λ (xs : List NodeSample). ls ++ (xs ++ kits_tests m marks (drop (i + 1) ks))) (test_is m time k marks)
-        ∙ ap (λ (xs : List Kit). ls ++ kits_tests m marks xs) (sym here)
+-- all were
+pub all_sampled : {m : Instrumented} {time : ℕ} {marks : List ℕ} {old : List Kit} {ls : List Latest} {ts : List NodeSample} {latest : List Latest} {tests : List NodeSample} {wished : ℕ}
+    {now : List Kit} → AreSampled m time marks old ls ts latest tests wished now []
+    → (now ≡ map (kit_sampled m time) old) × (latest ≡ ls ++ kits_latest m time 0 old) × (tests ≡ ts ++ kits_tests m marks old)
+all_sampled {latest} {tests} {now} h = (sym (append-nil now) ∙ h.done, sym (append-nil latest) ∙ h.latest, sym (append-nil tests) ∙ h.tests)

@@ -1,10 +1,11 @@
 -- For proofs alone: what the code of a session does with each pair that is shown or tested.
-use Rattle.std.specs.Prelude.{ℕ, ◌+◌, ◌<◌, ◌≤◌, ◌^◌, ◌&&◌, if◌then◌else◌, Option, Some, None, is_none, List, [], ◌∷◌, ◌++◌}
+use Rattle.std.specs.Prelude.{◌≡◌, ℕ, ◌+◌, ◌<◌, ◌≤◌, ◌^◌, ◌&&◌, ◌⊎◌, if◌then◌else◌, Bool, true, false, not, Option, Some, None, IfSome, is_none, is_some, List, [], ◌∷◌, ◌++◌, filter, map, slice_get}
+use Rattle.std.specs.Option.{option_map, option_map_or}
 use Rattle.std.specs.List.{range_with_len}
 use Rattle.fold_hist.specs.declared.bin.Bin.{Bin}
 use Rattle.fold_hist.specs.Steps.{pushed}
 use Rattle.instrumented.specs.Instrumented.{Instrumented, done}
-use Rattle.instrument.specs.Placements.{instrument_at}
+use Rattle.instrument.specs.Placements.{Placements, instrument_at, state_of}
 use Rattle.instrument.specs.Scenes.{Drops}
 use Rattle.machine.specs.Measures.{difference}
 use Rattle.w3_search.specs.declared.node.NodeSample.{NodeSample}
@@ -12,7 +13,9 @@ use Rattle.session_spec.specs.declared.data.Latest.{Latest}
 use Rattle.session_spec.specs.declared.data.Shown.{Shown}
 use Rattle.session_spec.specs.Due.{is_armed, is_ready, machine_armed, place_behind}
 use Rattle.session_spec.specs.Readings.{reading_by, ticks_between, ticks_of}
+use Rattle.session_spec.specs.Tests.{is_gone}
 use Rattle.session_spec.specs.Verdicts.{tester_of}
+use Rattle.session_laws.specs.Rosters.{AreBelow, IsRoster}
 use Rattle.session_kits.specs.declared.kit.Kit.{Kit}
 
 -- what its instrument reads
@@ -27,7 +30,7 @@ kit_sampled m time k =
     then record k {
       shown = record k.shown { from = time };
       last = kit_reading m k;
-      hist = pushed k.hist (record { from = k.shown.from; to = time; sum = difference k.last (kit_reading m k) });
+      hist = option_map (λ hist. pushed hist (record { from = k.shown.from; to = time; sum = difference k.last (kit_reading m k) })) k.hist;
     }
     else k
 
@@ -77,9 +80,9 @@ test_by None ticks bin = []
 abbrev pub HasHarts : ℕ → Kit → Type 0
 HasHarts harts k = k.first + k.count ≤ harts
 
--- it can have one sample more
+-- its histogram, if it has one, can take one sample more
 abbrev pub HasFew : Kit → Type 0
-HasFew k = k.hist.count < 2 ^ 32
+HasFew k = IfSome k.hist (λ hist. hist.count < 2 ^ 32)
 
 -- ---- armings
 
@@ -108,3 +111,27 @@ dropped_by (Some s) m = done (Drops s.instrument.n) m
 abbrev pub dropped_tests : List ℕ → List Shown → Instrumented → Instrumented
 dropped_tests [] ss m = m
 dropped_tests (n ∷ ns) ss m = dropped_tests ns ss (dropped_by (tester_of m.placer n ss) m)
+
+-- ---- those that may still be sampled
+
+-- a test whose instrument is gone
+abbrev pub is_gone_test : Placements → Kit → Bool
+is_gone_test p k = is_some k.shown.node && is_gone (state_of p k.shown.instrument.n)
+
+-- From place n on, these places, which ascend, are those of all pairs but of some tests that are gone.
+abbrev pub AreLiveFrom : ℕ → Placements → List Kit → List ℕ → Type 0
+AreLiveFrom n p [] [] = Unit {0}
+AreLiveFrom n p [] (at ∷ live) = ⊥
+AreLiveFrom n p (k ∷ ks) [] = (is_gone_test p k ≡ true) × AreLiveFrom (n + 1) p ks []
+AreLiveFrom n p (k ∷ ks) (at ∷ live) =
+    ((at ≡ n) × AreLiveFrom (n + 1) p ks live) ⊎ ((n < at) × (is_gone_test p k ≡ true) × AreLiveFrom (n + 1) p ks (at ∷ live))
+
+-- These places are those of all pairs but of some tests that are gone; and gone is what stays so.
+pub record AreLive (p : Placements) (kits : List Kit) (live : List ℕ) : Type 0 where
+  pub roster : IsRoster p
+  pub below : AreBelow p.count (map (λ (k : Kit). k.shown) kits)
+  pub places : AreLiveFrom 0 p kits live
+
+-- those of these places that are no test's which is gone
+abbrev pub live_of : Placements → List Kit → List ℕ → List ℕ
+live_of p kits live = filter (λ at. not (option_map_or (is_gone_test p) (slice_get kits at) false)) live

@@ -5,9 +5,10 @@ ghost use Rattle.std.specs.Option.{option_map};
 ghost use Rattle.instrument.specs.Placements.{is_leaving, state_of};
 ghost use Rattle.w3_search.specs.Nodes.{is_same_number};
 ghost use Rattle.session_spec.specs.Verdicts.{tester_of, tests};
-ghost use Rattle.session_kits.specs.Kits.{dropped_by, dropped_tests};
+ghost use Rattle.session_kits.specs.Kits.{AreLive, AreLiveFrom, dropped_by, dropped_tests};
 
 use crate::kit::Kit;
+use crate::kits::Kits;
 use instrument::{InstrumentNo, State};
 use instrumented::InstrumentedMachine;
 
@@ -36,16 +37,23 @@ fn tests(machine: &InstrumentedMachine, kit: &Kit, node: u32) -> bool
 }
 
 /// The instrument that tests a node.
-fn find_tester(machine: &InstrumentedMachine, kits: &[Kit], node: u32) -> Option<InstrumentNo>
-    ensures { result ≡ option_map (λ k. k.shown.instrument) (find (λ k. tests machine.now.state.placer node k.shown) kits.now) }
+fn find_tester(machine: &InstrumentedMachine, kits: &Kits, node: u32) -> Option<InstrumentNo>
+    requires { AreLiveFrom 0 machine.now.state.placer kits.now.all.items kits.now.live.items }
+    ensures { result ≡ option_map (λ k. k.shown.instrument) (find (λ k. tests machine.now.state.placer node k.shown) kits.now.all.items) }
 {
-    let kit = kits.iter().find(|kit| tests(machine, kit, node))?;
-    Some(kit.shown.instrument)
+    for place in &kits.live {
+        let kit = &kits.all[*place];
+        if tests(machine, kit, node) {
+            return Some(kit.shown.instrument);
+        }
+    }
+    None
 }
 
 /// Drops the instrument that tests a node, if there is one.
-fn drop_test(machine: &mut InstrumentedMachine, kits: &[Kit], node: u32)
-    ensures machine { machine.new ≡ record machine.old { state = dropped_by (tester_of machine.old.state.placer node (map (λ k. k.shown) kits.now)) machine.old.state } }
+fn drop_test(machine: &mut InstrumentedMachine, kits: &Kits, node: u32)
+    requires live { AreLiveFrom 0 machine.old.state.placer kits.now.all.items kits.now.live.items }
+    ensures machine { machine.new ≡ record machine.old { state = dropped_by (tester_of machine.old.state.placer node (map (λ k. k.shown) kits.now.all.items)) machine.old.state } }
     ensures core { machine.new.state.core ≡ machine.old.state.core }
 {
     if let Some(number) = find_tester(machine, kits, node) {
@@ -54,8 +62,9 @@ fn drop_test(machine: &mut InstrumentedMachine, kits: &[Kit], node: u32)
 }
 
 /// Drops the instruments that test these nodes, one after another. It takes no memory.
-pub fn drop_tests(machine: &mut InstrumentedMachine, kits: &[Kit], nodes: &[u32])
-    ensures machine { machine.new ≡ record machine.old { state = dropped_tests nodes.now (map (λ k. k.shown) kits.now) machine.old.state } }
+pub fn drop_tests(machine: &mut InstrumentedMachine, kits: &Kits, nodes: &[u32])
+    requires live { AreLive machine.old.state.placer kits.now.all.items kits.now.live.items }
+    ensures machine { machine.new ≡ record machine.old { state = dropped_tests nodes.now (map (λ k. k.shown) kits.now.all.items) machine.old.state } }
     ensures core { machine.new.state.core ≡ machine.old.state.core }
 {
     for node in nodes {

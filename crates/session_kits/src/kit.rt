@@ -14,6 +14,6 @@ pub struct Kit {
     pub count: u32,
     /// The sum of what was read of the harts last, modulo 2^64.
     pub last: u64,
-    /// The samples.
-    pub hist: Hist,
+    /// The samples of what was wished. None where a node is tested: its search keeps what it needs of them.
+    pub hist: Option<Hist>,
 }

@@ -6,6 +6,7 @@ mod agenda;
 mod arming;
 mod dropping;
 mod kit;
+mod kits;
 mod marking;
 mod sampling;
 
@@ -13,5 +14,6 @@ pub use agenda::{hand_out, sweep};
 pub use arming::arm_kits;
 pub use dropping::drop_tests;
 pub use kit::Kit;
+pub use kits::Kits;
 pub use marking::mark_ticks;
 pub use sampling::sample_kits;

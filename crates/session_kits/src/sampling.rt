@@ -1,7 +1,9 @@
 //! The samples of what is shown or tested.
 
-ghost use Rattle.std.specs.Prelude.{◌≡◌, ◌<◌, ◌≤◌, ◌+◌, ◌^◌, ◌++◌, length, map, vec_len, vec_capacity};
+ghost use Rattle.std.specs.Prelude.{◌≡◌, ◌<◌, ◌≤◌, ◌+◌, ◌^◌, ◌++◌, IfSome, length, map, vec_len, vec_capacity};
 ghost use Rattle.std.specs.List.{AllByRecursion, range_with_len};
+ghost use Rattle.std.specs.Option.{option_map};
+ghost use Rattle.fold_hist.specs.Steps.{pushed};
 ghost use Rattle.pn_types.specs.declared.limits.TheConstants.{MAX_HARTS};
 ghost use Rattle.machine.specs.Events.{IsQuiet};
 ghost use Rattle.machine.specs.Measures.{difference};
@@ -9,11 +11,12 @@ ghost use Rattle.instrument.specs.Placements.{state_of};
 ghost use Rattle.instrument.specs.declared.number.State.TheVariants.{Gone};
 ghost use Rattle.session_spec.specs.Due.{is_armed, place_behind};
 ghost use Rattle.session_spec.specs.Readings.{ticks_between, ticks_of};
-ghost use Rattle.session_kits.specs.Kits.{HasFew, HasHarts, kit_bin, kit_reading, kit_sampled, kits_latest, kits_tests, latest_by, test_by};
+ghost use Rattle.session_kits.specs.Kits.{AreLiveFrom, HasFew, HasHarts, kit_bin, kit_reading, kit_sampled, kits_latest, kits_tests, latest_by, test_by};
 
 use crate::kit::Kit;
+use crate::kits::Kits;
 use crate::marking::ticks_since;
-use fold_hist::Bin;
+use fold_hist::{Bin, Hist};
 use instrument::State;
 use instrumented::InstrumentedMachine;
 use machine::Sample;
@@ -46,6 +49,16 @@ pub fn is_armed(machine: &InstrumentedMachine, kit: &Kit) -> bool
     matches!(machine.state(kit.shown.instrument), State::Armed)
 }
 
+/// Puts a sample behind the others of a histogram, if there is one.
+fn record_bin(hist: &mut Option<Hist>, bin: Bin)
+    requires { IfSome hist.old (λ hist. hist.count < 2 ^ 32) }
+    ensures { hist.new ≡ option_map (λ hist. pushed hist bin) hist.old }
+{
+    if let Some(hist) = hist {
+        hist.push(bin.sum, bin.from, bin.to);
+    }
+}
+
 /// Samples a pair, if it is armed.
 fn sample_kit(
     machine: &InstrumentedMachine,
@@ -56,7 +69,7 @@ fn sample_kit(
     requires quiet { IsQuiet machine.now.state.core }
     requires places { length sample.old.readings ≡ length machine.now.state.core.harts }
     requires harts { kit.old.first + kit.old.count ≤ length machine.now.state.core.harts }
-    requires few { kit.old.hist.count < 2 ^ 32 }
+    requires few { HasFew kit.old }
     ensures kit { kit.new ≡ kit_sampled machine.now.state time kit.old }
     ensures bin { result ≡ kit_bin machine.now.state time kit.old }
     ensures places { length sample.new.readings ≡ length sample.old.readings }
@@ -70,7 +83,7 @@ fn sample_kit(
         to: time,
         sum: added(kit.last, reading),
     };
-    kit.hist.push(bin.sum, bin.from, bin.to);
+    record_bin(&mut kit.hist, bin);
     kit.shown.from = time;
     kit.last = reading;
     Some(bin)
@@ -139,33 +152,36 @@ pub fn sample_kits(
     machine: &InstrumentedMachine,
     time: u64,
     marks: &[u64],
-    kits: &mut Vec<Kit>,
+    kits: &mut Kits,
     latest: &mut Vec<Latest>,
     tests: &mut Vec<NodeSample>,
     sample: &mut Sample,
 )
     requires quiet { IsQuiet machine.now.state.core }
+    requires live { AreLiveFrom 0 machine.now.state.placer kits.old.all.items kits.old.live.items }
     requires marks { length marks.now ≡ length machine.now.state.core.harts }
     requires small { AllByRecursion (λ x. x.ticks < 2 ^ 58) machine.now.state.core.harts }
     requires most { length machine.now.state.core.harts ≤ MAX_HARTS }
     requires places { length sample.old.readings ≡ length machine.now.state.core.harts }
-    requires harts { AllByRecursion (HasHarts (length machine.now.state.core.harts)) kits.old.items }
-    requires few { AllByRecursion HasFew kits.old.items }
-    requires number { vec_len kits.old < 2 ^ 32 }
-    requires room { vec_len latest.old + vec_len kits.old ≤ vec_capacity latest.old }
-    requires test_room { vec_len tests.old + vec_len kits.old ≤ vec_capacity tests.old }
-    ensures kits { kits.new.items ≡ map (kit_sampled machine.now.state time) kits.old.items }
-    ensures latest { latest.new.items ≡ latest.old.items ++ kits_latest machine.now.state time 0 kits.old.items }
-    ensures tests { tests.new.items ≡ tests.old.items ++ kits_tests machine.now.state marks.now kits.old.items }
+    requires harts { AllByRecursion (HasHarts (length machine.now.state.core.harts)) kits.old.all.items }
+    requires few { AllByRecursion HasFew kits.old.all.items }
+    requires number { vec_len kits.old.all < 2 ^ 32 }
+    requires room { vec_len latest.old + vec_len kits.old.all ≤ vec_capacity latest.old }
+    requires test_room { vec_len tests.old + vec_len kits.old.all ≤ vec_capacity tests.old }
+    ensures kits { kits.new.all.items ≡ map (kit_sampled machine.now.state time) kits.old.all.items }
+    ensures live { kits.new.live ≡ kits.old.live }
+    ensures latest { latest.new.items ≡ latest.old.items ++ kits_latest machine.now.state time 0 kits.old.all.items }
+    ensures tests { tests.new.items ≡ tests.old.items ++ kits_tests machine.now.state marks.now kits.old.all.items }
     ensures places { length sample.new.readings ≡ length sample.old.readings }
-    ensures many { vec_len kits.new ≡ vec_len kits.old }
-    ensures capacity { vec_capacity kits.new ≡ vec_capacity kits.old }
+    ensures many { vec_len kits.new.all ≡ vec_len kits.old.all }
+    ensures capacity { vec_capacity kits.new.all ≡ vec_capacity kits.old.all }
     ensures no_less { vec_capacity latest.old ≤ vec_capacity latest.new }
     ensures tests_no_less { vec_capacity tests.old ≤ vec_capacity tests.new }
 {
     let mut wished: u32 = 0;
-    for place in 0..kits.len() {
-        let kit = &mut kits[place];
+    for turn in 0..kits.live.len() {
+        let place = kits.live[turn];
+        let kit = &mut kits.all[place];
         let node = kit.shown.node;
         let first = kit.first;
         let count = kit.count;

@@ -10,7 +10,8 @@ use Rattle.instrument.specs.Scenes.{Act, Happens, Admits, Arms, Drops, Hands, Sw
 use Rattle.instrument.specs.declared.entry.Entry.{Entry}
 use Rattle.instrument.specs.declared.number.State.TheVariants.{Placing}
 use Rattle.instrumented.specs.Instrumented.{Instrumented, done, repeated, scene_of, taken}
-use Rattle.session_laws.proofs.Standing.{IsArming, IsRoster, Since, arming, listed_at, since_call, since_none, since_on}
+use Rattle.session_laws.specs.Rosters.{IsRoster}
+use Rattle.session_laws.proofs.Standing.{IsArming, Since, arming, listed_at, since_call, since_none, since_on}
 
 -- the act arms no instrument
 abbrev pub IsNoArming : Act → Type 0

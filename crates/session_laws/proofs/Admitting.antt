@@ -26,12 +26,14 @@ use Rattle.session_spec.specs.Opening.{with_all}
 use Rattle.session_spec.specs.Tests.{barred, in_force, is_full, must_wait, taken_at_once, tested, with_cost, with_node, with_nodes, with_plan_of, with_test, with_tests, with_waiting}
 use Rattle.session_spec.specs.Bars.{IsBarredBy}
 
--- the same but for what isn't told of the machine, the instruments, the search and the time
+-- the same but for what isn't told of the machine, the instruments, the search, the time, the last samples and the next due work
 pub record IsBeside (k j : Kept) : Type 0 where
   pub machine : j.machine ≡ k.machine
   pub shown : j.shown ≡ k.shown
   pub search : j.search ≡ k.search
   pub time : j.time ≡ k.time
+  pub last : j.last ≡ k.last
+  pub due : j.due ≡ k.due
 
 -- what each single step of a wish keeps
 pub record KeepsWish (i : Inputs) (P : Kept → Type 0) : Type 0 where
@@ -71,7 +73,7 @@ module _ (i : Inputs) (P : Kept → Type 0) (keep : KeepsWish i P) where
 
   refused_kept : (cause : Option PickCause) (w : CheckedWish) (k : Kept) → P k → P (with_refused cause w k)
   refused_kept None w k p = p
-  refused_kept (Some cause) w k p = keep.beside k (with_refused (Some cause) w k) (record { machine = refl; shown = refl; search = refl; time = refl }) p
+  refused_kept (Some cause) w k p = keep.beside k (with_refused (Some cause) w k) (record { machine = refl; shown = refl; search = refl; time = refl; last = refl; due = refl }) p
 
   answer_kept : (plan : Plan) (w : CheckedWish) (k : Kept) (a : Result Placements Refused) → planned i w.metric w.focus ≡ Ok plan → admission k.machine.placer plan None ≡ a → P k → P (with_answer a w plan k)
   answer_kept plan w k (Err refused) is e p = refused_kept (cause_of_refusal refused) w k p
@@ -102,7 +104,7 @@ module _ (i : Inputs) (P : Kept → Type 0) (keep : KeepsWish i P) where
   wishes_kept (w ∷ ws) k p =
       let j : Kept = record k { wishes = ws } in
       cond_both (nat_le w.at k.time) (with_wishes i ws (with_wish i w j)) k P
-      (λ _. wishes_kept ws (with_wish i w j) (wish_kept w j (keep.beside k j (record { machine = refl; shown = refl; search = refl; time = refl }) p))) (λ _. p)
+      (λ _. wishes_kept ws (with_wish i w j) (wish_kept w j (keep.beside k j (record { machine = refl; shown = refl; search = refl; time = refl; last = refl; due = refl }) p))) (λ _. p)
 
   -- those of the opening
   pub all_kept : (ws : List CheckedWish) (k : Kept) → P k → P (with_all i ws k)
@@ -160,7 +162,7 @@ module _ (i : Inputs) (P : Kept → Type 0) (keep : Keeps i P) where
   admission_kept k p =
       let j = with_tests i (with_wishes i k.wishes k) in
       cond_both k.worked (record j { worked = false }) k P
-      (λ _. keep.beside j (record j { worked = false }) (record { machine = refl; shown = refl; search = refl; time = refl })
+      (λ _. keep.beside j (record j { worked = false }) (record { machine = refl; shown = refl; search = refl; time = refl; last = refl; due = refl })
       (tests_kept i P (of_nodes i P keep) (with_wishes i k.wishes k) (wishes_kept i P (of_wishes i P keep) k.wishes k p))) (λ _. p)
 
 -- no node is taken where the observed cost is above its limit

@@ -9,7 +9,8 @@ use Rattle.instrument.specs.declared.number.State.TheVariants.{Placing, Armed, L
 use Rattle.instrumented.specs.Instrumented.{Instrumented, done, is_linked}
 use Rattle.session_spec.specs.declared.data.Shown.{Shown}
 use Rattle.session_spec.specs.Due.{is_placing, is_ready}
-use Rattle.session_laws.proofs.Standing.{IsArming, IsRoster}
+use Rattle.session_laws.specs.Rosters.{IsRoster}
+use Rattle.session_laws.proofs.Standing.{IsArming}
 use Rattle.session_laws.proofs.Acting.{arms_placer}
 
 placing_is : (s : Stage) → is_placing s ≡ true → s ≡ Placing

@@ -13,19 +13,18 @@ use Rattle.w3_search.specs.declared.node.Node.{Node}
 use Rattle.session_spec.specs.declared.data.Shown.{Shown}
 use Rattle.session_spec.specs.Inputs.{Inputs, harts_of}
 use Rattle.session_spec.specs.Due.{all_armed, arm_all, armed_at, is_ready, machine_armed}
-use Rattle.session_spec.specs.Told.{IsVerdict}
-use Rattle.session_laws.proofs.Standing.{IsRoster, Since}
+use Rattle.session_laws.specs.Rosters.{AreBelow, IsRoster}
+use Rattle.session_laws.proofs.Standing.{Since}
 use Rattle.session_laws.proofs.Arming.{ready_arms, ready_placing}
 use Rattle.session_laws.proofs.Measuring.{measure_more, measure_none, ticks_more, ticks_none}
-use Rattle.session_laws.proofs.Likes.{AreBelow}
 use Rattle.session_laws.proofs.Grown.{Grows}
 use Rattle.session_laws.proofs.Sampling.{test_moved}
-use Rattle.session_laws.proofs.Seen.{AreApart, AreTests, IsNode, IsTest, NotBy, OneTest, tags}
+use Rattle.session_laws.proofs.Seen.{AreApart, AreTests, IsNode, IsRuled, IsTest, NotBy, OneTest, tags}
 
 -- ---- time goes on
 
 module _ (i : Inputs) (owns more : List ℕ) where
-  verdict_longer : (n : Node) → IsVerdict i owns n → IsVerdict i (owns ++ more) n
+  verdict_longer : (n : Node) → IsRuled i owns n → IsRuled i (owns ++ more) n
   verdict_longer n v =
       let past : n.to ≤ length owns = v.past in
       let ordered : n.from ≤ n.to = v.ordered in

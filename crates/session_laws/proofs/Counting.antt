@@ -15,11 +15,12 @@ use Rattle.session_spec.specs.Searches.{rules_of}
 use Rattle.session_spec.specs.States.{Kept}
 use Rattle.session_spec.specs.Admission.{admitted, shown_next}
 use Rattle.session_spec.specs.Tests.{counts, in_force, is_gone, must_wait, tested, tests_next, words_by, words_of}
+use Rattle.session_laws.specs.Rosters.{AreBelow, IsRoster}
 use Rattle.session_laws.specs.Costs.{IsWithin}
-use Rattle.session_laws.proofs.Standing.{IsRoster, Since}
+use Rattle.session_laws.proofs.Standing.{Since}
 use Rattle.session_laws.proofs.Acting.{admitted_placer, done_since}
 use Rattle.session_laws.proofs.Admitting.{Keeps}
-use Rattle.session_laws.proofs.Likes.{AreBelow, AreLike, below_like, below_more, below_push, force_like, like_itself}
+use Rattle.session_laws.proofs.Likes.{AreLike, below_like, below_more, below_push, force_like, like_itself}
 
 pub record IsCounted (i : Inputs) (k : Kept) : Type 0 where
   pub roster : IsRoster k.machine.placer

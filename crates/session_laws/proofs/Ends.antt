@@ -10,9 +10,8 @@ use Rattle.w3_search.specs.declared.node.NodeState.TheVariants.{Waiting, Active,
 use Rattle.w3_search.specs.Nodes.{finished, is_open, new_node, unfinished}
 use Rattle.session_spec.specs.Inputs.{Inputs}
 use Rattle.session_spec.specs.Searches.{rules_of}
-use Rattle.session_spec.specs.Told.{IsVerdict}
 use Rattle.session_laws.proofs.Grown.{Each, get_map}
-use Rattle.session_laws.proofs.Seen.{IsNode, is_judged}
+use Rattle.session_laws.proofs.Seen.{IsNode, IsRuled, is_judged}
 
 -- It has no verdict: it is barred, or its phase or the search ended before its window did.
 abbrev pub IsUnjudged : Inputs → Node → Type 0
@@ -58,17 +57,17 @@ module _ (i : Inputs) (owns : List ℕ) where
   open_end : (n : Node) → IsNode i owns n → is_open n.state ≡ true → IsUnjudged i (finished n)
   open_end n o e = inr (cond-true (is_open n.state) (Unfinished n.seen) n.state e, o.few e)
 
-  closed_is : (n : Node) → IsNode i owns n → (s : NodeState) → n.state ≡ s → IsVerdict i owns (finished n) ⊎ IsUnjudged i (finished n)
+  closed_is : (n : Node) → IsNode i owns n → (s : NodeState) → n.state ≡ s → IsRuled i owns (finished n) ⊎ IsUnjudged i (finished n)
   closed_is n o Waiting e = inr (open_end n o (ap is_open e))
   closed_is n o Active e = inr (open_end n o (ap is_open e))
-  closed_is n o Confirmed e = inl (subst (IsVerdict i owns) (sym (same_end n (ap is_open e))) (o.judged (ap is_judged e)))
-  closed_is n o Rejected e = inl (subst (IsVerdict i owns) (sym (same_end n (ap is_open e))) (o.judged (ap is_judged e)))
+  closed_is n o Confirmed e = inl (subst (IsRuled i owns) (sym (same_end n (ap is_open e))) (o.judged (ap is_judged e)))
+  closed_is n o Rejected e = inl (subst (IsRuled i owns) (sym (same_end n (ap is_open e))) (o.judged (ap is_judged e)))
   closed_is n o (Barred cause) e = inr (inl (cause, ap (λ (z : Node). z.state) (same_end n (ap is_open e)) ∙ e))
   closed_is n o (Unfinished k) e =
       let u = o.unfinished k e in
       inr (inr (ap (λ (z : Node). z.state) (same_end n (ap is_open e)) ∙ (e ∙ ap (λ (j : ℕ). Unfinished j) u.0), u.1))
 
-  pub told_ends : (ns : List Node) → Each (IsNode i owns) ns → Each (λ n. IsVerdict i owns n ⊎ IsUnjudged i n) (map finished ns)
+  pub told_ends : (ns : List Node) → Each (IsNode i owns) ns → Each (λ n. IsRuled i owns n ⊎ IsUnjudged i n) (map finished ns)
   told_ends ns all k m e =
       let b = get_map finished ns k m e in
-      subst (λ n. IsVerdict i owns n ⊎ IsUnjudged i n) b.2 (closed_is b.0 (all k b.0 b.1) b.0.state refl)
+      subst (λ n. IsRuled i owns n ⊎ IsUnjudged i n) b.2 (closed_is b.0 (all k b.0 b.1) b.0.state refl)

@@ -18,9 +18,9 @@ use Rattle.session_spec.specs.States.{Kept}
 use Rattle.session_spec.specs.Due.{all_armed, arm_all, sampled_to, with_arms, with_frees}
 use Rattle.session_spec.specs.Due as due
 use Rattle.session_spec.specs.Verdicts.{node_samples, with_verdicts, without_tests}
-use Rattle.session_laws.proofs.Standing.{IsRoster}
+use Rattle.session_laws.specs.Rosters.{AreBelow, IsRoster}
 use Rattle.session_laws.proofs.Acting.{repeated_since}
-use Rattle.session_laws.proofs.Likes.{AreBelow, AreLike, below_like, below_more, like_armed, like_on, like_sampled}
+use Rattle.session_laws.proofs.Likes.{AreLike, below_like, below_more, like_armed, like_on, like_sampled}
 use Rattle.session_laws.proofs.Grown.{Each, Steps, number_in, steps_families, steps_on, steps_phases}
 use Rattle.session_laws.proofs.Running.{IsEnded}
 use Rattle.session_laws.proofs.Sampling.{Ran, run}

@@ -26,15 +26,18 @@ use Rattle.session_spec.specs.Opening.{opened, wished, with_agenda}
 use Rattle.session_spec.specs.Tests.{with_tests}
 use Rattle.session_spec.specs.Verdicts.{tester_of, with_search_end, with_verdicts, without_tester, without_tests}
 use Rattle.session_spec.specs.Work.{closed, first_state, is_due, state_admitted, state_armed, state_done, state_ended, state_handed, state_judged, state_last, state_next, state_quiet, state_sampled, state_turned, state_worked, tend, tests_now, work, work_from}
-use Rattle.session_laws.proofs.Standing.{IsRoster, Since, since_none, since_on}
+use Rattle.session_laws.specs.Rosters.{AreBelow, IsRoster}
+use Rattle.session_laws.proofs.Standing.{Since, since_none, since_on}
 use Rattle.session_laws.proofs.Acting.{admitted_placer, done_since, repeated_since, taken_placer}
 use Rattle.session_laws.proofs.Leaving.{since_tester, tests_alone}
-use Rattle.session_laws.proofs.Likes.{AreBelow, below_like, below_more, below_push, like_armed, like_sampled}
+use Rattle.session_laws.proofs.Likes.{below_like, below_more, below_push, like_armed, like_sampled}
 use Rattle.session_laws.proofs.Seen.{AreApart, tags}
 use Rattle.session_laws.proofs.Tagged.{apart_push, tags_like}
 use Rattle.session_laws.specs.Bins.{AreRecorded}
 use Rattle.session_laws.specs.Told.{BinsTold}
 use Rattle.session_laws.proofs.Admitting.{IsBeside, Keeps, admission_kept, all_kept, of_nodes, of_wishes, tests_kept}
+use Rattle.session_laws.proofs.Measured.{NoneEmptyIn}
+use Rattle.session_laws.proofs.Passing.{none_closed, none_worked}
 use Rattle.session_laws.proofs.Pairs.{ArePairs, arms_are, many_armed, many_room, many_sampled, new_pair, pairs_armed, pairs_longer, pairs_push, pairs_room, pairs_sampled, pairs_since, pairs_tell}
 
 -- What is so of a session whose run has these harts, and for whose instruments this was recorded.
@@ -337,11 +340,11 @@ module _ (i : Inputs) where
       cond_both (nat_lt q.kept.last q.kept.time) (state_last i q) q (λ (x : State). Tells i (state_ended x))
       (λ _. tells_ended (state_last i q) (tells_last q quiet)) (λ _. tells_ended q quiet)
 
-  pub recorded_told : (s : State) → Tells i s → AreRecorded i s
-  recorded_told s z = record { many = z.many; each = λ n x r e f. pairs_tell i s.owns s.kept.machine.placer s.kept.shown s.recorded z.kept.pairs n x r e f }
+  pub recorded_told : (s : State) → NoneEmptyIn s.recorded → Tells i s → AreRecorded i s
+  recorded_told s none z = record { many = z.many; each = λ n x r e f. pairs_tell i s.owns s.kept.machine.placer s.kept.shown s.recorded none z.kept.pairs n x r e f }
 
 pub bins_told : BinsTold
 bins_told = record {
-  works = λ i quanta. recorded_told i (work i quanta) (tells_work i quanta);
-  closes = λ i quanta. recorded_told i (closed i (work i quanta)) (tells_closed i (work i quanta) (tells_work i quanta));
+  works = λ i quanta wide. recorded_told i (work i quanta) (none_worked i wide quanta) (tells_work i quanta);
+  closes = λ i quanta wide. recorded_told i (closed i (work i quanta)) (none_closed i wide quanta) (tells_closed i (work i quanta) (tells_work i quanta));
 }

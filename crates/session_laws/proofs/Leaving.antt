@@ -15,9 +15,10 @@ use Rattle.session_spec.specs.declared.data.Shown.{Shown}
 use Rattle.session_spec.specs.Inputs.{Inputs}
 use Rattle.session_spec.specs.States.{Kept}
 use Rattle.session_spec.specs.Verdicts.{tester_of, tests, without_tester, without_tests}
-use Rattle.session_laws.proofs.Standing.{IsRoster, Since, dropped_leaves, since_none, since_on}
+use Rattle.session_laws.specs.Rosters.{AreBelow, IsRoster}
+use Rattle.session_laws.proofs.Standing.{Since, dropped_leaves, since_none, since_on}
 use Rattle.session_laws.proofs.Acting.{done_since, dropped_placer}
-use Rattle.session_laws.proofs.Likes.{AreBelow, below_more}
+use Rattle.session_laws.proofs.Likes.{below_more}
 use Rattle.session_laws.proofs.Tagged.{same_tester}
 use Rattle.session_laws.proofs.Seen.{AreAlone, AreTests, IsTest, OneTest, no_node, tags}
 

@@ -22,6 +22,7 @@ pub mod Telling
 pub mod Tied
 pub mod Measured
 pub mod Pairs
+pub mod Passing
 pub mod Keeping
 pub mod Tried
 pub mod Testers

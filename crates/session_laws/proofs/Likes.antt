@@ -7,6 +7,7 @@ use Rattle.session_spec.specs.declared.data.Shown.{Shown}
 use Rattle.session_spec.specs.Inputs.{Inputs}
 use Rattle.session_spec.specs.Tests.{counts, in_force, words_of}
 use Rattle.session_spec.specs.Due.{all_armed, is_armed, is_ready, machine_armed, sampled_to}
+use Rattle.session_laws.specs.Rosters.{AreBelow}
 
 abbrev pub IsLike : Shown → Shown → Type 0
 IsLike s t = t ≡ record s { armed = t.armed; from = t.from }
@@ -46,10 +47,6 @@ like_armed time m (s ∷ ss) = (by (is_ready m s), like_armed time (machine_arme
     by false = refl
 
 -- ---- numbers that were given
-
-abbrev pub AreBelow : ℕ → List Shown → Type 0
-AreBelow count [] = Unit {0}
-AreBelow count (s ∷ ss) = (s.instrument.n < count) × AreBelow count ss
 
 pub below_more : (m n : ℕ) (ss : List Shown) → m ≤ n → AreBelow m ss → AreBelow n ss
 below_more m n [] l b = tt

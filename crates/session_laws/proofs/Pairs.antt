@@ -17,14 +17,14 @@ use Rattle.session_spec.specs.declared.data.Shown.{Shown}
 use Rattle.session_spec.specs.Inputs.{Inputs, harts_of, planned}
 use Rattle.session_spec.specs.Due.{all_armed, arm_all, armed_at, is_armed, is_ready, machine_armed, measure_at, measure_by, measured, recorded_with, sample_of, sampled_to}
 use Rattle.session_spec.specs.Work.{with_room}
-use Rattle.session_laws.proofs.Standing.{IsRoster, Since}
+use Rattle.session_laws.specs.Rosters.{AreBelow, IsRoster}
+use Rattle.session_laws.proofs.Standing.{Since}
 use Rattle.session_laws.proofs.Arming.{ready_arms, ready_placing}
-use Rattle.session_laws.proofs.Likes.{AreBelow}
 use Rattle.session_laws.proofs.Seen.{AreApart, AreTests, NotBy, tags}
 use Rattle.session_laws.proofs.Carrying.{AllArmed, all_arm}
 use Rattle.session_laws.proofs.Sampling.{armed_is}
-use Rattle.session_laws.specs.Bins.{AreMeasured, IsRecorded}
-use Rattle.session_laws.proofs.Measured.{all_longer, all_push, bins_measured, ordered_all}
+use Rattle.session_laws.specs.Bins.{IsRecorded}
+use Rattle.session_laws.proofs.Measured.{AreSpans, NoneEmpty, NoneEmptyIn, all_longer, all_measured, all_push, bins_measured, ordered_all}
 
 -- ---- one instrument
 
@@ -35,7 +35,7 @@ pub record IsPair (i : Inputs) (owns : List ℕ) (stage : Stage) (x : Shown) (r 
   pub placing : stage ≡ Placing → x.armed ≡ None
   pub running : stage ≡ Armed → (a : ℕ) × (x.armed ≡ Some a)
   pub never : x.armed ≡ None → r ≡ []
-  pub samples : (a : ℕ) → x.armed ≡ Some a → AreMeasured i owns plan x.focus a a r x.from
+  pub samples : (a : ℕ) → x.armed ≡ Some a → AreSpans i owns plan x.focus a a r x.from
   pub past : (a : ℕ) → x.armed ≡ Some a → x.from ≤ length owns
 
 -- of those behind the last that was recorded, nothing was
@@ -217,7 +217,7 @@ module _ (i : Inputs) (owns : List ℕ) where
           placing = λ z. absurd (let w : Placing ≡ Armed = sym z ∙ f in cc);
           running = λ _. (time, refl);
           never = λ z. absurd (no_number time (sym z));
-          samples = λ a z. subst (λ (l : List Bin). AreMeasured i owns o.plan x.focus a a l time) (sym none) (sym (some_number time a z));
+          samples = λ a z. subst (λ (l : List Bin). AreSpans i owns o.plan x.focus a a l time) (sym none) (sym (some_number time a z));
           past = λ a z. omega (arith, timed);
         }
 
@@ -281,21 +281,21 @@ module _ (i : Inputs) (owns : List ℕ) where
 
   -- ---- what is told of each
 
-  recorded_pair : (q : Stage) (x : Shown) (r : List Bin) → IsPair i owns q x r → IsRecorded i owns x r
-  recorded_pair q x r o = record {
+  recorded_pair : (q : Stage) (x : Shown) (r : List Bin) → NoneEmpty r → IsPair i owns q x r → IsRecorded i owns x r
+  recorded_pair q x r none o = record {
     plan = o.plan;
     planned = o.planned;
     never = o.never;
-    samples = o.samples;
-    bins = λ a e. bins_measured i o.plan x.focus a owns i.settings.bins a r x.from (o.samples a e);
+    samples = λ a e. all_measured i o.plan x.focus a owns a r x.from none (o.samples a e);
+    bins = λ a e. bins_measured i o.plan x.focus a owns i.settings.bins a r x.from none (o.samples a e);
   }
 
-  pub pairs_tell : (p : Placements) (xs : List Shown) (rs : List (List Bin)) → ArePairs i owns p xs rs → (n : ℕ) (x : Shown) (r : List Bin) → slice_get xs n ≡ Some x → slice_get rs n ≡ Some r
+  pub pairs_tell : (p : Placements) (xs : List Shown) (rs : List (List Bin)) → NoneEmptyIn rs → ArePairs i owns p xs rs → (n : ℕ) (x : Shown) (r : List Bin) → slice_get xs n ≡ Some x → slice_get rs n ≡ Some r
       → IsRecorded i owns x r
-  pairs_tell p [] rs h n x r e f = absurd cc
-  pairs_tell p (y ∷ xs) [] h n x r e f = absurd cc
-  pairs_tell p (y ∷ xs) (s ∷ rs) h zero x r e f =
+  pairs_tell p [] rs none h n x r e f = absurd cc
+  pairs_tell p (y ∷ xs) [] none h n x r e f = absurd cc
+  pairs_tell p (y ∷ xs) (s ∷ rs) none h zero x r e f =
       let same : y ≡ x = cc in
       let alike : s ≡ r = cc in
-      subst (λ (z : Shown). IsRecorded i owns z r) same (subst (IsRecorded i owns y) alike (recorded_pair (state_of p y.instrument.n) y s h.0))
-  pairs_tell p (y ∷ xs) (s ∷ rs) h (suc n) x r e f = pairs_tell p xs rs h.1 n x r e f
+      subst (λ (z : Shown). IsRecorded i owns z r) same (subst (IsRecorded i owns y) alike (recorded_pair (state_of p y.instrument.n) y s none.0 h.0))
+  pairs_tell p (y ∷ xs) (s ∷ rs) none h (suc n) x r e f = pairs_tell p xs rs none.1 h.1 n x r e f

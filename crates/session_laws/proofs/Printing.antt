@@ -1,5 +1,5 @@
 -- Where all wishes are for the opening, and none drops a pair, each pair that was wished is armed at time 0 and sampled to the end.
-use Rattle.std.proofs.Common.{◌≡◌, ℕ, zero, suc, Bool, true, false, cond, Option, Some, None, Ok, Err, List, [], ◌∷◌, length, map, refl, sym, ap, subst, ◌∙◌, inl, inr, ◌⊎◌, ⊎_elim}
+use Rattle.std.proofs.Common.{◌≡◌, ℕ, ◌≤◌, zero, suc, Bool, true, false, cond, Option, Some, None, Ok, Err, List, [], ◌∷◌, length, map, refl, sym, ap, subst, ◌∙◌, inl, inr, ◌⊎◌, ⊎_elim}
 use Rattle.std.specs.Prelude.{filter, nat_lt, not, slice_get, ◌==◌, Result}
 use Rattle.std.proofs.lemmas.Bool.{true≢false, cond_both, cond-true, eq-eqb}
 use Rattle.fold_hist.specs.Bins.{hist_of}
@@ -36,7 +36,7 @@ use Rattle.session_spec.specs.Opening.{opened, wished, with_agenda, with_all}
 use Rattle.session_spec.specs.Plans.{ArePlansGood}
 use Rattle.session_spec.specs.Tests.{with_tests}
 use Rattle.session_spec.specs.Work.{closed, first_state, is_due, state_admitted, state_armed, state_done, state_ended, state_handed, state_judged, state_last, state_next, state_quiet, state_sampled, state_turned, state_worked, tend, tests_now, work, work_from}
-use Rattle.session_laws.proofs.Standing.{IsRoster}
+use Rattle.session_laws.specs.Rosters.{IsRoster}
 use Rattle.session_laws.proofs.Acting.{admitted_placer, taken_placer}
 use Rattle.session_laws.specs.Printed.{AreForOpening, IsWholeRun}
 use Rattle.session_laws.specs.Readings.{lasts_of}
@@ -47,6 +47,7 @@ use Rattle.session_laws.proofs.Grown.{some_same}
 use Rattle.session_laws.proofs.Keeping.{Tells, recorded_told, start_telling, tell_keeps, tells_admitted, tells_armed, tells_ended, tells_first, tells_handed, tells_judged, tells_next, tells_quiet, tells_sampled, tells_turned}
 use Rattle.session_laws.proofs.Opening.{armed_first}
 use Rattle.session_laws.proofs.Pairs.{IsPair}
+use Rattle.session_laws.proofs.Passing.{none_closed}
 use Rattle.session_laws.proofs.Staying.{AreStaying, IsStaying, admits_hold, armed_all, stay_admission, stay_agenda, stay_end, stay_entries, stay_frees, stay_next, stay_nodes, stay_push, stay_verdicts}
 use Rattle.session_laws.proofs.Reading.{closed_sound, work_sound}
 use Rattle.session_laws.proofs.Testers.{armed_behind, pair_at, row}
@@ -81,7 +82,7 @@ module _ (i : Inputs) where
   refused_stays : (o : Option PickCause) (w : CheckedWish) (k : Kept) → IsStaying i any [] [] k → IsStaying i any [] [] (with_refused o w k)
   refused_stays None w k s = s
   refused_stays (Some cause) w k s =
-      record { tell = (tell_keeps i [] []).beside k (with_refused (Some cause) w k) (record { machine = refl; shown = refl; search = refl; time = refl }) s.tell; wishes = s.wishes; stay = s.stay }
+      record { tell = (tell_keeps i [] []).beside k (with_refused (Some cause) w k) (record { machine = refl; shown = refl; search = refl; time = refl; last = refl; due = refl }) s.tell; wishes = s.wishes; stay = s.stay }
 
   new_placing : (k : Kept) (plan : Plan) (cost : Option ℕ) (placer : Placements) → IsRoster k.machine.placer → admission k.machine.placer plan cost ≡ Ok placer
       → is_leaving (state_of (done (Admits plan cost) k.machine).placer k.machine.placer.count) ≡ false
@@ -305,9 +306,9 @@ module _ (i : Inputs) where
         by Leaving o l = absurd (true≢false l)
         by Gone o l = absurd (true≢false l)
 
-    printed : (quanta : List Quantum) (n : ℕ) (x : Shown) (r : List Bin) → slice_get (closed i (work i quanta)).kept.shown n ≡ Some x → slice_get (closed i (work i quanta)).recorded n ≡ Some r → x.node ≡ None
+    printed : (quanta : List Quantum) → 1 ≤ i.settings.width → (n : ℕ) (x : Shown) (r : List Bin) → slice_get (closed i (work i quanta)).kept.shown n ≡ Some x → slice_get (closed i (work i quanta)).recorded n ≡ Some r → x.node ≡ None
         → IsWholeRun i (closed i (work i quanta)).owns x r
-    printed quanta n x r e f o =
+    printed quanta wide n x r e f o =
         let c = closed i (work i quanta) in
         let z = all_closed (work i quanta) (all_work quanta) in
         let s = closed_sound i good (work i quanta) (lasts_of i quanta) (work_sound i good quanta program) in
@@ -315,7 +316,7 @@ module _ (i : Inputs) where
         let p = c.kept.machine.placer in
         let armed = armed_then p c.owns x (row c.recorded n) (pair_at i c.owns p c.kept.shown c.recorded n x z.tells.kept.pairs e) st.0 st.1 in
         let to : x.from ≡ length c.owns = s.sound.from x (get_in c.kept.shown n x e) armed ∙ (s.last ∙ s.sound.time) in
-        let told = (recorded_told i c z.tells).each n x r e f in
+        let told = (recorded_told i c (none_closed i wide quanta) z.tells).each n x r e f in
         record {
           plan = told.plan;
           planned = told.planned;
@@ -326,4 +327,4 @@ module _ (i : Inputs) where
         }
 
 pub printed_told : PrintedTold
-printed_told i quanta program good first n x r e f o = printed i program good first quanta n x r e f o
+printed_told i quanta wide program good first n x r e f o = printed i program good first quanta wide n x r e f o

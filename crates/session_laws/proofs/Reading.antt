@@ -22,7 +22,7 @@ use Rattle.session_spec.proofs.Begins.{opens}
 use Rattle.session_spec.proofs.Samples.{recorded_is}
 use Rattle.session_spec.proofs.Sound.{admitted_sound, armed_sound, ended_sound, handed_sound, is_quiet, judged_sound, next_sound, quiet_sound, sampled_sound, turned_sound}
 use Rattle.std.specs.Prelude.{nat_lt}
-use Rattle.session_spec.proofs.Tending.{is_run}
+use Rattle.session_spec.proofs.Runs.{is_run}
 use Rattle.session_laws.specs.Readings.{AreRead, handed_on, lasts_done, lasts_first, lasts_from, lasts_handed, lasts_of, lasts_tended}
 use Rattle.session_laws.specs.Told.{RunsTold, SamplesRead}
 

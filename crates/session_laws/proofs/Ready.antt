@@ -34,7 +34,7 @@ use Rattle.session_spec.specs.declared.data.Shown.{Shown}
 use Rattle.session_spec.specs.Inputs.{Inputs}
 use Rattle.session_spec.specs.Due.{arm_all, is_placing, is_ready, machine_armed}
 use Rattle.session_spec.proofs.Armings.{IsLed, armed_quiet, led, led_reached}
-use Rattle.session_laws.proofs.Standing.{IsRoster}
+use Rattle.session_laws.specs.Rosters.{IsRoster}
 use Rattle.session_laws.proofs.Arming.{ready_arms, ready_placing}
 use Rattle.session_laws.proofs.Seen.{AreApart, tags}
 use Rattle.session_laws.proofs.Pairs.{arms_are}

@@ -23,11 +23,10 @@ use Rattle.session_spec.specs.declared.data.Shown.{Shown}
 use Rattle.session_spec.specs.Inputs.{Inputs, harts_of, planned}
 use Rattle.session_spec.specs.Searches.{metric_of, rules_of}
 use Rattle.session_spec.specs.Due.{measure_by, measured}
-use Rattle.session_spec.specs.Told.{IsVerdict}
 use Rattle.session_spec.specs.Verdicts.{node_sample, ticks_in}
 use Rattle.session_laws.proofs.Measuring.{ticks_add, ticks_few}
 use Rattle.session_laws.proofs.Grown.{Each, changed_here, changed_there, some_same}
-use Rattle.session_laws.proofs.Seen.{IsNode, IsRunning, IsTaken, IsTest, is_judged}
+use Rattle.session_laws.proofs.Seen.{IsNode, IsRuled, IsRunning, IsTaken, IsTest, is_judged}
 
 -- no node of this number is under test any more
 pub record IsEnded (ns : List Node) (n : ℕ) : Type 0 where
@@ -161,7 +160,7 @@ module _ (i : Inputs) (owns : List ℕ) (time : ℕ) (timed : time ≡ length ow
   goes_on : ended ≡ false → m.state ≡ Active
   goes_on e = cond-false ended (cond (holds m.value m.ticks (threshold_of hs y.hypothesis)) Confirmed Rejected) y.state e ∙ o.active
 
-  is_verdict : ended ≡ true → IsVerdict i owns m
+  is_verdict : ended ≡ true → IsRuled i owns m
   is_verdict e =
       let a : r.at ≤ x.from = r.ordered in
       let b : x.from ≤ time = past in

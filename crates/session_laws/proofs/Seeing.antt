@@ -40,7 +40,7 @@ unfolding metric_of
 metric_active i x = refl
 
 module _ (i : Inputs) (owns : List ℕ) where
-  pub seen_beside : (k j : Kept) → IsBeside k j → IsSeen i owns k → IsSeen i owns j
+  seen_beside : (k j : Kept) → IsBeside k j → IsSeen i owns k → IsSeen i owns j
   seen_beside k j b s =
       subst (IsSeen i owns)
       (ap (λ (m : Instrumented). record j { machine = m; shown = k.shown; search = k.search; time = k.time }) (sym b.machine)

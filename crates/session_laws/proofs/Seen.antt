@@ -1,5 +1,5 @@
 -- What is so of the nodes of a session's search, and of the instruments that test them.
-use Rattle.std.proofs.Common.{◌≡◌, ℕ, ◌<◌, ◌≤◌, Bool, true, false, Option, Some, Ok, List, [], ◌∷◌, length}
+use Rattle.std.proofs.Common.{◌≡◌, ℕ, ◌<◌, ◌≤◌, Bool, true, false, cond, Option, Some, Ok, List, [], ◌∷◌, length}
 use Rattle.std.specs.Prelude.{◌==◌, ◌⊎◌, map, slice_get}
 use Rattle.pn_types.specs.declared.plan.Plan.{Plan}
 use Rattle.rv_mem.specs.Start.{program_of}
@@ -8,6 +8,8 @@ use Rattle.machine.specs.Measures.{measure}
 use Rattle.instrument.specs.Placements.{Placements, is_leaving, state_of}
 use Rattle.instrument.specs.declared.number.State.{State as Stage}
 use Rattle.instrument.specs.declared.number.State.TheVariants.{Placing, Armed}
+use Rattle.w3_axes.specs.Refining.{threshold_of}
+use Rattle.w3_axes.specs.Testing.{holds}
 use Rattle.w3_search.specs.declared.node.Node.{Node}
 use Rattle.w3_search.specs.declared.node.NodeState.{NodeState}
 use Rattle.w3_search.specs.declared.node.NodeState.TheVariants.{Active, Confirmed, Rejected, Unfinished}
@@ -16,10 +18,9 @@ use Rattle.session_spec.specs.declared.data.Shown.{Shown}
 use Rattle.session_spec.specs.Inputs.{Inputs, harts_of, planned}
 use Rattle.session_spec.specs.Searches.{metric_of, rules_of}
 use Rattle.session_spec.specs.States.{Kept}
-use Rattle.session_spec.specs.Told.{IsVerdict}
+use Rattle.session_spec.specs.Due.{measure_at}
 use Rattle.session_spec.specs.Verdicts.{ticks_in}
-use Rattle.session_laws.proofs.Standing.{IsRoster}
-use Rattle.session_laws.proofs.Likes.{AreBelow}
+use Rattle.session_laws.specs.Rosters.{AreBelow, IsRoster}
 use Rattle.session_laws.proofs.Grown.{Each}
 
 -- ---- nodes
@@ -35,9 +36,20 @@ pub record IsBlank (n : Node) : Type 0 where
   pub value : n.value ≡ 0
   pub ticks : n.ticks ≡ 0
 
+-- It has its verdict, over a window that may be empty.
+pub record IsRuled (i : Inputs) (owns : List ℕ) (n : Node) : Type 0 where
+  pub plan : Plan
+  pub planned : planned i (metric_of i n) n.focus ≡ Ok plan
+  pub ordered : n.from ≤ n.to
+  pub past : n.to ≤ length owns
+  pub window : n.seen ≡ (rules_of i).decl.window
+  pub value : n.value ≡ measure_at i owns plan (harts_of i n.focus) n.from n.from n.to
+  pub ticks : n.ticks ≡ ticks_in owns (harts_of i n.focus) n.from n.to
+  pub verdict : n.state ≡ cond (holds n.value n.ticks (threshold_of (rules_of i).hypotheses n.hypothesis)) Confirmed Rejected
+
 -- One that was judged has its verdict. Nothing was seen of one that waits, and of one that is open, or ended so, less than its window.
 pub record IsNode (i : Inputs) (owns : List ℕ) (n : Node) : Type 0 where
-  pub judged : is_judged n.state ≡ true → IsVerdict i owns n
+  pub judged : is_judged n.state ≡ true → IsRuled i owns n
   pub blank : is_waiting n.state ≡ true → IsBlank n
   pub few : is_open n.state ≡ true → n.seen < (rules_of i).decl.window
   pub unfinished : (k : ℕ) → n.state ≡ Unfinished k → (k ≡ n.seen) × (n.seen < (rules_of i).decl.window)

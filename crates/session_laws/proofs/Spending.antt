@@ -20,7 +20,8 @@ use Rattle.session_spec.specs.Opening.{wished, with_agenda}
 use Rattle.session_spec.specs.Tests.{with_tests}
 use Rattle.session_spec.specs.Verdicts.{tester_of, with_search_end, with_verdicts, without_tester, without_tests}
 use Rattle.session_spec.specs.Work.{closed, first_state, is_due, state_admitted, state_done, state_handed, state_last, state_quiet, state_turned, state_worked, tend, tests_now, work, work_from}
-use Rattle.session_laws.proofs.Standing.{IsRoster, since_none}
+use Rattle.session_laws.specs.Rosters.{IsRoster}
+use Rattle.session_laws.proofs.Standing.{since_none}
 use Rattle.session_laws.proofs.Acting.{IsNoArming, done_since, repeated_since, taken_placer}
 use Rattle.session_laws.proofs.Arming.{ready_arms}
 use Rattle.session_laws.proofs.Admitting.{admission_kept, all_kept, of_nodes, of_wishes, tests_kept}
@@ -29,23 +30,23 @@ use Rattle.session_laws.proofs.Counting.{IsCounted, Later, counted_keeps, counte
 
 -- ---- later instruments
 
-later_none : (p : Placements) → IsRoster p → Later p p
+pub later_none : (p : Placements) → IsRoster p → Later p p
 later_none p r = later_since p p (since_none p r)
 
-later_on : (p q r : Placements) → Later p q → Later q r → Later p r
+pub later_on : (p q r : Placements) → Later p q → Later q r → Later p r
 later_on p q r a b =
     let c = a.count in
     let d = b.count in
     record { roster = b.roster; count = omega arith; gone = λ n l e. b.gone n (omega arith) (a.gone n l e) }
 
-later_ready : (b : Bool) (m : Instrumented) (s : Shown) → is_ready m s ≡ b → IsRoster m.placer → Later m.placer (machine_armed m s).placer
+pub later_ready : (b : Bool) (m : Instrumented) (s : Shown) → is_ready m s ≡ b → IsRoster m.placer → Later m.placer (machine_armed m s).placer
 later_ready true m s e r =
     let a = ready_arms m s r e in
     let c = a.count in
     subst (λ (z : Bool). Later m.placer (cond z (done (Arms s.instrument.n) m) m).placer) (sym e) (record { roster = a.roster; count = omega arith; gone = λ n l g. a.gone n g })
 later_ready false m s e r = subst (λ (z : Bool). Later m.placer (cond z (done (Arms s.instrument.n) m) m).placer) (sym e) (later_none m.placer r)
 
-later_arms : (m : Instrumented) (ss : List Shown) → IsRoster m.placer → Later m.placer (arm_all m ss).placer
+pub later_arms : (m : Instrumented) (ss : List Shown) → IsRoster m.placer → Later m.placer (arm_all m ss).placer
 later_arms m [] r = later_none m.placer r
 later_arms m (s ∷ ss) r =
     let a = later_ready (is_ready m s) m s refl r in

@@ -14,11 +14,7 @@ use Rattle.instrument.specs.declared.number.State.TheVariants.{Placing, Armed, L
 use Rattle.instrument.specs.declared.room.Room.{Room}
 use Rattle.instrument.proofs.Folds.{find_append, find_first, find_map, find_none}
 use Rattle.instrument.proofs.Numbers as numbers
-
--- no two instruments have one number, and each number is below that of all that were admitted
-pub record IsRoster (p : Placements) : Type 0 where
-  pub numbered : IsNumbered p
-  pub single : (x y : Instrument) → In x p.instruments → In y p.instruments → x.no ≡ y.no → x ≡ y
+use Rattle.session_laws.specs.Rosters.{IsRoster}
 
 -- Those that are gone stay so, and one that wasn't dropped is what it was.
 pub record Since (p q : Placements) : Type 0 where

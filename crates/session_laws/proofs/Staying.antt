@@ -26,7 +26,7 @@ use Rattle.session_spec.specs.Due.{arm_all, is_ready, machine_armed, with_frees,
 use Rattle.session_spec.specs.Opening.{with_agenda}
 use Rattle.session_spec.specs.Tests.{tests_next, with_tests}
 use Rattle.session_spec.specs.Verdicts.{tester_of, tests, with_search_end, with_verdicts, without_tester, without_tests}
-use Rattle.session_laws.proofs.Standing.{IsRoster}
+use Rattle.session_laws.specs.Rosters.{IsRoster}
 use Rattle.session_laws.proofs.Acting.{admitted_placer, dropped_placer}
 use Rattle.session_laws.proofs.Arming.{ready_arms, ready_placing}
 use Rattle.session_laws.proofs.Grown.{get_push}
@@ -173,7 +173,7 @@ module _ (i : Inputs) (Z : Shown → Type 0) where
         let w = subst (λ (j : Kept). IsStaying owns rs (with_tests i j)) (sym none) t in
         let j = with_tests i (with_wishes i k.wishes k) in
         cond_both k.worked (record j { worked = false }) k (IsStaying owns rs)
-        (λ _. record { tell = (tell_keeps i owns rs).beside j (record j { worked = false }) (record { machine = refl; shown = refl; search = refl; time = refl }) w.tell; wishes = w.wishes; stay = w.stay })
+        (λ _. record { tell = (tell_keeps i owns rs).beside j (record j { worked = false }) (record { machine = refl; shown = refl; search = refl; time = refl; last = refl; due = refl }) w.tell; wishes = w.wishes; stay = w.stay })
         (λ _. s)
 
     -- ---- a tester is dropped

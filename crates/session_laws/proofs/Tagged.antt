@@ -7,7 +7,8 @@ use Rattle.machine.proofs.Lists.{map_snoc}
 use Rattle.w3_search.specs.declared.node.Node.{Node}
 use Rattle.w3_search.specs.Nodes.{is_waiting}
 use Rattle.session_spec.specs.declared.data.Shown.{Shown}
-use Rattle.session_laws.proofs.Likes.{AreBelow, AreLike}
+use Rattle.session_laws.specs.Rosters.{AreBelow}
+use Rattle.session_laws.proofs.Likes.{AreLike}
 use Rattle.session_laws.proofs.Grown.{Grows, some_same}
 use Rattle.session_laws.proofs.Seen.{AreAlone, AreApart, AreTaken, NotBy, NotOf, Tag, tag, tags}
 

@@ -19,18 +19,18 @@ use Rattle.session_spec.specs.Turns.{handed_at_once, with_entries, with_hart, wi
 use Rattle.session_spec.specs.Due.{all_armed, arm_all, with_arms, with_frees, with_next, with_samples}
 use Rattle.session_spec.specs.Opening.{wished, with_agenda}
 use Rattle.session_spec.specs.Tests.{with_tests}
-use Rattle.session_spec.specs.Told.{IsVerdict}
 use Rattle.session_spec.specs.Verdicts.{with_search_end, with_verdicts}
 use Rattle.session_spec.specs.Work.{closed, first_state, is_due, state_admitted, state_done, state_last, state_quiet, state_turned, state_worked, tend, tests_now, work, work_from}
+use Rattle.session_laws.specs.Rosters.{AreBelow}
 use Rattle.session_laws.proofs.Standing.{Since, since_none}
 use Rattle.session_laws.proofs.Acting.{repeated_since, taken_placer}
 use Rattle.session_laws.proofs.Admitting.{admission_kept, all_kept, of_nodes, of_wishes, tests_kept}
-use Rattle.session_laws.proofs.Likes.{AreBelow, below_like, like_armed}
+use Rattle.session_laws.proofs.Likes.{below_like, like_armed}
 use Rattle.session_laws.proofs.Grown.{Each, grows_none, grows_roots}
-use Rattle.session_laws.proofs.Seen.{AreAlone, AreApart, AreTaken, IsNode, IsSeen, no_node, is_judged}
+use Rattle.session_laws.proofs.Seen.{AreAlone, AreApart, AreTaken, IsNode, IsRuled, IsSeen, is_judged, no_node}
 use Rattle.session_laws.proofs.Tagged.{tags_like}
 use Rattle.session_laws.proofs.Carrying.{all_arm, node_longer, tests_longer}
-use Rattle.session_laws.proofs.Seeing.{seen_beside, seen_keeps, seen_machine}
+use Rattle.session_laws.proofs.Seeing.{seen_keeps, seen_machine}
 use Rattle.session_laws.proofs.Ends.{IsUnjudged, new_is, told_ends, unfinished_is}
 use Rattle.session_laws.proofs.Judging.{ready_arms, ready_samples, seen_verdicts}
 use Rattle.session_laws.specs.Readings.{handed_on}
@@ -97,20 +97,22 @@ module _ (i : Inputs) where
 
   -- ---- what is told
 
-  ended_told : (owns : List ℕ) (k : Kept) → IsSeen i owns k → Each (λ n. IsVerdict i owns n ⊎ IsUnjudged i n) (with_search_end k).search.nodes
+  ended_told : (owns : List ℕ) (k : Kept) → IsSeen i owns k → Each (λ n. IsRuled i owns n ⊎ IsUnjudged i n) (with_search_end k).search.nodes
   unfolding with_search_end
   ended_told owns k s = told_ends i owns k.search.nodes s.nodes
 
   -- ---- a due work
 
+  seen_next : (owns : List ℕ) (width : ℕ) (k : Kept) → IsSeen i owns k → IsSeen i owns (with_next width k)
+  unfolding with_next
+  seen_next owns width k s =
+      record { rules = s.rules; time = s.time; roster = s.roster; below = s.below; apart = s.apart; alone = s.alone; taken = s.taken; nodes = s.nodes; tests = s.tests }
+
   module _ (some : 1 ≤ (rules_of i).decl.window) where
     pub seen_done : (s : State) → s.kept.time < 2 ^ 64 → IsSeen i s.owns s.kept → IsSeen i s.owns (state_done i s).kept
-    unfolding with_next
     seen_done s low h =
         let a = with_arms (with_frees (with_samples s.kept)) in
-        let v = with_verdicts (tests_now i s) a in
-        seen_beside i s.owns v (with_next i.settings.width v) (record { machine = refl; shown = refl; search = refl; time = refl })
-        (seen_verdicts i s.owns s.kept some low h a (ready_arms i s.owns s.kept h))
+        seen_next s.owns i.settings.width (with_verdicts (tests_now i s) a) (seen_verdicts i s.owns s.kept some low h a (ready_arms i s.owns s.kept h))
 
     pub seen_last : (s : State) → s.kept.time < 2 ^ 64 → IsSeen i s.owns s.kept → IsSeen i s.owns (state_last i s).kept
     seen_last s low h = seen_verdicts i s.owns s.kept some low h (with_samples s.kept) (ready_samples i s.owns s.kept h)
@@ -163,20 +165,20 @@ module _ (i : Inputs) where
 
     -- ---- the end
 
-    pub closed_told : (s : State) → (closed i s).kept.time < 2 ^ 64 → IsSeen i s.owns s.kept → Each (λ n. IsVerdict i (closed i s).owns n ⊎ IsUnjudged i n) (closed i s).kept.search.nodes
+    pub closed_told : (s : State) → (closed i s).kept.time < 2 ^ 64 → IsSeen i s.owns s.kept → Each (λ n. IsRuled i (closed i s).owns n ⊎ IsUnjudged i n) (closed i s).kept.search.nodes
     unfolding closed
     closed_told s low z =
         let q = state_quiet s in
         let quiet = seen_quiet s.owns s.kept z in
         let l : q.kept.time < 2 ^ 64 = omega (arith, low, time_closed i s) in
-        cond_both (nat_lt q.kept.last q.kept.time) (state_last i q) q (λ (x : State). Each (λ n. IsVerdict i x.owns n ⊎ IsUnjudged i n) (with_search_end x.kept).search.nodes)
+        cond_both (nat_lt q.kept.last q.kept.time) (state_last i q) q (λ (x : State). Each (λ n. IsRuled i x.owns n ⊎ IsUnjudged i n) (with_search_end x.kept).search.nodes)
         (λ _. ended_told q.owns (state_last i q).kept (seen_last q l quiet)) (λ _. ended_told q.owns q.kept quiet)
 
 module _ (i : Inputs) (some : 1 ≤ (rules_of i).decl.window) (quanta : List Quantum) where
   -- each node that was judged has its verdict
-  pub all_judged : (work i quanta).kept.time < 2 ^ 64 → (k : ℕ) (n : Node) → slice_get (work i quanta).kept.search.nodes k ≡ Some n → is_judged n.state ≡ true → IsVerdict i (work i quanta).owns n
+  pub all_judged : (work i quanta).kept.time < 2 ^ 64 → (k : ℕ) (n : Node) → slice_get (work i quanta).kept.search.nodes k ≡ Some n → is_judged n.state ≡ true → IsRuled i (work i quanta).owns n
   all_judged low k n e j = ((seen_work i some quanta low).nodes k n e).judged j
 
   -- behind the end each node has one, or none
-  pub all_ended : (closed i (work i quanta)).kept.time < 2 ^ 64 → Each (λ n. IsVerdict i (closed i (work i quanta)).owns n ⊎ IsUnjudged i n) (closed i (work i quanta)).kept.search.nodes
+  pub all_ended : (closed i (work i quanta)).kept.time < 2 ^ 64 → Each (λ n. IsRuled i (closed i (work i quanta)).owns n ⊎ IsUnjudged i n) (closed i (work i quanta)).kept.search.nodes
   all_ended low = closed_told i some (work i quanta) low (seen_work i some quanta (omega (arith, low, time_before i (work i quanta))))

@@ -19,7 +19,7 @@ use Rattle.session_spec.specs.Searches.{metric_of}
 use Rattle.session_spec.specs.Due.{all_armed, armed_at, is_armed, is_ready, machine_armed, recorded_with, sample_of, sampled_to}
 use Rattle.session_spec.specs.Verdicts.{node_sample, node_samples, node_samples_by}
 use Rattle.session_spec.specs.Work.{with_room}
-use Rattle.session_laws.proofs.Standing.{IsRoster}
+use Rattle.session_laws.specs.Rosters.{IsRoster}
 use Rattle.session_laws.proofs.Arming.{ready_placing}
 use Rattle.session_laws.proofs.Grown.{changed_here, changed_there, some_same}
 use Rattle.session_laws.proofs.Seen.{AreAlone, AreApart, AreTests, IsRunning, IsTest, NotBy, NotOf, OneTest, is_judged, no_node, tags}

@@ -10,10 +10,10 @@ use Rattle.session_spec.specs.declared.data.Shown.{Shown}
 use Rattle.session_spec.specs.Inputs.{Inputs}
 use Rattle.session_spec.specs.States.{Kept}
 use Rattle.session_spec.specs.Ties.{AreShown, IsTied, opening_of}
+use Rattle.session_laws.specs.Rosters.{AreBelow, IsRoster}
 use Rattle.session_laws.specs.Costs.{IsWithin}
-use Rattle.session_laws.proofs.Standing.{IsRoster, arming}
+use Rattle.session_laws.proofs.Standing.{arming}
 use Rattle.session_laws.proofs.Acting.{act_since}
-use Rattle.session_laws.proofs.Likes.{AreBelow}
 use Rattle.session_laws.proofs.Counting.{IsCounted}
 
 roster_arms : (s : Scene) (o : Option Instrument) → IsRoster s.placer → IsRoster (arms o s).scene.placer

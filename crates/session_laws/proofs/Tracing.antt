@@ -32,12 +32,12 @@ use Rattle.w3_axes.specs.Testing.{holds}
 use Rattle.session_laws.proofs.Ends.{IsUnjudged}
 use Rattle.session_laws.proofs.Grown.{changed_here, changed_there, some_same}
 use Rattle.session_laws.proofs.Leaving.{tests_alone}
-use Rattle.session_laws.proofs.Seen.{IsSeen, is_judged}
+use Rattle.session_laws.proofs.Seen.{IsRuled, IsSeen, is_judged}
 use Rattle.session_laws.proofs.Seeing.{metric_active, seen_keeps}
 use Rattle.session_laws.proofs.Telling.{all_ended, all_judged, seen_done, seen_entries, seen_first, seen_hart, seen_last, seen_quiet, seen_start}
 use Rattle.session_laws.specs.Readings.{handed_on}
 use Rattle.session_laws.proofs.Timing.{time_before, time_closed, time_done, time_from}
-use Rattle.session_spec.specs.Told.{AreJudged, IsJudged, IsTested, IsVerdict}
+use Rattle.session_spec.specs.Told.{IsTested}
 use Rattle.session_laws.proofs.Admitting.{IsBeside, Keeps, admission_kept, all_kept, of_nodes, of_wishes, tests_kept}
 use Rattle.session_laws.proofs.Keeping.{Tells, picked_telling, tell_agenda, tell_frees, tells_admitted, tells_closed, tells_done, tells_first, tells_handed, tells_last, tells_quiet, tells_sampled, tells_turned, tells_work}
 use Rattle.session_laws.proofs.Testers.{AreTraced, HasTester, row, row_at, row_past, shown_last, tester_left, traced_armed, traced_back, traced_room, traced_sampled}
@@ -354,26 +354,31 @@ module _ (i : Inputs) where
   has_verdict n (inl c) = ap is_judged c
   has_verdict n (inr c) = ap is_judged c
 
-  pub judged_told : (some : 1 ≤ (rules_of i).decl.window) (quanta : List Quantum) → (work i quanta).kept.time < 2 ^ 64 → AreJudged i (work i quanta)
+  -- it has its verdict, by the samples of its own instrument
+  abbrev pub IsTraceable : State → ℕ → Node → Type 0
+  IsTraceable s k n = IsRuled i s.owns n × IsTested i s k n
+
+  pub judged_told : (some : 1 ≤ (rules_of i).decl.window) (quanta : List Quantum) → (work i quanta).kept.time < 2 ^ 64
+      → (k : ℕ) (n : Node) → slice_get (work i quanta).kept.search.nodes k ≡ Some n → (n.state ≡ Confirmed) ⊎ (n.state ≡ Rejected) → IsTraceable (work i quanta) k n
   judged_told some quanta low k n e c =
       let z = traced_work some quanta low in
       let v = all_judged i some quanta low k n e (has_verdict n c) in
       (v, is_tested (work i quanta) z.tells.many z.traced k n e (has_verdict n c) v.window)
 
   pub ended_told : (some : 1 ≤ (rules_of i).decl.window) (quanta : List Quantum) → (closed i (work i quanta)).kept.time < 2 ^ 64
-      → (k : ℕ) (n : Node) → slice_get (closed i (work i quanta)).kept.search.nodes k ≡ Some n → IsJudged i (closed i (work i quanta)) k n ⊎ IsUnjudged i n
+      → (k : ℕ) (n : Node) → slice_get (closed i (work i quanta)).kept.search.nodes k ≡ Some n → IsTraceable (closed i (work i quanta)) k n ⊎ IsUnjudged i n
   ended_told some quanta low k n e =
       let s = work i quanta in
       let c = closed i s in
       let h = closed_traced some s low (traced_work some quanta (omega (arith, low, time_before i s))) in
       let many = (tells_closed i s (tells_work i quanta)).many in
       ⊎_elim
-      (λ (v : IsVerdict i c.owns n). inl (v, is_tested c many h k n e (verdict_judged n v) v.window))
+      (λ (v : IsRuled i c.owns n). inl (v, is_tested c many h k n e (verdict_judged n v) v.window))
       (λ (v : IsUnjudged i n). inr v) (all_ended i some quanta low k n e)
     where
       ruled : (b : Bool) → is_judged (cond b Confirmed Rejected) ≡ true
       ruled true = refl
       ruled false = refl
 
-      verdict_judged : (n : Node) → IsVerdict i (closed i (work i quanta)).owns n → is_judged n.state ≡ true
+      verdict_judged : (n : Node) → IsRuled i (closed i (work i quanta)).owns n → is_judged n.state ≡ true
       verdict_judged n v = ap is_judged v.verdict ∙ ruled (holds n.value n.ticks (threshold_of (rules_of i).hypotheses n.hypothesis))

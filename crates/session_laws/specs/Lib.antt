@@ -5,3 +5,4 @@ pub mod Opening
 pub mod Printed
 pub mod Costs
 pub mod Told
+pub mod Rosters

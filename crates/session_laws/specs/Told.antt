@@ -28,10 +28,10 @@ pub record RunsTold : Type 0 where
   pub works : (i : Inputs) (quanta : List Quantum) → IsProgram i.image → ArePlansGood i → IsRun i (work i quanta)
   pub closes : (i : Inputs) (quanta : List Quantum) → IsProgram i.image → ArePlansGood i → IsRun i (closed i (work i quanta))
 
--- What was recorded, behind each quantum and behind the end.
+-- What was recorded, behind each quantum and behind the end, where time passes between two due works.
 pub record BinsTold : Type 0 where
-  pub works : (i : Inputs) (quanta : List Quantum) → AreRecorded i (work i quanta)
-  pub closes : (i : Inputs) (quanta : List Quantum) → AreRecorded i (closed i (work i quanta))
+  pub works : (i : Inputs) (quanta : List Quantum) → 1 ≤ i.settings.width → AreRecorded i (work i quanta)
+  pub closes : (i : Inputs) (quanta : List Quantum) → 1 ≤ i.settings.width → AreRecorded i (closed i (work i quanta))
 
 -- Each sample is a difference of readings.
 abbrev pub SamplesRead : Type 0
@@ -49,15 +49,16 @@ pub record OpensAtZero : Type 0 where
   pub works : (i : Inputs) (quanta : List Quantum) (n : ℕ) (x : Shown) (a : ℕ) → slice_get (opened i).shown n ≡ Some x → x.armed ≡ Some a → HasBecome (work i quanta).kept.shown n x
   pub closes : (i : Inputs) (quanta : List Quantum) (n : ℕ) (x : Shown) (a : ℕ) → slice_get (opened i).shown n ≡ Some x → x.armed ≡ Some a → HasBecome (closed i (work i quanta)).kept.shown n x
 
--- Where all wishes are for the opening, and none drops a pair, what is recorded of each pair that was wished is of the whole run.
+-- Where all wishes are for the opening, and none drops a pair, what is recorded of each pair that was wished is of the whole run, if time
+-- passes between two due works.
 abbrev pub PrintedTold : Type 0
-PrintedTold = (i : Inputs) (quanta : List Quantum) → IsProgram i.image → ArePlansGood i → AreForOpening i → AreWholeRuns i (closed i (work i quanta))
+PrintedTold = (i : Inputs) (quanta : List Quantum) → 1 ≤ i.settings.width → IsProgram i.image → ArePlansGood i → AreForOpening i → AreWholeRuns i (closed i (work i quanta))
 
--- Where the window isn't empty, and the time is within 64 bits, each node that was judged has its verdict by the samples of an instrument
--- of its own, and behind the end each node has one or says why not.
+-- Where the window has a sample, time passes between two due works, and the time is within 64 bits, each node that was judged has its
+-- verdict by the samples of an instrument of its own, and behind the end each node has one or says why not.
 pub record VerdictsTold : Type 0 where
-  pub works : (i : Inputs) (quanta : List Quantum) → 1 ≤ (rules_of i).decl.window → (work i quanta).kept.time < 2 ^ 64 → AreJudged i (work i quanta)
-  pub closes : (i : Inputs) (quanta : List Quantum) → 1 ≤ (rules_of i).decl.window → (closed i (work i quanta)).kept.time < 2 ^ 64 → AreEnded i quanta (closed i (work i quanta))
+  pub works : (i : Inputs) (quanta : List Quantum) → 1 ≤ i.settings.width → 1 ≤ (rules_of i).decl.window → (work i quanta).kept.time < 2 ^ 64 → AreJudged i (work i quanta)
+  pub closes : (i : Inputs) (quanta : List Quantum) → 1 ≤ i.settings.width → 1 ≤ (rules_of i).decl.window → (closed i (work i quanta)).kept.time < 2 ^ 64 → AreEnded i quanta (closed i (work i quanta))
 
 -- each node that is barred was barred in the course of these quanta, by the cause that it has
 abbrev pub AreBarred : Inputs → List Quantum → State → Type 0

@@ -11,8 +11,8 @@ pub fn runs_told()
     ensures { RunsTold }
 {}
 
-/// The samples of each instrument follow one another from its arming on, and so do the bins of its histogram. Each is what its plan
-/// measures over its interval, on the program's own run.
+/// The samples of each instrument follow one another from its arming on, and so do the bins of its histogram. No interval is empty, and
+/// each is what its plan measures over it, on the program's own run.
 pub fn bins_told()
     ensures { BinsTold }
 {}
@@ -33,7 +33,7 @@ pub fn opens_at_zero()
 {}
 
 /// Where all wishes are for the opening, and none drops a pair, each pair is armed at time 0, and its bins follow one another through the
-/// whole run of the program alone. Each is what its metric's plan measures over it.
+/// whole run of the program alone. None is empty, and each is what its metric's plan measures over it.
 pub fn printed_told()
     ensures { PrintedTold }
 {}
@@ -41,8 +41,8 @@ pub fn printed_told()
 // ---- The search.
 
 /// The verdict on each node is come to by the samples of an instrument of its own: from its arming on, as many as the window has. It is
-/// that of the program's own run from the arming to the last of them. Behind the end each node has its verdict, or was barred when its
-/// turn came, or its phase or the search ended before its window did.
+/// that of the program's own run from the arming to the last of them, which comes later. Behind the end each node has its verdict, or was
+/// barred when its turn came, or its phase or the search ended before its window did.
 pub fn verdicts_told()
     ensures { VerdictsTold }
 {}

@@ -11,8 +11,8 @@ pub mod Wishing
 pub mod Testing
 pub mod Going
 pub mod Sound
-pub mod Desks
-pub mod Tending
+pub mod Measured
+pub mod Runs
 pub mod Begins
 pub mod Lists
 pub mod Within

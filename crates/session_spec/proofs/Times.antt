@@ -17,7 +17,7 @@ use Rattle.instrumented.proofs.Acts.{done_is}
 use Rattle.session_spec.specs.Inputs.{Inputs}
 use Rattle.session_spec.specs.States.{State}
 use Rattle.session_spec.specs.Reads.{IsSound}
-use Rattle.session_spec.proofs.Tending.{is_run}
+use Rattle.session_spec.proofs.Runs.{is_run}
 
 low_each : (xs : List Hart) (b : ℕ) → ticks_in xs < b → AllByRecursion (λ x. x.ticks < b) xs
 low_each [] b l = tt

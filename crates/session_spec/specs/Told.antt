@@ -19,12 +19,12 @@ use Rattle.session_spec.specs.Bars.{WasBarred}
 -- ---- a node that was judged
 
 -- The verdict on a node, on the program's own run: its value is what the plan of its metric at its focus measures from the arming to
--- the window's last sample; its ticks are those of the focus's harts in between; and it is confirmed exactly where the test on them
--- is true.
+-- the window's last sample, which comes later; its ticks are those of the focus's harts in between; and it is confirmed exactly where
+-- the test on them is true.
 pub record IsVerdict (i : Inputs) (owns : List ℕ) (n : Node) : Type 0 where
   pub plan : Plan
   pub planned : planned i (metric_of i n) n.focus ≡ Ok plan
-  pub ordered : n.from ≤ n.to
+  pub ordered : n.from < n.to
   pub past : n.to ≤ length owns
   pub window : n.seen ≡ (rules_of i).decl.window
   pub value : n.value ≡ measure_at i owns plan (harts_of i n.focus) n.from n.from n.to

@@ -17,33 +17,40 @@ use report::report;
 use session::{Session, StartFault};
 use std::alloc::Global;
 
-/// A quantum that is told. Where it finds no memory it is asked for once more: nothing had changed.
-fn take(session: &mut Session, told: &Quantum) -> Result<(), NoMemory>
+/// A quantum that is told. Where it finds no memory it is asked for once more: nothing had changed. It answers whether what was
+/// taken, if anything was, is what was told.
+fn take(session: &mut Session, told: &Quantum) -> Result<bool, NoMemory>
     requires going { session.old.closed ≡ false }
     requires quantum { IsQuantum session.old.inputs.settings.harts told.now }
     ensures going { session.new.closed ≡ false }
     ensures inputs { session.new.inputs ≡ session.old.inputs }
 {
-    let taken = session.quantum(told.worker, told.hart, told.turns);
-    if taken.is_err() {
-        let _ = session.quantum(told.worker, told.hart, told.turns)?;
-    }
-    Ok(())
+    let taken = match session.quantum(told.worker, told.hart, told.turns) {
+        Ok(taken) => taken,
+        Err(NoMemory {}) => session.quantum(told.worker, told.hart, told.turns)?,
+    };
+    Ok(match taken {
+        Some(quantum) => quantum == *told,
+        None => true,
+    })
 }
 
-/// Lets a session take the quanta. Those that no hart could take are left out.
-fn follow(session: &mut Session, quanta: &[Quantum]) -> Result<(), NoMemory>
+/// Lets a session take the quanta. Those that no hart could take are left out. It answers whether each that was taken is the one that
+/// was told.
+fn follow(session: &mut Session, quanta: &[Quantum]) -> Result<bool, NoMemory>
     requires going { session.old.closed ≡ false }
     requires quanta { AllByRecursion (IsQuantum session.old.inputs.settings.harts) quanta.now }
     ensures { session.new.closed ≡ false }
 {
+    let mut same = true;
     'quanta: for told in quanta {
-        take(session, told)?;
+        same &= take(session, told)?;
     }
-    Ok(())
+    Ok(same)
 }
 
-/// The text of the report of a session that takes the quanta and is closed: of an image, what was found of it, and settings.
+/// The text of the report of a session that takes the quanta and is closed: of an image, what was found of it, and settings. Where it
+/// takes another quantum than was told, the text is `other`.
 fn report_of(
     alloc: Global,
     image: Image,
@@ -71,7 +78,9 @@ fn report_of(
             return Err(Refusal::Fault(Fault::BadPick(metric, focus, cause)));
         }
     };
-    follow(&mut session, quanta)?;
+    if !follow(&mut session, quanta)? {
+        return Ok(b"other\n".to_vec(alloc)?);
+    }
     session.close();
     let parts = session.parts()?;
     Ok(report(alloc, &parts, skipped)?)

@@ -3,19 +3,21 @@ use crate::given::Given;
 use crate::line::Call;
 use crate::meeting::Meeting;
 use crate::served::{Served, print_report, print_sink};
+use crate::tally::Tally;
 use outside::{Gate, MemFiles, MemSink, OpenGate};
 use paradyn_top::{Texts, Words, deliver, run_program};
 use pn_types::{NoMemory, Seq};
+use quanta_log::read;
 use std::alloc::Global;
 use std::io;
 use std::sync::Wait;
 use std::thread::Threads;
 
 /// The room of each sink in bytes.
-const ROOM: u64 = 2_000_000;
+const ROOM: u64 = 20_000_000;
 
 /// More bytes than a sink has.
-const ALL: usize = 2_000_000;
+const ALL: usize = 20_000_000;
 
 /// Files and sinks in memory.
 pub struct Case {
@@ -106,6 +108,7 @@ impl Case {
             Call::Begin(rest) => self.begin(rt, threads, alloc, rest),
             Call::Keep(rest) => self.keep(rt, threads, alloc, rest),
             Call::Meet(rest) => self.meet(rt, threads, alloc, rest),
+            Call::Count(words) => self.count(rt, threads, alloc, words),
             Call::Compare(words) => self.compare(rt, threads, alloc, words),
             Call::Deliver(texts) => self.deliver(rt, alloc, texts),
             Call::Row(options) => self.follow(rt, threads, alloc, options),
@@ -218,7 +221,25 @@ impl Case {
         let served = self.served(threads, alloc, Some(line), &gate)?;
         self.keep_file(alloc, name, served.log.bytes())?;
         self.report = Vec::from_slice(alloc, served.out.bytes())?;
-        served.print_meeting(rt, gate.missed())
+        served.print_meeting(rt, gate.met())
+    }
+
+    /// Serves words at a gate that counts two workers' calls, and prints how the program ends, and whether each call was counted as the
+    /// log that it left says.
+    fn count<R: Threads + Wait + Sync>(
+        &self,
+        rt: HostRuntime,
+        threads: &R,
+        alloc: Global,
+        line: &str,
+    ) -> io::Result<()> {
+        let gate = Tally::new();
+        let served = self.served(threads, alloc, Some(line), &gate)?;
+        let counted = match read(alloc, served.log.bytes()) {
+            Ok((settings, quanta)) => gate.is_of(&quanta, settings.harts),
+            Err(_) => false,
+        };
+        served.print_counted(rt, counted)
     }
 
     /// Serves words, and prints how the program ends, and whether the output gained the same as at the last meeting.

@@ -20,6 +20,8 @@ pub enum Call<'a> {
     Keep(&'a str),
     /// A name, and words that are served where two workers meet, whose log is the file of that name from then on.
     Meet(&'a str),
+    /// Words are served where two workers' calls are counted.
+    Count(&'a str),
     /// Words are served, and their output is compared.
     Compare(&'a str),
     /// Texts are delivered.
@@ -43,6 +45,7 @@ impl<'a> Line<'a> {
             "begin" => Line::Call(Call::Begin(rest)),
             "keep" => Line::Call(Call::Keep(rest)),
             "meet" => Line::Call(Call::Meet(rest)),
+            "count" => Line::Call(Call::Count(rest)),
             "compare" => Line::Call(Call::Compare(rest)),
             "not-text" => Line::Call(Call::Serve(None)),
             "deliver" => Line::Call(Call::Deliver(rest)),

@@ -7,11 +7,14 @@
 //!   these bytes. `cut COUNT`: only so many of the bytes stay. `byte PLACE DIGITS`: the bytes from that place on are these.
 //! - `fail NUMBER`: this reading of the last file fails, counted from 0.
 //! - `piece COUNT`: a writing takes at most so many bytes. `fail-out NUMBER`, `fail-log NUMBER`: this writing fails.
-//! - `words WORDS`: the words, between single spaces, are served. `not-text`: words that aren't text are.
+//! - `words WORDS`: the words, between single spaces, are served, and of the log that is left the first 64 bytes are printed. `not-text`:
+//!   words that aren't text are served.
 //! - `begin COUNT WORDS`: these words are served, and only so many bytes of what the output gained are printed.
 //! - `keep NAME WORDS`: these words are served, and the log that they leave isn't printed, but is the file NAME from then on.
 //! - `meet NAME WORDS`: the same, and two workers meet before the second quantum of each; of what is left only the status is printed,
 //!   and whether they met. `compare WORDS`: these words are served, and it is printed whether the output gains the same as then.
+//! - `count WORDS`: these words are served by two workers, and it is printed whether each asked for a quantum as often as the log that is
+//!   left says, with the numbers from 0 on.
 //! - `deliver LOG OUTPUT`: these two texts are delivered, and what the log and the output gained is printed.
 //! - `row OPTIONS`: the program `p` under the configuration `c` is run with these options, and replayed; by the calls of a session alone
 //!   it is run along the log that `run` left. The session's report is printed, and whether the commands' are the same.
@@ -25,6 +28,7 @@ mod given;
 mod line;
 mod meeting;
 mod served;
+mod tally;
 
 use crate::case::Case;
 use crate::line::Line;

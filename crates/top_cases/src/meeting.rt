@@ -21,9 +21,12 @@ impl Meeting {
         }
     }
 
-    /// A worker gave up waiting.
-    pub fn missed(&self) -> bool {
-        self.missed.load(Ordering::SeqCst)
+    /// Both workers came, and neither gave up waiting.
+    pub fn met(&self) -> bool {
+        let [first, second] = &self.came;
+        first.load(Ordering::SeqCst)
+            && second.load(Ordering::SeqCst)
+            && !self.missed.load(Ordering::SeqCst)
     }
 }
 

@@ -4,6 +4,9 @@ use std::alloc::Global;
 use std::io;
 use std::process::ExitCode;
 
+/// How many bytes of a log are printed.
+const LOG_FRONT: usize = 64;
+
 /// How words that were served ended, and what the sinks have.
 pub struct Served {
     pub exit: ExitCode,
@@ -61,21 +64,28 @@ impl Served {
         Ok(())
     }
 
-    /// Prints what the log gained, and an empty line.
+    /// Prints the front of what the log gained, and an empty line.
     pub fn print_log(&self, rt: HostRuntime, alloc: Global) -> io::Result<()> {
         let log = self.log.bytes();
         if log.is_empty() {
             return println!(rt; "");
         }
-        let digits = encode(alloc, log)?;
+        let digits = encode(alloc, &log[..log.len().min(LOG_FRONT)])?;
         println!(rt; "log {}\n", digits.as_str())
     }
 
-    /// Prints how the program ended, and whether its two workers missed each other.
-    pub fn print_meeting(&self, rt: HostRuntime, missed: bool) -> io::Result<()> {
+    /// Prints how the program ended, and whether its two workers met.
+    pub fn print_meeting(&self, rt: HostRuntime, met: bool) -> io::Result<()> {
         let exit = self.exit;
-        let met = if missed { "missed" } else { "met" };
+        let met = if met { "met" } else { "missed" };
         println!(rt; "{exit:?} {met}\n")
+    }
+
+    /// Prints how the program ended, and whether each call was counted.
+    pub fn print_counted(&self, rt: HostRuntime, counted: bool) -> io::Result<()> {
+        let exit = self.exit;
+        let counted = if counted { "counted" } else { "miscounted" };
+        println!(rt; "{exit:?} {counted}\n")
     }
 
     /// Prints how the program ended, and whether the output gained these bytes.

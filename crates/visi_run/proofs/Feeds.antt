@@ -8,7 +8,7 @@ use Rattle.session_spec.specs.Turns.{with_entries, with_hart, with_quiet}
 use Rattle.session_spec.specs.Due.{with_arms, with_frees, with_next, with_samples}
 use Rattle.session_spec.specs.Verdicts.{with_search_end}
 use Rattle.session_spec.specs.Work.{closed, is_due, state_admitted, state_armed, state_done, state_ended, state_handed, state_judged, state_last, state_next, state_quiet, state_sampled, state_turned, tend, tests_now, work}
-use Rattle.session.specs.Sessions.{SessionData, begun, state_of}
+use Rattle.session.specs.Sessions.{SessionData, begun, session_at, state_of}
 use Rattle.whole_run.proofs.Ordered.{work_push}
 use Rattle.visi_run.specs.Feed.{feed_of}
 use Rattle.visi_run.specs.Steps.{IsStep}
@@ -143,7 +143,7 @@ quantum_step s t q a b same more =
     let now : state_of t ≡ tend s.inputs q.hart q.turns (work s.inputs s.quanta) = open_state t b ∙ ((λ k. work (same k) (more k)) ∙ work_push s.inputs s.quanta q) in
     subst (λ (x : State). IsStep x (state_of t)) (sym was) (subst (λ (x : State). IsStep (work s.inputs s.quanta) x) (sym now) (tend_step s.inputs q.hart q.turns (work s.inputs s.quanta)))
 
-pub close_step : (s t : SessionData) → s.closed ≡ false → t ≡ record s { closed = true } → IsStep (state_of s) (state_of t)
+pub close_step : (s t : SessionData) → s.closed ≡ false → t ≡ session_at s.inputs s.quanta true → IsStep (state_of s) (state_of t)
 close_step s t a is =
     subst (λ (x : State). IsStep x (state_of t)) (sym (open_state s a))
     (subst (λ (x : SessionData). IsStep (work s.inputs s.quanta) (state_of x)) (sym is) (closed_step s.inputs (work s.inputs s.quanta)))

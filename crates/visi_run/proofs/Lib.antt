@@ -1,3 +1,4 @@
 pub mod Sampling
 pub mod Feeds
 pub mod SeatLists
+pub mod Lines

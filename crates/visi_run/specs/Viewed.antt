@@ -1,7 +1,9 @@
 -- What is left of a run that was viewed.
-use Rattle.std.specs.Prelude.{◌≡◌, ℕ, List, replicate}
+use Rattle.std.specs.Prelude.{◌≡◌, ℕ, ◌<◌, List, length, replicate}
+use Rattle.machine.specs.Cores.{In}
 use Rattle.pn_types.specs.declared.quantum.Quantum.{Quantum}
 use Rattle.report.specs.declared.parts.ShownPart.{ShownPart}
+use Rattle.session_spec.specs.declared.data.Latest.{Latest}
 use Rattle.session_spec.specs.Inputs.{Inputs}
 use Rattle.session_spec.specs.Work.{closed, work}
 use Rattle.session.specs.Parts.{parts_of}
@@ -14,8 +16,10 @@ use Rattle.visi_run.specs.declared.run.ViewedCourse.{ViewedCourse}
 abbrev pub shown_of : Inputs → List Quantum → List ShownPart
 shown_of i quanta = (parts_of i (closed i (work i quanta))).shown
 
--- The text of the whole list of quanta in the order of a seed: each view was given its feed.
+-- The text of the whole list of quanta in the order of a seed: each view was given its feed, and each sample of that has its line,
+-- since the pair that it is of is shown.
 pub record IsViewed (i : Inputs) (c : ViewedCourse) (bytes : List ℕ) : Type 0 where
   pub quanta : List Quantum
   pub seeded : IsSeeded i c.seed c.turns quanta
+  pub lines : (l : Latest) → In l (feed_of i quanta) → l.shown < length (shown_of i quanta)
   pub text : bytes ≡ visi_text (shown_of i quanta) (replicate c.views (feed_of i quanta))

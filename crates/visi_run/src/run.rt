@@ -165,6 +165,7 @@ fn view_on<R: Threads + Wait + Sync>(
     ensures { IfOk result (λ text. IsViewed session.inputs course text.items) }
 {
     let (session, lists) = stream(rt, alloc, course, session, harts)?;
+    session.laws();
     let parts = session.parts()?;
     visi_text(alloc, parts.shown.as_slice(), &lists)
 }

@@ -18,7 +18,7 @@ pub struct Seat {
 // After so many takes in a row that gave nothing the view leaves the rest to the end.
 const PATIENCE: u32 = 1_000_000;
 
-/// Takes items until the run has ended and all are taken, or none comes for long.
+/// Takes items until the run has ended and none is left in the channel, or none comes for long.
 ///
 /// # Errors
 ///
@@ -27,21 +27,19 @@ pub fn follow<R: Wait>(rt: &R, dial: &Gauge, mut seat: Seat) -> Result<Seat, NoM
     requires { seat.reader.cell ≡ dial.now.cell }
     ensures { IfOk result (λ s. IsSameSeat seat s) }
 {
+    let mut ended = false;
     let mut nones = 0u32;
     'follow: for _ in rt.forever() {
         if seat.view.take(rt)?.is_some() {
             nones = 0;
             continue;
         }
-        let reading = dial.read(rt, &mut seat.reader);
-        let taken = seat.view.taken().len() as u64;
-        if reading.ended && taken == reading.published {
+        // Nothing is offered behind the end: the view is given what still waits for it when all views have left.
+        if ended || nones >= PATIENCE {
             break;
         }
+        ended = dial.read(rt, &mut seat.reader).ended;
         nones = nones.saturating_add(1);
-        if nones >= PATIENCE {
-            break;
-        }
         thread::yield_now();
     }
     Ok(seat)

@@ -1,5 +1,5 @@
 -- What is left of a run: its report and its log.
-use Rattle.std.specs.Prelude.{◌≡◌, ℕ, Bool, true, false, List, []}
+use Rattle.std.specs.Prelude.{◌≡◌, ℕ, List}
 use Rattle.pn_types.specs.declared.quantum.Quantum.{Quantum}
 use Rattle.quanta_log.specs.declared.version.Version.TheVariants.{Two}
 use Rattle.quanta_log.specs.Spelling.{spelled}
@@ -16,10 +16,9 @@ use Rattle.whole_run.specs.Seeded.{IsSeeded}
 abbrev pub report_of : Inputs → List Quantum → ℕ → List ℕ
 report_of i quanta skipped = report_text (parts_of i (closed i (work i quanta))) skipped
 
--- the bytes of its log, if one is asked for
-abbrev pub log_of : Bool → Inputs → List Quantum → List ℕ
-log_of true i quanta = spelled Two i.settings quanta
-log_of false i quanta = []
+-- the bytes of its log
+abbrev pub log_of : Inputs → List Quantum → List ℕ
+log_of i quanta = spelled Two i.settings quanta
 
 -- The parts of the report of the whole list of quanta in the order of a seed.
 pub record AreSeededParts (i : Inputs) (seed turns : ℕ) (p : ReportParts) : Type 0 where
@@ -28,12 +27,12 @@ pub record AreSeededParts (i : Inputs) (seed turns : ℕ) (p : ReportParts) : Ty
   pub parts : p ≡ parts_of i (closed i (work i quanta))
 
 -- The report and the log of these quanta.
-pub record IsRecordOf (i : Inputs) (quanta : List Quantum) (skipped : ℕ) (logged : Bool) (r : Recorded) : Type 0 where
+pub record IsRecordOf (i : Inputs) (quanta : List Quantum) (skipped : ℕ) (r : Recorded) : Type 0 where
   pub report : r.report.items ≡ report_of i quanta skipped
-  pub log : r.log.items ≡ log_of logged i quanta
+  pub log : r.log.items ≡ log_of i quanta
 
 -- Those of the whole list of quanta in the order of a seed.
 pub record IsRecorded (i : Inputs) (c : Course) (r : Recorded) : Type 0 where
   pub quanta : List Quantum
   pub seeded : IsSeeded i c.seed c.turns quanta
-  pub record_of : IsRecordOf i quanta c.skipped c.logged r
+  pub record_of : IsRecordOf i quanta c.skipped r

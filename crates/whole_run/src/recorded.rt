@@ -18,11 +18,11 @@ use std::alloc::Global;
 pub struct Recorded {
     /// The text of its report.
     pub report: Vec<u8>,
-    /// The bytes of its log, or none where none was asked for.
+    /// The bytes of its log.
     pub log: Vec<u8>,
 }
 
-/// In which order harts take quanta, and what is asked for of the run.
+/// In which order harts take quanta, and what a report says of the program beside the run.
 #[derive(Clone, Copy, PartialEq, Eq, Drop)]
 pub struct Course {
     /// The seed of the order.
@@ -31,31 +31,19 @@ pub struct Course {
     pub turns: u32,
     /// The number of the program's function symbols that are no procedures.
     pub skipped: u32,
-    /// A log is asked for.
-    pub logged: bool,
 }
 
-/// The bytes of a session's log, if one is asked for.
-fn log_of(
-    alloc: Global,
-    settings: &Settings,
-    session: &Session,
-    logged: bool,
-) -> Result<Vec<u8>, NoMemory>
+/// The bytes of a session's log.
+fn log_of(alloc: Global, settings: &Settings, session: &Session) -> Result<Vec<u8>, NoMemory>
     requires given { AreGiven session.now.inputs }
     requires settings { settings.now ≡ session.now.inputs.settings }
-    ensures { IfOk result (λ log. log.items ≡ log_of logged session.now.inputs session.now.quanta) }
+    ensures { IfOk result (λ log. log.items ≡ log_of session.now.inputs session.now.quanta) }
 {
     session.laws();
-    if logged {
-        write(alloc, settings, session.quanta())
-    } else {
-        Ok(Vec::new(alloc))
-    }
+    write(alloc, settings, session.quanta())
 }
 
-/// Ends a session, and answers the report of its quanta, in which so many function symbols are no procedures, and its log if one is
-/// asked for.
+/// Ends a session, and answers the report of its quanta, in which so many function symbols are no procedures, and its log.
 ///
 /// # Errors
 ///
@@ -65,14 +53,13 @@ pub fn record_end(
     settings: &Settings,
     session: &mut Session,
     skipped: u32,
-    logged: bool,
 ) -> Result<Recorded, NoMemory>
     requires given { AreGiven session.old.inputs }
     requires going { session.old.closed ≡ false }
     requires settings { settings.now ≡ session.old.inputs.settings }
-    ensures { IfOk result (IsRecordOf session.old.inputs session.old.quanta skipped logged) }
+    ensures { IfOk result (IsRecordOf session.old.inputs session.old.quanta skipped) }
 {
-    let log = log_of(alloc, settings, session, logged)?;
+    let log = log_of(alloc, settings, session)?;
     session.close();
     let parts = session.parts()?;
     let report = report(alloc, &parts, skipped)?;
@@ -93,7 +80,7 @@ fn run_on(
     ensures { IfOk result (IsRecorded session.old.inputs course.now) }
 {
     take_quanta(alloc, session, settings.harts, course.seed, course.turns)?;
-    record_end(alloc, settings, session, course.skipped, course.logged)
+    record_end(alloc, settings, session, course.skipped)
 }
 
 /// Runs a program with its instruments: its harts take quanta in the order of a seed until none can follow. It answers the report

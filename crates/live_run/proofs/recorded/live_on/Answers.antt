@@ -13,6 +13,6 @@ returns g c = IfOk-weaker c.record_end.result _ _
     (λ recorded are. record {
       quanta = c.in_ok-session.session.quanta;
       shared = record { whole = c.in_ok-session.ensures.whole; by_workers = c.in_ok-session.ensures.by_workers };
-      record_of = subst (λ (i : Inputs). IsRecordOf i c.in_ok-session.session.quanta c.args.course.now.skipped c.args.course.now.logged recorded) c.in_ok-session.ensures.inputs are;
+      record_of = subst (λ (i : Inputs). IsRecordOf i c.in_ok-session.session.quanta c.args.course.now.skipped recorded) c.in_ok-session.ensures.inputs are;
     })
     c.record_end.ensures

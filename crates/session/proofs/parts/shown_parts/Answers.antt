@@ -2,7 +2,7 @@ use Rattle.std.proofs.Common.{List, [], ◌∷◌, ◌++◌, ap, ap₂, sym, ◌
 use Rattle.report.specs.declared.parts.ShownPart.{ShownPart}
 use Rattle.session.proofs.Reported.{kit_shown, kit_tests}
 use Rattle.session.proofs.parts.shown_parts.Goals as goal
-use Rattle.session.proofs.parts.shown_parts.Goals.{then-is_none+in_ok-shown_part+in_ok-push, else-is_none}
+use Rattle.session.proofs.parts.shown_parts.Goals.{in-Some+in_ok-shown_part+in_ok-push, in_default}
 
 pub loop-kit-preserved : goal.loop-kit-preserved
 loop-kit-preserved c =
@@ -10,13 +10,11 @@ loop-kit-preserved c =
     let n = c.loop-kit.kit-index in
     let all = c.args.kits.now in
     let k = c.kit-item.result in
-    elim c.if-is_none.branch [
-      | then-is_none+in_ok-shown_part+in_ok-push w ↦
+    elim c.match-kit.branch [
+      | in-Some+in_ok-shown_part+in_ok-push w ↦
           ap (λ v. v.items) w.parts-is
           ∙ (w.in_ok-push.ensures.items
           ∙ (ap₂ (λ (ps : List ShownPart) (p : ShownPart). ps ++ p ∷ []) c.loop-kit.invariant w.in_ok-shown_part.ensures
-          ∙ sym (kit_shown i n all k c.loop-kit-test.true c.kit-item.is c.is_none.result c.is_none.ensures w.if-is_none.true)))
-      | else-is_none w ↦
-          ap (λ v. v.items) w.parts-is
-          ∙ (c.loop-kit.invariant ∙ sym (kit_tests i n all k c.loop-kit-test.true c.kit-item.is c.is_none.result c.is_none.ensures w.if-is_none.false))
+          ∙ sym (kit_shown i n all k c.loop-kit-test.true c.kit-item.is w.in-Some.hist w.in-Some.is)))
+      | in_default w ↦ ap (λ v. v.items) w.parts-is ∙ (c.loop-kit.invariant ∙ sym (kit_tests i n all k c.loop-kit-test.true c.kit-item.is w.in_default.is))
     ]

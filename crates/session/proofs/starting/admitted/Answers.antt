@@ -16,7 +16,7 @@ wishes_at_0 ws = filter (λ w. w.at == 0) ws
 pub admit-requires-clause-wishes : goal.admit-requires-clause-wishes
 admit-requires-clause-wishes c w h =
     let all = c.as_slice.ensures ∙ ap (λ (x : Inputs). x.checked.wishes) c.inputs.view_is in
-    first_given c.args.inputs.now c.requires w (subst (λ (l : List CheckedWish). In w l) (c.deref.ensures.value ∙ (c.in_ok-wishes.ensures ∙ ap wishes_at_0 all)) h)
+    first_given c.args.inputs.now c.requires.given w (subst (λ (l : List CheckedWish). In w l) (c.deref.ensures.value ∙ (c.in_ok-wishes.ensures ∙ ap wishes_at_0 all)) h)
 
 pub admit-requires-clause-program : goal.admit-requires-clause-program
 admit-requires-clause-program c = first_program c.args.inputs.now c.in_ok-desk.desk c.in_ok-desk.ensures.first
@@ -30,7 +30,7 @@ admit-requires-clause-costs c = first_costs c.args.inputs.now c.in_ok-desk.desk 
 pub admit-requires-clause-few : goal.admit-requires-clause-few
 admit-requires-clause-few c =
     let all = c.as_slice.ensures ∙ ap (λ (x : Inputs). x.checked.wishes) c.inputs.view_is in
-    first_few c.args.inputs.now c.in_ok-desk.desk c.in_ok-desk.ensures.first c.requires c.deref.result.now (c.deref.ensures.value ∙ (c.in_ok-wishes.ensures ∙ ap wishes_at_0 all))
+    first_few c.args.inputs.now c.in_ok-desk.desk c.in_ok-desk.ensures.first c.requires.given c.deref.result.now (c.deref.ensures.value ∙ (c.in_ok-wishes.ensures ∙ ap wishes_at_0 all))
 
 pub returns-clause-admitted : goal.returns-clause-admitted
 unfolding IsAdmitted
@@ -40,8 +40,8 @@ returns-clause-admitted c =
     let all = c.as_slice.ensures ∙ ap (λ (x : Inputs). x.checked.wishes) c.inputs.view_is in
     let first : c.deref.result.now ≡ first_wishes i = c.deref.ensures.value ∙ (c.in_ok-wishes.ensures ∙ ap wishes_at_0 all) in
     let d = c.in_ok-desk.desk in
-    wished_is i d c.admit.new.self c.in_ok-desk.ensures.first c.requires c.in_ok-desk.ensures.narrow (λ ws. e.kept ws ∙ ap (λ l. with_tests i (with_all i l (kept_of ws d))) first) e.kits
-    (subst (λ (l : List CheckedWish). length c.admit.new.self.kits ≤ length d.kits + length l + taken_at_once) first e.few) e.still c.in_ok-desk.ensures.program
+    wished_is i d c.admit.new.self c.in_ok-desk.ensures.first c.requires.given c.in_ok-desk.ensures.narrow (λ ws. e.kept ws ∙ ap (λ l. with_tests i (with_all i l (kept_of ws d))) first) e.kits
+    (subst (λ (l : List CheckedWish). length c.admit.new.self.kits ≤ length d.kits + length l + taken_at_once) first e.few) e.live e.still c.in_ok-desk.ensures.program
 
 pub returns-clause-picked : goal.returns-clause-picked
 returns-clause-picked c =

@@ -15,9 +15,13 @@ pub open-requires-clause-harts : goal.open-requires-clause-harts
 unfolding IsAdmitted
 open-requires-clause-harts c = wished_fit c.args.inputs.now c.in_ok-desk.desk c.in_ok-desk.ensures.admitted
 
+pub open-requires-clause-live : goal.open-requires-clause-live
+unfolding IsAdmitted
+open-requires-clause-live c = (c.in_ok-desk.ensures.admitted).live
+
 pub returns-clause-kept : goal.returns-clause-kept
 unfolding IsAdmitted
-returns-clause-kept c = opened_kept c.args.inputs.now c.in_ok-desk.desk c.in_ok-desk.ensures.admitted c.requires c.open.new.self c.open.ensures.table c.open.ensures.harts
+returns-clause-kept c = opened_kept c.args.inputs.now c.in_ok-desk.desk c.in_ok-desk.ensures.admitted c.requires.given c.open.new.self c.open.ensures.table c.open.ensures.harts c.open.ensures.live
 
 pub returns-in_err-pick-clause-refused : goal.returns-in_err-pick-clause-refused
 returns-in_err-pick-clause-refused c =

@@ -4,15 +4,15 @@ use Rattle.session_kits.proofs.Dropped.{dropped_as, tester_stands}
 use Rattle.session_kits.proofs.dropping.drop_test.Goals as goal
 
 pub drop-requires : goal.drop-requires
-drop-requires c = tester_stands c.args.machine.now.state c.args.node c.args.kits.now c.in-Some.number (sym c.in-Some.is ∙ c.find_tester.ensures)
+drop-requires c = tester_stands c.args.machine.now.state c.args.node c.args.kits.now.all.items c.in-Some.number (sym c.in-Some.is ∙ c.find_tester.ensures)
 
 pub returns-in-Some-clause-machine : goal.returns-in-Some-clause-machine
 returns-in-Some-clause-machine c =
     let d = c.args.machine.now in
     c.drop.ensures.state
-    ∙ ap (λ (x : Instrumented). record d { state = x }) (dropped_as d.state c.args.node c.args.kits.now (Some c.in-Some.number) (sym c.in-Some.is ∙ c.find_tester.ensures))
+    ∙ ap (λ (x : Instrumented). record d { state = x }) (dropped_as d.state c.args.node c.args.kits.now.all.items (Some c.in-Some.number) (sym c.in-Some.is ∙ c.find_tester.ensures))
 
 pub returns-in_default-clause-machine : goal.returns-in_default-clause-machine
 returns-in_default-clause-machine c =
     let d = c.args.machine.now in
-    ap (λ (x : Instrumented). record d { state = x }) (dropped_as d.state c.args.node c.args.kits.now None (sym c.in_default.is ∙ c.find_tester.ensures))
+    ap (λ (x : Instrumented). record d { state = x }) (dropped_as d.state c.args.node c.args.kits.now.all.items None (sym c.in_default.is ∙ c.find_tester.ensures))

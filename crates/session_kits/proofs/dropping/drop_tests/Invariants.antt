@@ -1,13 +1,14 @@
 use Rattle.std.proofs.Common.{◌≡◌}
 use Rattle.std.specs.Prelude.{drop, map}
 use Rattle.session_kits.specs.declared.kit.Kit.{Kit}
-use Rattle.session_kits.specs.Kits.{dropped_tests}
+use Rattle.session_kits.specs.Kits.{AreLive, dropped_tests}
 use Rattle.session_kits.proofs.dropping.drop_tests.Given as goal
 
 abbrev pub invariant-loop-node : goal.invariant-loop-node
 invariant-loop-node l = record {
-  coming : dropped_tests (drop l.node-index l.nodes) (map (λ (k : Kit). k.shown) l.kits) l.machine.state
-      ≡ dropped_tests l.nodes (map (λ (k : Kit). k.shown) l.kits) l.fn.machine.state;
+  coming : dropped_tests (drop l.node-index l.nodes) (map (λ (k : Kit). k.shown) l.kits.all.items) l.machine.state
+      ≡ dropped_tests l.nodes (map (λ (k : Kit). k.shown) l.kits.all.items) l.fn.machine.state;
   ready : l.machine.ready ≡ l.fn.machine.ready;
   core : l.machine.state.core ≡ l.fn.machine.state.core;
+  live : AreLive l.machine.state.placer l.kits.all.items l.kits.live.items;
 }

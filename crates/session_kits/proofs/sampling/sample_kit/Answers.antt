@@ -16,7 +16,7 @@ pub returns-clause-kit : goal.returns-clause-kit
 returns-clause-kit c =
     let m = c.args.machine.now.state in
     let k = c.args.kit.now in
-    sampled_now m c.args.time k c.read_kit-reading.result c.added.result c.push.new.self (sym c.is_armed.ensures ∙ c.if-not-is_armed.false) c.read_kit-reading.ensures.reading c.added.ensures c.push.ensures.pushed
+    sampled_now m c.args.time k c.read_kit-reading.result c.added.result c.record_bin.new.hist (sym c.is_armed.ensures ∙ c.if-not-is_armed.false) c.read_kit-reading.ensures.reading c.added.ensures c.record_bin.ensures
 
 pub returns-clause-bin : goal.returns-clause-bin
 returns-clause-bin c =

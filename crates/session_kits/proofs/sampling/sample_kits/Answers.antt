@@ -1,42 +1,133 @@
-use Rattle.std.proofs.Common.{◌<◌, ◌∙◌, List, length, refl, ap, arith, length-append}
+use Rattle.std.proofs.Common.{◌≡◌, ℕ, ◌+◌, ◌<◌, ◌≤◌, List, drop, get_or, length, refl, ap, ◌∙◌, arith, length-append}
+use Rattle.std.specs.Prelude.{vec_len}
+use Rattle.instrumented.specs.Instrumented.{Instrumented}
 use Rattle.w3_search.specs.declared.node.NodeSample.{NodeSample}
 use Rattle.session_spec.specs.declared.data.Latest.{Latest}
-use Rattle.session_kits.specs.Kits.{HasFew, HasHarts, kit_sampled, kit_ticks, latest_by, test_by}
-use Rattle.session_kits.proofs.Walks.{all_behind, behind_within, few_latest, few_tests, kits_step, latest_step, tests_step}
+use Rattle.session_kits.specs.declared.kit.Kit.{Kit}
+use Rattle.session_kits.specs.Kits.{kit_ticks, latest_by, test_by}
+use Rattle.session_kits.proofs.Places.{Here, Walk, few_live, turn_last, turn_next, walk_at, walk_end, walk_on, walk_start, walk_within}
+use Rattle.session_kits.proofs.Walks.{AreSampled, all_sampled, behind_within, few_latest, few_tests, sampled_more, sampled_pass}
 use Rattle.session_kits.proofs.sampling.sample_kits.Goals as goal
 
-pub loop-place-preserved : goal.loop-place-preserved
-loop-place-preserved c =
+-- the pair that was read in a turn is at its place
+here : {m : Instrumented} {time : ℕ} {marks : List ℕ} {old : List Kit} {ls : List Latest} {ts : List NodeSample} {latest : List Latest} {tests : List NodeSample} {wished : ℕ} {now : List Kit}
+    (live : List ℕ) (turn at : ℕ) (k : Kit) → turn < length live → at ≡ get_or live turn at → k ≡ get_or now at k
+    → Walk (AreSampled m time marks old ls ts latest tests wished) m.placer now (drop turn live) → Here (AreSampled m time marks old ls ts latest tests wished) m.placer now at k (drop (turn + 1) live)
+here {m} {time} {marks} {old} {ls} {ts} {latest} {tests} {wished} live turn at k l e is w =
+    walk_at (sampled_pass m time marks old ls ts latest tests wished) (turn_next live turn at at l e w) k is
+
+pub loop-turn-init : goal.loop-turn-init
+loop-turn-init c =
+    let m = c.args.machine.now.state in
+    let old = c.args.kits.now.all.items in
+    let ls = c.args.latest.now.items in
+    let ts = c.args.tests.now.items in
+    record {
+      walk = walk_start (AreSampled m c.args.time c.args.marks.now old ls ts ls ts 0) m.placer old c.args.kits.now.live.items c.requires.live
+          (record { done = refl; latest = refl; tests = refl; harts = c.requires.harts; few = c.requires.few });
+      live = refl;
+      few = omega (arith, few_live 0 m.placer old c.args.kits.now.live.items c.requires.live, c.args.kits.now.live.ok.0, c.args.kits.now.all.ok.0);
+      wished = omega arith;
+      many = refl;
+      capacity = refl;
+      no_less = omega arith;
+      tests_no_less = omega arith;
+      room = omega (arith, c.requires.room);
+      test_room = omega (arith, c.requires.test_room);
+      places = refl;
+    }
+
+pub index_mut-kit-requires : goal.index_mut-kit-requires
+index_mut-kit-requires c =
+    let before = c.loop-turn.invariant in
+    let live = c.loop-turn.kits.live.items in
+    let l : c.loop-turn.turn < length live = omega (arith, c.loop-turn-test.true, c.len-turn-end.ensures, ap vec_len before.live, c.loop-turn.kits.live.ok.0) in
+    let pass = sampled_pass c.args.machine.now.state c.args.time c.args.marks.now c.args.kits.now.all.items c.args.latest.now.items c.args.tests.now.items c.loop-turn.latest.items
+    c.loop-turn.tests.items c.loop-turn.wished in
+    omega (arith, walk_within pass (turn_next live c.loop-turn.turn c.index-place.result.now c.index-place.result.now l c.index-place.ensures before.walk), c.loop-turn.kits.all.ok.0)
+
+pub sample_kit-bin-requires-clause-harts : goal.sample_kit-bin-requires-clause-harts
+sample_kit-bin-requires-clause-harts c =
+    let before = c.loop-turn.invariant in
+    let live = c.loop-turn.kits.live.items in
+    let l : c.loop-turn.turn < length live = omega (arith, c.loop-turn-test.true, c.len-turn-end.ensures, ap vec_len before.live, c.loop-turn.kits.live.ok.0) in
+    let h = here live c.loop-turn.turn c.index-place.result.now c.index_mut-kit.result.now l c.index-place.ensures c.index_mut-kit.ensures.value before.walk in
+    (h.holds).harts.0
+
+pub sample_kit-bin-requires-clause-few : goal.sample_kit-bin-requires-clause-few
+sample_kit-bin-requires-clause-few c =
+    let before = c.loop-turn.invariant in
+    let live = c.loop-turn.kits.live.items in
+    let l : c.loop-turn.turn < length live = omega (arith, c.loop-turn-test.true, c.len-turn-end.ensures, ap vec_len before.live, c.loop-turn.kits.live.ok.0) in
+    let h = here live c.loop-turn.turn c.index-place.result.now c.index_mut-kit.result.now l c.index-place.ensures c.index_mut-kit.ensures.value before.walk in
+    (h.holds).few.0
+
+pub put_test-requires-clause-harts : goal.put_test-requires-clause-harts
+put_test-requires-clause-harts c =
+    let before = c.loop-turn.invariant in
+    let live = c.loop-turn.kits.live.items in
+    let l : c.loop-turn.turn < length live = omega (arith, c.loop-turn-test.true, c.len-turn-end.ensures, ap vec_len before.live, c.loop-turn.kits.live.ok.0) in
+    let h = here live c.loop-turn.turn c.index-place.result.now c.index_mut-kit.result.now l c.index-place.ensures c.index_mut-kit.ensures.value before.walk in
+    (h.holds).harts.0
+
+pub loop-turn-preserved : goal.loop-turn-preserved
+loop-turn-preserved c =
     let m = c.args.machine.now.state in
     let time = c.args.time in
-    let ks = c.loop-place.kits.items in
-    let i = c.loop-place.place in
+    let marks = c.args.marks.now in
+    let old = c.args.kits.now.all.items in
+    let ls = c.args.latest.now.items in
+    let ts = c.args.tests.now.items in
+    let latest = c.loop-turn.latest.items in
+    let tests = c.loop-turn.tests.items in
+    let wished = c.loop-turn.wished in
+    let live = c.loop-turn.kits.live.items in
+    let turn = c.loop-turn.turn in
+    let at = c.index-place.result.now in
     let k = c.index_mut-kit.result.now in
     let new = c.sample_kit-bin.new.kit in
     let bin = c.sample_kit-bin.result in
-    let before = c.loop-place.invariant in
-    let within : i < length ks = omega (arith, c.loop-place-test.true, before.many) in
-    let at = c.index_mut-kit.ensures.value in
-    let is_bin = c.sample_kit-bin.ensures.bin in
-    let ls = c.loop-place.latest.items in
-    let ts = c.loop-place.tests.items in
-    let wished = c.loop-place.wished in
-    let ticks = kit_ticks m c.args.marks.now k in
-    let more = ap (λ (xs : List Latest). length xs) c.put_latest.ensures.items ∙ length-append ls (latest_by k.shown.node wished bin) in
-    let more_tests = ap (λ (xs : List NodeSample). length xs) c.put_test.ensures.items ∙ length-append ts (test_by k.shown.node ticks bin) in
+    let ticks = kit_ticks m marks k in
+    let before = c.loop-turn.invariant in
+    let l : turn < length live = omega (arith, c.loop-turn-test.true, c.len-turn-end.ensures, ap vec_len before.live, c.loop-turn.kits.live.ok.0) in
+    let h = here live turn at k l c.index-place.ensures c.index_mut-kit.ensures.value before.walk in
+    let now_latest = c.put_latest.new.list.items in
+    let now_tests = c.put_test.new.list.items in
+    let next = c.place_behind-wished.result in
+    let holds = sampled_more m time marks old ls ts latest tests wished h.front k h.behind h.holds bin c.sample_kit-bin.ensures.bin new now_latest now_tests next c.sample_kit-bin.ensures.kit
+    c.put_latest.ensures.items c.put_test.ensures.items c.place_behind-wished.ensures in
+    let more = ap (λ (xs : List Latest). length xs) c.put_latest.ensures.items ∙ length-append latest (latest_by k.shown.node wished bin) in
+    let more_tests = ap (λ (xs : List NodeSample). length xs) c.put_test.ensures.items ∙ length-append tests (test_by k.shown.node ticks bin) in
     record {
-      done = kits_step ks i k new within at (kit_sampled m time) c.sample_kit-bin.ensures.kit ∙ before.done;
-      latest = latest_step ks i k new within at m time bin is_bin wished c.place_behind-wished.result ls c.put_latest.new.list.items c.put_latest.ensures.items c.place_behind-wished.ensures
-          ∙ before.latest;
-      tests = tests_step ks i k new within at m time bin is_bin c.args.marks.now ticks ts c.put_test.new.list.items c.put_test.ensures.items refl ∙ before.tests;
+      walk = walk_on h (AreSampled m time marks old ls ts now_latest now_tests next) m.placer h.places new holds;
+      live = before.live;
+      few = before.few;
       wished = omega (arith, c.place_behind-wished.ensures, behind_within k.shown.node wished, before.wished);
       many = before.many;
       capacity = before.capacity;
       no_less = omega (arith, before.no_less, c.put_latest.ensures.room);
       tests_no_less = omega (arith, before.tests_no_less, c.put_test.ensures.room);
-      harts = all_behind ks i k new within at (HasHarts (length m.core.harts)) before.harts;
-      few = all_behind ks i k new within at HasFew before.few;
-      room = omega (arith, more, few_latest k.shown.node wished bin, c.loop-place-test.true, before.many, before.room, c.put_latest.ensures.room);
-      test_room = omega (arith, more_tests, few_tests k.shown.node ticks bin, c.loop-place-test.true, before.many, before.test_room, c.put_test.ensures.room);
+      room = omega (arith, more, few_latest k.shown.node wished bin, l, before.few, c.loop-turn.kits.live.ok.0, before.room, c.put_latest.ensures.room);
+      test_room = omega (arith, more_tests, few_tests k.shown.node ticks bin, l, before.few, c.loop-turn.kits.live.ok.0, before.test_room, c.put_test.ensures.room);
       places = c.sample_kit-bin.ensures.places ∙ before.places;
+    }
+
+pub returns : goal.returns
+returns c =
+    let before = c.loop-turn.invariant in
+    let live = c.loop-turn.kits.live.items in
+    let l : length live ≤ c.loop-turn.turn = omega (arith, c.loop-turn-test.false, c.len-turn-end.ensures, ap vec_len before.live, c.loop-turn.kits.live.ok.0) in
+    let pass = sampled_pass c.args.machine.now.state c.args.time c.args.marks.now c.args.kits.now.all.items c.args.latest.now.items c.args.tests.now.items c.loop-turn.latest.items
+    c.loop-turn.tests.items c.loop-turn.wished in
+    let is = all_sampled (walk_end pass (turn_last live c.loop-turn.turn l before.walk)) in
+    record {
+      kits = is.0;
+      live = before.live;
+      latest = is.1;
+      tests = is.2;
+      places = before.places;
+      many = before.many;
+      capacity = before.capacity;
+      no_less = before.no_less;
+      tests_no_less = before.tests_no_less;
     }

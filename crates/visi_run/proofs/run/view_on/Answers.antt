@@ -1,14 +1,19 @@
-use Rattle.std.proofs.Common.{◌≡◌, ◌∙◌, map, ap}
+use Rattle.std.proofs.Common.{◌≡◌, ◌∙◌, map, ap, subst}
 use Rattle.std.proofs.lemmas.List.{length-map}
 use Rattle.std.proofs.lemmas.Result.{IfOk-weaker}
 use Rattle.std.specs.Prelude.{replicate}
 use Rattle.report.specs.declared.parts.ReportParts.{ReportParts}
 use Rattle.session_spec.specs.Inputs.{Inputs}
+use Rattle.session_spec.specs.Work.{closed, work}
+use Rattle.session_laws.specs.Bins.{AreRecorded}
+use Rattle.session_laws.specs.Feed.{IsFeed}
 use Rattle.session.specs.Parts.{parts_of}
+use Rattle.session.specs.Sessions.{state_of}
 use Rattle.visi_run.specs.Feed.{feed_of}
 use Rattle.visi_run.specs.Texts.{visi_text}
 use Rattle.visi_run.specs.Viewed.{shown_of}
 use Rattle.visi_run.proofs.Feeds.{closed_state}
+use Rattle.visi_run.proofs.Lines.{lines_all}
 use Rattle.visi_run.proofs.SeatLists.{all_same}
 use Rattle.visi_run.proofs.run.view_on.Goals as goal
 
@@ -23,10 +28,13 @@ returns g c =
     c.as_slice.ensures ∙ (ap (λ (p : ReportParts). p.shown) (c.in_ok-parts.ensures.parts ∙ ap (parts_of s.inputs) (closed_state s e.inputs.1)) ∙ ap (λ (j : Inputs). shown_of j s.quanta) e.inputs.0) in
     let given : lists ≡ replicate c.args.course.views feed =
     all_same feed lists e.feed ∙ ap (λ n. replicate n feed) (length-map c.in_ok-session.lists.items (λ v. v.items) ∙ e.count) in
+    let state : state_of s ≡ closed i (work i s.quanta) = closed_state s e.inputs.1 ∙ ap (λ (j : Inputs). closed j (work j s.quanta)) e.inputs.0 in
+    let recorded : AreRecorded i (closed i (work i s.quanta)) = subst (AreRecorded i) state (subst (λ (j : Inputs). AreRecorded j (state_of s)) e.inputs.0 c.laws.ensures.bins) in
     IfOk-weaker c.visi_text.result _ _
     (λ text are. record {
       quanta = s.quanta;
       seeded = e.seeded;
+      lines = lines_all i s.quanta (subst IsFeed state c.laws.ensures.feed) recorded;
       text = are ∙ (ap (λ l. visi_text c.as_slice.result.now (map (λ v. v.items) l)) c.deref.ensures.value ∙ (λ k. visi_text (shown k) (given k)));
     })
     c.visi_text.ensures

@@ -1,6 +1,11 @@
-use Rattle.std.proofs.Common.{List, sym, subst}
+use Rattle.std.proofs.Common.{◌≡◌, ℕ, List, ap, sym, subst}
 use Rattle.tramp_spec.specs.Harts.{Hart}
 use Rattle.machine.specs.Events.{AreOutside, IsQuiet}
+use Rattle.instrument.specs.Scenes.{Sweeps}
+use Rattle.instrumented.specs.Data.{InstrumentedData}
+use Rattle.session_kits.specs.declared.kit.Kit.{Kit}
+use Rattle.session_kits.specs.Kits.{AreLive, live_of}
+use Rattle.session_kits.proofs.Live.{live_forgotten, live_repeated}
 use Rattle.session.specs.Tables.{Table}
 use Rattle.session.proofs.desk.Desk.free.Goals as goal
 
@@ -11,3 +16,14 @@ pub returns-clause-quiet : goal.returns-clause-quiet
 returns-clause-quiet c =
     let quiet = subst (λ (t : Table). IsQuiet t.machine.state.core) (sym c.self.view_is) c.requires.quiet in
     subst (λ (hs : List Hart). AreOutside hs) (sym c.sweep.ensures.harts) quiet
+
+pub returns-clause-live : goal.returns-clause-live
+returns-clause-live c =
+    let s = c.self.inside in
+    let e = c.forget_gone.ensures in
+    let a = subst (λ (t : Table). AreLive t.machine.state.placer t.kits t.live) (sym c.self.view_is) c.requires.live in
+    let swept : AreLive c.sweep.new.machine.state.placer s.kits.all.items s.kits.live.items =
+    subst (λ (d : InstrumentedData). AreLive d.state.placer s.kits.all.items s.kits.live.items) (sym c.sweep.ensures.machine) (live_repeated s.machine.state s.kits.all.items s.kits.live.items a c.agenda_len-entries.result Sweeps tt) in
+    let all : c.forget_gone.new.self.all.items ≡ s.kits.all.items = ap (λ v. v.items) e.all in
+    subst (λ (l : List ℕ). AreLive c.sweep.new.machine.state.placer c.forget_gone.new.self.all.items l) (sym e.live)
+    (subst (λ (ks : List Kit). AreLive c.sweep.new.machine.state.placer ks (live_of c.sweep.new.machine.state.placer s.kits.all.items s.kits.live.items)) (sym all) (live_forgotten c.sweep.new.machine.state.placer s.kits.all.items s.kits.live.items swept))

@@ -1,6 +1,5 @@
-use Rattle.session.specs.Contenders.{AreUpTo}
 use Rattle.session.proofs.Takings.{Taking}
 use Rattle.session.proofs.desk.Desk.take_nodes.Given as goal
 
 abbrev pub invariant-loop-plan : goal.invariant-loop-plan
-invariant-loop-plan l = Taking l.fn.inputs l.fn.plans l.fn.contenders.items l.fn.self l.plan-index l.self l.contenders.items l.force × AreUpTo l.last l.self.kits
+invariant-loop-plan l = Taking l.fn.inputs l.fn.plans l.fn.candidates.items l.fn.self l.plan-index l.self l.candidates.items l.force

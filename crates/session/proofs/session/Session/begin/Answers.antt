@@ -1,4 +1,4 @@
-use Rattle.std.proofs.Common.{◌≡◌, ◌∙◌, List, sym, ap, subst, arith}
+use Rattle.std.proofs.Common.{◌≡◌, ◌∙◌, List, [], sym, ap, subst, arith}
 use Rattle.std.specs.Prelude.{false, filter, not, ◌==◌}
 use Rattle.pn_types.specs.declared.quantum.Quantum.{Quantum}
 use Rattle.mdl_check.specs.declared.checked.CheckedWish.{CheckedWish}
@@ -16,8 +16,8 @@ invariant_of-result c =
     let i = c.args.inputs in
     let all = c.as_slice.ensures ∙ ap (λ (x : Inputs). x.checked.wishes) c.inputs.view_is in
     let later : c.in_ok-wishes.wishes.items ≡ later_wishes i = c.in_ok-wishes.ensures ∙ ap later_of all in
-    let kept : IsKept (begun i) c.in_ok-wishes.wishes.items c.in_ok-desk.desk = subst (λ (ws : List CheckedWish). IsKept (begun i) ws c.in_ok-desk.desk) (sym later) c.in_ok-desk.ensures.kept in
-    (subst (λ (quanta : List Quantum). IsKept (record { inputs = i; quanta = quanta; closed = false }) c.in_ok-wishes.wishes.items c.in_ok-desk.desk) (sym c.new.ensures.items) kept, omega arith)
+    let kept : IsKept i [] false c.in_ok-wishes.wishes.items c.in_ok-desk.desk = subst (λ (ws : List CheckedWish). IsKept i [] false ws c.in_ok-desk.desk) (sym later) c.in_ok-desk.ensures.kept in
+    (subst (λ (quanta : List Quantum). IsKept i quanta false c.in_ok-wishes.wishes.items c.in_ok-desk.desk) (sym c.new.ensures.items) kept, omega arith, c.opened.ensures.known)
 
 pub returns-in_err-wishes-clause-refused : goal.returns-in_err-wishes-clause-refused
 returns-in_err-wishes-clause-refused c = fails c.args.inputs c.from_residual-in_err-wishes.result c.from_residual-in_err-wishes.ensures.1

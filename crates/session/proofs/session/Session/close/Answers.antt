@@ -1,6 +1,9 @@
-use Rattle.std.proofs.Common.{◌≡◌, ◌∙◌, ap, arith}
-use Rattle.std.specs.Prelude.{drop, false}
-use Rattle.session.specs.Sessions.{SessionData}
+use Rattle.std.proofs.Common.{◌≡◌, ◌∙◌, ap, arith, subst}
+use Rattle.std.specs.Prelude.{drop, false, true}
+use Rattle.instrumented.specs.Instrumented.{Instrumented}
+use Rattle.session_spec.specs.States.{Kept}
+use Rattle.session.specs.Kept.{IsKept}
+use Rattle.session.specs.Sessions.{SessionData, session_at}
 use Rattle.session.proofs.Halting.{can_sample}
 use Rattle.session.proofs.Quanta.{end_kept}
 use Rattle.session.proofs.session.Session.close.Goals as goal
@@ -26,10 +29,25 @@ end-requires-clause-sampled c =
     let going : s.closed ≡ false = ap (λ (x : SessionData). x.closed) c.self.view_is ∙ c.requires in
     let few = k.allowed.few in
     let samples = k.fewer going in
-    can_sample (record { inputs = s.inputs; quanta = s.quanta.items; closed = s.closed }) (drop s.looked s.wishes.items) s.desk k (omega arith) few
+    can_sample s.inputs s.quanta.items s.closed (drop s.looked s.wishes.items) s.desk k (omega arith) few
 
 pub invariant_of-self : goal.invariant_of-self
 invariant_of-self c =
     let s = c.self.inside in
+    let later = drop s.looked s.wishes.items in
     let going : s.closed ≡ false = ap (λ (x : SessionData). x.closed) c.self.view_is ∙ c.requires in
-    (end_kept (record { inputs = s.inputs; quanta = s.quanta.items; closed = s.closed }) (drop s.looked s.wishes.items) s.desk c.end.new.self going c.self.invariant.0 c.end.ensures.table c.end.ensures.quiet c.end.ensures.harts c.end.ensures.later, c.self.invariant.1)
+    let kept : IsKept s.inputs s.quanta.items false later s.desk = subst (λ b. IsKept s.inputs s.quanta.items b later s.desk) going c.self.invariant.0 in
+    let e = c.end.ensures in
+    (end_kept s.inputs s.quanta.items later s.desk c.end.new.self kept e.table e.quiet e.harts e.later e.live, c.self.invariant.1, c.self.invariant.2)
+
+pub returns : goal.returns
+returns c =
+    let s = c.self.inside in
+    let d = c.args.self.now in
+    let later = drop s.looked s.wishes.items in
+    let going : s.closed ≡ false = ap (λ (x : SessionData). x.closed) c.self.view_is ∙ c.requires in
+    let kept : IsKept s.inputs s.quanta.items false later s.desk = subst (λ b. IsKept s.inputs s.quanta.items b later s.desk) going c.self.invariant.0 in
+    let e = c.end.ensures in
+    let over = end_kept s.inputs s.quanta.items later s.desk c.end.new.self kept e.table e.quiet e.harts e.later e.live in
+    ap (λ (m : Instrumented). record { inputs = s.inputs; machine = m; quanta = s.quanta.items; closed = true }) (ap (λ (k : Kept). k.machine) over.state.kept)
+    ∙ ap (λ (x : SessionData). session_at x.inputs x.quanta true) c.self.view_is

@@ -4,7 +4,7 @@ use Rattle.pn_types.specs.declared.limits.TheConstants.{MAX_HARTS}
 use Rattle.report.specs.declared.parts.ReportParts.{ReportParts}
 use Rattle.session.specs.Parts.{parts_of}
 use Rattle.session.specs.Seen.{table_parts}
-use Rattle.session.specs.Sessions.{SessionData, state_of}
+use Rattle.session.specs.Sessions.{SessionData, state_at, state_of}
 use Rattle.session.proofs.Reported.{parts_are}
 use Rattle.session.proofs.Ticks.{parts_few, ticks_few}
 use Rattle.session.proofs.session.Session.parts.Goals as goal
@@ -16,19 +16,16 @@ of_parts (Err fault) all P e p = tt
 pub returns-clause-parts : goal.returns-clause-parts
 returns-clause-parts c =
     let s = c.self.inside in
-    let d : SessionData = record { inputs = s.inputs; quanta = (s.quanta).items; closed = s.closed } in
-    let are = parts_are s.inputs (state_of d) (drop s.looked (s.wishes).items) s.desk c.self.invariant.0.desk in
+    let are = parts_are s.inputs (state_at s.inputs (s.quanta).items s.closed) (drop s.looked (s.wishes).items) s.desk c.self.invariant.0.state in
     subst (λ (d : SessionData). IfOk c.desk_parts.result (λ parts. parts ≡ parts_of d.inputs (state_of d))) c.self.view_is
     (subst (λ all. IfOk c.desk_parts.result (λ parts. parts ≡ all)) are c.desk_parts.ensures)
 
 pub returns-clause-harts : goal.returns-clause-harts
 returns-clause-harts c =
     let s = c.self.inside in
-    let d : SessionData = record { inputs = s.inputs; quanta = (s.quanta).items; closed = s.closed } in
-    of_parts c.desk_parts.result (table_parts s.inputs s.desk) (λ parts. length parts.harts ≤ MAX_HARTS) c.desk_parts.ensures (parts_few d (drop s.looked (s.wishes).items) s.desk c.self.invariant.0)
+    of_parts c.desk_parts.result (table_parts s.inputs s.desk) (λ parts. length parts.harts ≤ MAX_HARTS) c.desk_parts.ensures (parts_few s.inputs (s.quanta).items s.closed (drop s.looked (s.wishes).items) s.desk c.self.invariant.0)
 
 pub returns-clause-ticks : goal.returns-clause-ticks
 returns-clause-ticks c =
     let s = c.self.inside in
-    let d : SessionData = record { inputs = s.inputs; quanta = (s.quanta).items; closed = s.closed } in
-    of_parts c.desk_parts.result (table_parts s.inputs s.desk) (λ parts. sum_by (λ part. part.ticks) parts.harts < 2 ^ 64) c.desk_parts.ensures (ticks_few d (drop s.looked (s.wishes).items) s.desk c.self.invariant.0)
+    of_parts c.desk_parts.result (table_parts s.inputs s.desk) (λ parts. sum_by (λ part. part.ticks) parts.harts < 2 ^ 64) c.desk_parts.ensures (ticks_few s.inputs (s.quanta).items s.closed (drop s.looked (s.wishes).items) s.desk c.self.invariant.0)

@@ -1,16 +1,19 @@
-use Rattle.std.proofs.Common.{◌≡◌, ℕ, ap₂, ◌∙◌, ◌<◌, ◌++◌, ◌∷◌, [], List, ap, sym, subst, length, arith}
+use Rattle.std.proofs.Common.{◌≡◌, ℕ, ap₂, ◌∙◌, ◌+◌, ◌<◌, ◌++◌, ◌∷◌, [], List, ap, sym, subst, length, arith}
 use Rattle.std.specs.Prelude.{drop, false, true}
 use Rattle.pn_types.specs.declared.limits.TheConstants.{MAX_QUANTA}
 use Rattle.pn_types.specs.declared.quantum.Quantum.{Quantum}
 use Rattle.mdl_check.specs.declared.checked.CheckedWish.{CheckedWish}
-use Rattle.machine.specs.Cores.{In}
+use Rattle.machine.specs.Cores.{Core, In}
+use Rattle.machine.specs.Quanta.{KeepsBudget}
 use Rattle.machine.specs.Replays.{owns}
 use Rattle.machine.specs.States.{quantum_turns}
 use Rattle.machine.specs.Turns.{is_runnable}
 use Rattle.session.specs.Kept.{IsKept}
-use Rattle.session.specs.Sessions.{SessionData, state_of}
+use Rattle.session.specs.Sessions.{SessionData, state_at, state_of}
+use Rattle.session_spec.specs.Work.{work}
 use Rattle.session.specs.Tables.{IsAdmission, Table, table_tended}
-use Rattle.session.proofs.Halting.{allowed_now, can_sample_now, costs, drop_sum, not_halted, program_kept}
+use Rattle.session_spec.specs.States.{Kept}
+use Rattle.session.proofs.Halting.{allowed_now, budget_kept, can_sample_now, costs, drop_sum, not_halted, program_kept}
 use Rattle.session.proofs.Quanta.{drop_many, quantum_kept}
 use Rattle.session.proofs.session.Session.quantum.Goals as goal
 
@@ -22,7 +25,7 @@ admit_from-requires-clause-wishes c w h = c.self.invariant.0.wishes w (subst (λ
 pub admit_from-requires-clause-program : goal.admit_from-requires-clause-program
 admit_from-requires-clause-program c =
     let s = c.self.inside in
-    program_kept (record { inputs = s.inputs; quanta = s.quanta.items; closed = s.closed }) (drop s.looked s.wishes.items) s.desk c.self.invariant.0
+    program_kept s.inputs s.quanta.items s.closed (drop s.looked s.wishes.items) s.desk c.self.invariant.0
 
 pub admit_from-requires-clause-few : goal.admit_from-requires-clause-few
 admit_from-requires-clause-few c =
@@ -70,39 +73,84 @@ tend-owns-requires-clause-sampled c =
     let s = c.self.inside in
     let few : length s.quanta.items < MAX_QUANTA = subst (λ (x : SessionData). length x.quanta < MAX_QUANTA) (sym c.self.view_is) (c.runnable.ensures.few c.if-not-runnable.false) in
     let going : s.closed ≡ false = ap (λ (x : SessionData). x.closed) c.self.view_is ∙ c.requires.going in
-    can_sample_now (record { inputs = s.inputs; quanta = s.quanta.items; closed = s.closed }) (drop s.looked s.wishes.items) s.desk c.admit_from.new.desk c.in_ok-looked.looked c.self.invariant.0 few
+    can_sample_now s.inputs s.quanta.items s.closed (drop s.looked s.wishes.items) s.desk c.admit_from.new.desk c.in_ok-looked.looked c.self.invariant.0 few
     (subst (λ (l : List CheckedWish). IsAdmission s.inputs (drop s.looked l) s.desk c.admit_from.new.desk c.in_ok-looked.looked) c.deref.ensures.value c.in_ok-looked.ensures.ok) going
 
-pub invariant_of-self-2 : goal.invariant_of-self-2
-invariant_of-self-2 c =
+-- what is kept behind it
+kept_now : (c : goal.After-put_quantum) → IsKept c.self.inside.inputs (c.put_quantum.new.list.items) false (drop (c.self.inside.looked + c.in_ok-looked.looked) c.self.inside.wishes.items) c.tend-owns.new.self
+kept_now c =
     let s = c.self.inside in
-    let d : SessionData = record { inputs = s.inputs; quanta = s.quanta.items; closed = s.closed } in
+    let i = s.inputs in
     let later = drop s.looked s.wishes.items in
-    let k = c.self.invariant.0 in
     let n = c.in_ok-looked.looked in
     let q : Quantum = record { worker = c.args.worker; hart = c.args.hart; turns = c.args.turns; owns = c.tend-owns.result } in
     let few : length s.quanta.items < MAX_QUANTA = subst (λ (x : SessionData). length x.quanta < MAX_QUANTA) (sym c.self.view_is) (c.runnable.ensures.few c.if-not-runnable.false) in
     let going : s.closed ≡ false = ap (λ (x : SessionData). x.closed) c.self.view_is ∙ c.requires.going in
-    let admitted : IsAdmission s.inputs later s.desk c.admit_from.new.desk n = subst (λ (l : List CheckedWish). IsAdmission s.inputs (drop s.looked l) s.desk c.admit_from.new.desk n) c.deref.ensures.value c.in_ok-looked.ensures.ok in
-    let table : c.tend-owns.new.self ≡ table_tended s.inputs.settings.width c.args.hart c.args.turns c.admit_from.new.desk =
-    c.tend-owns.ensures.table ∙ ap₂ (λ (w h : ℕ). table_tended w h c.args.turns c.admit_from.new.desk) c.width-width.ensures c.numbered.ensures in
-    let own : c.tend-owns.result ≡ length (owns (quantum_turns c.args.turns c.args.hart c.admit_from.new.desk.machine.state.core) c.admit_from.new.desk.machine.state.core) =
-    c.tend-owns.ensures.owns ∙ ap (λ (h : ℕ). length (owns (quantum_turns c.args.turns h c.admit_from.new.desk.machine.state.core) c.admit_from.new.desk.machine.state.core)) c.numbered.ensures in
-    let hart : c.args.hart < s.inputs.settings.harts = subst (λ (x : SessionData). c.args.hart < x.inputs.settings.harts) (sym c.self.view_is) c.requires.hart in
-    let runs : is_runnable (state_of d).kept.machine.core c.args.hart ≡ true = subst (λ (x : SessionData). is_runnable (state_of x).kept.machine.core c.args.hart ≡ true) (sym c.self.view_is) (c.runnable.ensures.open c.if-not-runnable.false) in
-    let allowed = allowed_now d later s.desk c.admit_from.new.desk n k few admitted q c.requires.worker hart c.requires.turns.0 c.requires.turns.1 runs own in
-    let kept = quantum_kept d later s.desk c.admit_from.new.desk c.tend-owns.new.self n q going k few admitted table c.tend-owns.ensures.harts c.tend-owns.ensures.later c.tend-owns.ensures.idle c.tend-owns.ensures.soon allowed in
+    let k : IsKept i s.quanta.items false later s.desk = subst (λ b. IsKept i s.quanta.items b later s.desk) going c.self.invariant.0 in
+    let admitted : IsAdmission i later s.desk c.admit_from.new.desk n = subst (λ (l : List CheckedWish). IsAdmission i (drop s.looked l) s.desk c.admit_from.new.desk n) c.deref.ensures.value c.in_ok-looked.ensures.ok in
+    let e = c.tend-owns.ensures in
+    let table : c.tend-owns.new.self ≡ table_tended i.settings.width c.args.hart c.args.turns c.admit_from.new.desk =
+    e.table ∙ ap₂ (λ (w h : ℕ). table_tended w h c.args.turns c.admit_from.new.desk) c.width-width.ensures c.numbered.ensures in
+    let core = c.admit_from.new.desk.machine.state.core in
+    let own : c.tend-owns.result ≡ length (owns (quantum_turns c.args.turns c.args.hart core) core) = e.owns ∙ ap (λ (h : ℕ). length (owns (quantum_turns c.args.turns h core) core)) c.numbered.ensures in
+    let hart : c.args.hart < i.settings.harts = subst (λ (x : SessionData). c.args.hart < x.inputs.settings.harts) (sym c.self.view_is) c.requires.hart in
+    let going_on : is_runnable (state_at i s.quanta.items s.closed).kept.machine.core c.args.hart ≡ true =
+    subst (λ (x : SessionData). is_runnable (state_of x).kept.machine.core c.args.hart ≡ true) (sym c.self.view_is) (c.runnable.ensures.open c.if-not-runnable.false) in
+    let runs : is_runnable (work i s.quanta.items).kept.machine.core c.args.hart ≡ true = subst (λ b. is_runnable (state_at i s.quanta.items b).kept.machine.core c.args.hart ≡ true) going going_on in
+    let allowed = allowed_now i s.quanta.items false later s.desk c.admit_from.new.desk n k few admitted q c.requires.worker hart c.requires.turns.0 c.requires.turns.1 runs own in
+    let kept = quantum_kept i s.quanta.items later s.desk c.admit_from.new.desk c.tend-owns.new.self n q k few admitted table e.harts e.later e.idle e.soon e.live allowed in
     let quanta : c.put_quantum.new.list.items ≡ s.quanta.items ++ q ∷ [] = c.put_quantum.ensures.items ∙ ap (λ (l : List Quantum). l ++ q ∷ []) c.in_ok-reserve.ensures.items in
+    subst (λ (l : List CheckedWish). IsKept i c.put_quantum.new.list.items false l c.tend-owns.new.self) (sym (drop_sum n s.looked s.wishes.items))
+    (subst (λ (l : List Quantum). IsKept i l false (drop n later) c.tend-owns.new.self) (sym quanta) kept)
+
+kept_on : (c : goal.After-put_quantum)
+    → IsKept c.self.inside.inputs (c.put_quantum.new.list.items) c.self.inside.closed (drop (c.self.inside.looked + c.in_ok-looked.looked) c.self.inside.wishes.items) c.tend-owns.new.self
+kept_on c =
+    let s = c.self.inside in
+    let going : s.closed ≡ false = ap (λ (x : SessionData). x.closed) c.self.view_is ∙ c.requires.going in
+    subst (λ b. IsKept s.inputs c.put_quantum.new.list.items b (drop (s.looked + c.in_ok-looked.looked) s.wishes.items) c.tend-owns.new.self) (sym going) (kept_now c)
+
+pub invariant_of-self-2 : goal.invariant_of-self-2
+invariant_of-self-2 c =
+    let s = c.self.inside in
+    let admitted : IsAdmission s.inputs (drop s.looked s.wishes.items) s.desk c.admit_from.new.desk c.in_ok-looked.looked =
+    subst (λ (l : List CheckedWish). IsAdmission s.inputs (drop s.looked l) s.desk c.admit_from.new.desk c.in_ok-looked.looked) c.deref.ensures.value c.in_ok-looked.ensures.ok in
     let low = admitted.looked in
     let first = c.self.invariant.1 in
     let len = c.deref.ensures.len in
     let items = ap (λ (l : List CheckedWish). length l) c.deref.ensures.value in
     let left = drop_many s.looked s.wishes.items (omega arith) in (
-      subst (λ (l : List CheckedWish). IsKept (record { inputs = s.inputs; quanta = c.put_quantum.new.list.items; closed = s.closed }) l c.tend-owns.new.self) (sym (drop_sum n s.looked s.wishes.items))
-          (subst (λ (l : List Quantum). IsKept (record { inputs = s.inputs; quanta = l; closed = s.closed }) (drop n later) c.tend-owns.new.self) (sym quanta) kept),
+      kept_on c,
       omega arith,
+      c.admit_from.ensures.known,
     )
+
+pub returns-clause-machine : goal.returns-clause-machine
+returns-clause-machine c = ap (λ (k : Kept). k.machine) (kept_on c).state.kept
+
+-- ---- the budget
+
+pub returns-clause-budget : goal.returns-clause-budget
+returns-clause-budget c =
+    let s = c.self.inside in
+    budget_kept s.inputs c.put_quantum.new.list.items s.closed (drop (s.looked + c.in_ok-looked.looked) s.wishes.items) c.tend-owns.new.self (kept_on c)
+
+pub returns-then-not-runnable-clause-budget : goal.returns-then-not-runnable-clause-budget
+returns-then-not-runnable-clause-budget c =
+    let s = c.self.inside in
+    subst (λ (x : SessionData). KeepsBudget x.machine.core) c.self.view_is (budget_kept s.inputs s.quanta.items s.closed (drop s.looked s.wishes.items) s.desk c.self.invariant.0)
+
+pub returns-in_err-reserve-clause-budget : goal.returns-in_err-reserve-clause-budget
+returns-in_err-reserve-clause-budget c = let s = c.self.inside in budget_kept s.inputs s.quanta.items s.closed (drop s.looked s.wishes.items) s.desk c.self.invariant.0
+
+pub returns-in_err-looked-clause-budget : goal.returns-in_err-looked-clause-budget
+returns-in_err-looked-clause-budget c =
+    let s = c.self.inside in
+    subst (λ (x : Core). KeepsBudget x) (sym (ap (λ (t : Table). t.machine.state.core) c.in_err-looked.ensures.err))
+    (budget_kept s.inputs s.quanta.items s.closed (drop s.looked s.wishes.items) s.desk c.self.invariant.0)
+
+-- ---- what may follow
 
 pub returns-clause-going_on : goal.returns-clause-going_on
 returns-clause-going_on c halted =
-    not_halted c.args.self.now c.args.hart c.requires.going (c.runnable.ensures.open c.if-not-runnable.false) (c.runnable.ensures.few c.if-not-runnable.false) halted
+    not_halted c.args.self.now.inputs c.args.self.now.quanta c.args.self.now.closed c.args.hart c.requires.going (c.runnable.ensures.open c.if-not-runnable.false) (c.runnable.ensures.few c.if-not-runnable.false) halted

@@ -1,0 +1,88 @@
+-- A pair gets an instrument, or none.
+use Rattle.std.proofs.Common.{◌≡◌, ℕ, ◌+◌, ◌<◌, ◌≤◌, ◌^◌, List, [], ◌∷◌, ◌++◌, Option, None, Ok, Err, refl, sym, ap, ◌∙◌, subst, arith, length, inr}
+use Rattle.std.specs.Prelude.{cond, is_some, ◌⊎◌}
+use Rattle.std.proofs.lemmas.Bool.{cond_both}
+use Rattle.std.proofs.lemmas.List.{length-append}
+use Rattle.pn_types.specs.declared.plan.Plan.{Plan}
+use Rattle.prim_code.specs.Counts.{predicted}
+use Rattle.instrument.specs.Needs.{need_of, without}
+use Rattle.instrument.specs.Placements.{admission}
+use Rattle.instrument.specs.Scenes.{Admits, admits}
+use Rattle.instrument.specs.declared.number.InstrumentNo.{InstrumentNo}
+use Rattle.instrument.specs.declared.number.Refused.{Refused}
+use Rattle.instrument.proofs.Numbers.{admits as admits_one}
+use Rattle.instrumented.specs.Instrumented.{Instrumented, done, in_scene, scene_of}
+use Rattle.instrumented.proofs.Acts.{done_is}
+use Rattle.session_spec.specs.Inputs.{Inputs, planned}
+use Rattle.session_spec.specs.Tests.{words_by, words_of}
+use Rattle.session_kits.specs.declared.kit.Kit.{Kit}
+use Rattle.session_kits.specs.Kits.{AreLive}
+use Rattle.session_kits.proofs.Live.{live_done, live_put}
+use Rattle.session.specs.declared.candidate.Candidate.{Candidate}
+use Rattle.session.specs.Candidates.{IsCandidate, IsPlanned, IsShort, new_kit}
+use Rattle.session.specs.Outcomes.{IsStep}
+use Rattle.session.specs.Tables.{IsMore, IsNew, IsStill, Table}
+use Rattle.session.proofs.Steps.{none_more, one_more}
+
+-- ---- its pair
+
+pub kit_new : (i : Inputs) (plan : Plan) (c : Candidate) (number : InstrumentNo) → IsCandidate i plan c → c.fault ≡ None → IsNew i (new_kit i plan c number)
+unfolding words_of
+kit_new i plan c number k none =
+    let p : (planned i c.metric c.focus ≡ Ok plan) × IsShort i plan = subst (λ o. IsPlanned i c.metric c.focus o plan) none k.planned in
+    record {
+      last = refl;
+      hist = k.hist;
+      harts = refl;
+      within = k.within;
+      cost = ap (λ n. cond (is_some c.node) n 0) (sym (ap words_by p.0));
+      low = cond_both (is_some c.node) (predicted plan) 0 (λ n. n < 2 ^ 32) (λ _. k.words) (λ _. omega arith);
+    }
+
+-- a refused admission changes nothing
+pub refused_same : (m : Instrumented) (plan : Plan) (limit : Option ℕ) (refused : Refused) → admission m.placer plan limit ≡ Err refused → done (Admits plan limit) m ≡ m
+refused_same m plan limit refused e = done_is (Admits plan limit) m ∙ ap (λ r. in_scene (admits plan r (scene_of m)).scene) e
+
+-- with an instrument more
+pub live_more : (m new : Instrumented) (plan : Plan) (limit : Option ℕ) (kits : List Kit) (live : List ℕ) (k : Kit) → AreLive m.placer kits live → admission m.placer plan limit ≡ Ok new.placer → k.shown.instrument.n ≡ m.placer.count
+    → new ≡ done (Admits plan limit) m → AreLive new.placer (kits ++ k ∷ []) (live ++ length kits ∷ [])
+live_more m new plan limit kits live k a e n is =
+    let later : AreLive new.placer kits live = subst (λ (x : Instrumented). AreLive x.placer kits live) (sym is) (live_done m kits live a (Admits plan limit) tt) in
+    live_put new.placer kits live k later (omega (arith, n, ((admits_one m.placer plan limit new.placer e).0).count))
+
+-- ---- a step
+
+-- what the step leaves of the table
+still_of : (old new : Table) → new ≡ record old { machine = new.machine; kits = new.kits; live = new.live; room = new.room } → new.machine.state.core ≡ old.machine.state.core → IsStill old new
+still_of old new e core =
+    let g : Table → Table = λ x. record old { machine = new.machine; refused = x.refused; kits = new.kits; live = new.live; search = x.search; room = new.room; worked = x.worked } in
+    record { same = e ∙ ap g (sym e); core = core; rules = ap (λ (x : Table). x.search.rules) e }
+
+-- there is one pair more
+pub step_more : (i : Inputs) (plan : Plan) (k : Kit) (view old new : Table) → view ≡ old → IsNew i k → new.kits ≡ view.kits ++ k ∷ [] → view.room ≤ new.room + 1 → new.machine.ready ≡ without (need_of plan) view.machine.ready
+    → AreLive new.machine.state.placer new.kits new.live → new ≡ record view { machine = new.machine; kits = new.kits; live = new.live; room = new.room } → new.machine.state.core ≡ view.machine.state.core → IsStep i plan old new
+step_more i plan k view old new is n kits room ready live e core =
+    subst (λ (x : Table). IsStep i plan x new) is
+    (record {
+      kits = subst (IsMore i view.kits) (sym kits) (one_more i view.kits k n);
+      few = omega (arith, ap (λ (l : List Kit). length l) kits, length-append view.kits (k ∷ []));
+      room = room;
+      ready = inr ready;
+      live = live;
+      still = still_of view new e core;
+    })
+
+-- there are the same pairs
+pub step_same : (i : Inputs) (plan : Plan) (view old new : Table) → view ≡ old → (new.machine.ready ≡ view.machine.ready) ⊎ (new.machine.ready ≡ without (need_of plan) view.machine.ready) → AreLive new.machine.state.placer view.kits view.live
+    → new ≡ record view { machine = new.machine } → new.machine.state.core ≡ view.machine.state.core → IsStep i plan old new
+step_same i plan view old new is ready live e core =
+    subst (λ (x : Table). IsStep i plan x new) is
+    (subst (IsStep i plan view) (sym e)
+    (record {
+      kits = none_more i view.kits;
+      few = omega arith;
+      room = omega arith;
+      ready = ready;
+      live = live;
+      still = record { same = refl; core = core; rules = refl };
+    }))

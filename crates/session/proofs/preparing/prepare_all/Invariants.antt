@@ -1,6 +1,0 @@
-use Rattle.std.specs.Prelude.{take}
-use Rattle.session.specs.Tables.{AreCandidates}
-use Rattle.session.proofs.preparing.prepare_all.Given as goal
-
-abbrev pub invariant-loop-wish : goal.invariant-loop-wish
-invariant-loop-wish l = AreCandidates l.fn.inputs (take l.wish-index l.fn.wishes) l.plans.items l.candidates.items

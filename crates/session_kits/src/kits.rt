@@ -1,0 +1,71 @@
+//! Pairs in the order of their admission.
+
+ghost use Rattle.std.specs.Prelude.{◌≡◌, ◌++◌, ◌∷◌, [], ◌<◌, ◌≤◌, false, slice_get, vec_capacity, vec_len};
+ghost use Rattle.std.specs.Option.{option_map_or};
+ghost use Rattle.session_kits.specs.Kits.{is_gone_test, live_of};
+
+use crate::kit::Kit;
+use instrument::State;
+use instrumented::InstrumentedMachine;
+
+/// Pairs in the order of their admission.
+#[derive(Drop)]
+pub struct Kits {
+    /// All of them.
+    pub all: Vec<Kit>,
+    /// The places of those that were wished, and of the tests that aren't gone, ascending. One that is gone may stand among them for
+    /// a while.
+    pub live: Vec<usize>,
+}
+
+/// Whether a pair is a test whose instrument is gone.
+fn is_gone_test(machine: &InstrumentedMachine, kit: &Kit) -> bool
+    ensures { result ≡ is_gone_test machine.now.state.placer kit.now }
+{
+    kit.shown.node.is_some() && matches!(machine.state(kit.shown.instrument), State::Gone)
+}
+
+/// Whether the pair at a place, if there is one, is a test whose instrument is gone.
+fn is_gone_at(machine: &InstrumentedMachine, kits: &[Kit], place: usize) -> bool
+    ensures { result ≡ option_map_or (is_gone_test machine.now.state.placer) (slice_get kits.now place) false }
+{
+    match kits.get(place) {
+        Some(kit) => is_gone_test(machine, kit),
+        None => false,
+    }
+}
+
+/// Keeps those of these places that are no test's whose instrument is gone.
+fn retain_live(machine: &InstrumentedMachine, kits: &[Kit], live: &mut Vec<usize>)
+    ensures live { live.new.items ≡ live_of machine.now.state.placer kits.now live.old.items }
+    ensures less { vec_len live.new ≤ vec_len live.old }
+    ensures capacity { vec_capacity live.new ≡ vec_capacity live.old }
+{
+    live.retain(|place| !is_gone_at(machine, kits, *place));
+}
+
+impl Kits {
+    /// Puts a pair behind the others, for which there is room.
+    pub fn put(&mut self, kit: Kit)
+        requires room { vec_len self.old.all < vec_capacity self.old.all }
+        requires live_room { vec_len self.old.live < vec_capacity self.old.live }
+        ensures all { self.new.all.items ≡ self.old.all.items ++ kit ∷ [] }
+        ensures live { self.new.live.items ≡ self.old.live.items ++ vec_len self.old.all ∷ [] }
+        ensures capacity { vec_capacity self.old.all ≤ vec_capacity self.new.all }
+        ensures live_capacity { vec_capacity self.old.live ≤ vec_capacity self.new.live }
+    {
+        let place = self.all.len();
+        let _room = self.live.push(place);
+        let _room = self.all.push(kit);
+    }
+
+    /// Forgets tests whose instruments are gone, so that they cost nothing from now on.
+    pub fn forget_gone(&mut self, machine: &InstrumentedMachine)
+        ensures all { self.new.all ≡ self.old.all }
+        ensures live { self.new.live.items ≡ live_of machine.now.state.placer self.old.all.items self.old.live.items }
+        ensures less { vec_len self.new.live ≤ vec_len self.old.live }
+        ensures capacity { vec_capacity self.new.live ≡ vec_capacity self.old.live }
+    {
+        retain_live(machine, &self.all, &mut self.live);
+    }
+}
