@@ -1,17 +1,20 @@
 -- What the statements of a checked configuration are within.
-use Rattle.std.specs.Prelude.{◌≡◌, ◌<◌, ◌≤◌, Bool, true, false, Some, List, length}
+use Rattle.std.specs.Prelude.{◌≡◌, ◌<◌, ◌≤◌, Bool, true, false, Some, Ok, List, length}
 use Rattle.std.specs.List.{AllByRecursion}
-use Rattle.mdl_ast.specs.Small.{IsSmallRight, greatest_number}
+use Rattle.mdl_ast.specs.Small.{HasSmall, IsSmallRight, greatest_number}
 use Rattle.mdl_ast.specs.declared.action.Action.{Action}
 use Rattle.mdl_ast.specs.declared.action.Action.TheVariants.{Up, Down, Put, Start, Stop}
 use Rattle.mdl_ast.specs.declared.action.LeftName.{LeftName}
 use Rattle.mdl_ast.specs.declared.action.LeftName.TheVariants.{Variable, Argument}
 use Rattle.mdl_ast.specs.declared.action.Statement.{Statement}
 use Rattle.mdl_ast.specs.declared.block.Block.{Block}
+use Rattle.mdl_ast.specs.declared.items.Item.{Item}
 use Rattle.mdl_ast.specs.declared.metric.Metric.{Metric}
 use Rattle.mdl_ast.specs.declared.metric.Constraint.{Constraint}
+use Rattle.mdl_check.specs.Checking.{IsAnswer}
 use Rattle.mdl_check.specs.Names.{constraint_named}
 use Rattle.mdl_check.specs.declared.checked.Checked.{Checked}
+use Rattle.resource_tree.specs.Resources.{Resources}
 
 -- a condition on a variable that is a counter, or on one of the arguments 0 to 7
 abbrev pub LeftFits : Bool → LeftName → Type 0
@@ -53,3 +56,8 @@ pub record IsSound (c : Checked) : Type 0 where
   pub metrics : AllByRecursion IsSoundMetric c.metrics
   pub constraints : AllByRecursion IsSoundConstraint c.constraints
   pub replacements : AllByRecursion (TakesFitting c.constraints) c.metrics
+
+-- what the check accepts is sound, where the numbers of its statements are small, as those of parsed and shipped items are
+abbrev pub CheckedIsSound : Type 0
+CheckedIsSound = (t : Resources) (shipped items : List Item) (checked : Checked) → IsAnswer t shipped items (Ok checked)
+    → AllByRecursion HasSmall shipped → AllByRecursion HasSmall items → IsSound checked

@@ -3,7 +3,7 @@
 ghost use Rattle.std.specs.Prelude.{◌≡◌, ◌<◌, ◌^◌, ◌++◌, [], IfOk, OnOk, flat_map, length};
 ghost use Rattle.std.specs.List.{AllByRecursion};
 ghost use Rattle.mdl_ast.specs.Small.{HasSmall};
-ghost use Rattle.mdl_check.specs.Sound.{IsSound};
+ghost use Rattle.mdl_check.specs.Sound.{CheckedIsSound, IsSound};
 ghost use Rattle.mdl_check.specs.Placed.{placed_items};
 ghost use Rattle.mdl_check.specs.Ancestors.{CyclicIsOwnAncestor};
 ghost use Rattle.mdl_check.specs.Checking.{IsAnswer, OneAnswer, sync_of, prefixes_of};
@@ -84,6 +84,11 @@ pub fn one_answer()
 {
     one_reading();
 }
+
+/// What the check accepts is sound, where the numbers of its statements are small, as those of parsed and shipped items are.
+pub fn checked_is_sound()
+    ensures { CheckedIsSound }
+{}
 
 /// The check calls an item cyclic exactly if it is its own ancestor, however far above.
 pub fn own_ancestors()

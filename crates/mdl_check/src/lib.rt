@@ -18,5 +18,5 @@ mod uses;
 mod wrong;
 
 pub use checked::{Checked, CheckedWish};
-pub use configuration::{check, one_answer, own_ancestors, prefixes};
+pub use configuration::{check, checked_is_sound, one_answer, own_ancestors, prefixes};
 pub use fault::{CheckFault, CheckKind};
