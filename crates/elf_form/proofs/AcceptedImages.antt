@@ -16,7 +16,8 @@ use Rattle.elf_form.specs.Segments.{load_faults, lowest_shared, overlap_fault, s
 use Rattle.elf_form.specs.Texts.{text_range, text_fault, range_fault, is_entry}
 use Rattle.elf_form.specs.Symbols.{symbols_of}
 use Rattle.elf_form.specs.Meaning.{Tables, tables_of, fault_with, image_with, unless_fault, meaning_with, meaning_of, segments_of, start_of, length_of}
-use Rattle.elf_form.specs.Accepted.{IsAccepted, IsNamed, IsBytes}
+use Rattle.outside.specs.Outside.{IsBytes}
+use Rattle.elf_form.specs.Accepted.{IsAccepted, IsNamed}
 use Rattle.elf_form.specs.declared.fault.ElfFault.{ElfFault}
 use Rattle.elf_form.specs.declared.fault.ElfFault.TheVariants.{TooBig}
 use Rattle.elf_form.specs.declared.load.Load.{Load}

@@ -8,7 +8,8 @@ use Rattle.byteorder.specs.Numbers.{little_from-lt}
 use Rattle.elf_form.specs.Fields.{field, table, symbol_entry_of}
 use Rattle.elf_form.specs.Symbols.{kind_of, is_file, is_local, name_at, module_of, symbol_of, symbols_from, is_of_program, with_program_last, symbols_of, symbols_in, symbol_table, table_symbols, strings_of, section_bytes, entries_of}
 use Rattle.pn_types.specs.GoodNames.{is_good_name, program_module}
-use Rattle.elf_form.specs.Accepted.{IsNamed, IsBytes}
+use Rattle.outside.specs.Outside.{IsBytes}
+use Rattle.elf_form.specs.Accepted.{IsNamed}
 use Rattle.elf_form.specs.declared.section.SectionHeader.{SectionHeader}
 use Rattle.elf_form.specs.declared.symbol.SymbolEntry.{SymbolEntry}
 use Rattle.pn_types.specs.declared.image.SymKind.{SymKind}

@@ -1,5 +1,5 @@
 -- What every image of an ELF file has.
-use Rattle.std.specs.Prelude.{◌≡◌, ℕ, ◌+◌, ◌^◌, ◌<◌, not, ◌==◌, true, None, List, length, sum_by, slice_index}
+use Rattle.std.specs.Prelude.{◌≡◌, ℕ, ◌+◌, ◌^◌, ◌<◌, not, ◌==◌, true, None, List, length, sum_by}
 use Rattle.std.specs.List.{AllByRecursion, list_all}
 use Rattle.rv_word.specs.Names.{words_of, scratch_in}
 use Rattle.pn_types.specs.GoodNames.{is_good_name}
@@ -8,10 +8,6 @@ use Rattle.pn_types.specs.declared.image.Image.{Image}
 use Rattle.pn_types.specs.declared.image.Symbol.{Symbol}
 use Rattle.elf_form.specs.Texts.{is_entry}
 use Rattle.elf_form.specs.Symbols.{with_program_last}
-
--- each is a byte
-abbrev pub IsBytes : List ℕ → Type 0
-IsBytes b = (i : ℕ) → slice_index b i < 256
 
 -- the name of a symbol has no zero byte, and its module is a good name
 pub record IsNamed (s : Symbol) : Type 0 where

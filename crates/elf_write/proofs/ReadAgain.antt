@@ -11,7 +11,8 @@ use Rattle.elf_form.specs.Segments.{segments_fault}
 use Rattle.elf_form.specs.Texts.{text_range, text_fault}
 use Rattle.elf_form.specs.Symbols.{symbols_fault, symbols_of, table_fault, section_bytes, is_short, entries_of as entries_read_of, is_ended, symbols_from, with_program_last}
 use Rattle.elf_form.specs.Meaning.{Tables, tables_of, fault_with, image_with, unless_fault, meaning_with, meaning_of, start_of, length_of}
-use Rattle.elf_form.specs.Accepted.{IsAccepted, IsBytes}
+use Rattle.outside.specs.Outside.{IsBytes}
+use Rattle.elf_form.specs.Accepted.{IsAccepted}
 use Rattle.elf_form.proofs.AcceptedImages.{accepted}
 use Rattle.pn_types.specs.GoodNames.{program_module}
 use Rattle.pn_types.specs.Images.{IsSegment}

@@ -13,7 +13,8 @@ use Rattle.pn_types.specs.declared.image.Image.{Image}
 use Rattle.pn_types.specs.declared.image.Symbol.{Symbol}
 use Rattle.elf_form.specs.Symbols.{is_of_program}
 use Rattle.elf_form.specs.Meaning.{meaning_of}
-use Rattle.elf_form.specs.Accepted.{IsBytes, IsNamed, names_len}
+use Rattle.outside.specs.Outside.{IsBytes}
+use Rattle.elf_form.specs.Accepted.{IsNamed, names_len}
 use Rattle.elf_form.proofs.AcceptedImages.{accepted}
 use Rattle.elf_form.proofs.Countable.{few_symbols}
 use Rattle.elf_write.specs.Symbols.{entry_with, file_entry, entries_after, local_entries, locals_of, globals_of, entries_of, null_entry, names_of, string_table}

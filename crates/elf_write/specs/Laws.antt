@@ -1,7 +1,8 @@
 -- What is written, read again.
 use Rattle.std.specs.Prelude.{◌≡◌, ℕ, ◌≤◌, Ok, List, length}
 use Rattle.elf_form.specs.Meaning.{meaning_of}
-use Rattle.elf_form.specs.Accepted.{IsAccepted, IsBytes, names_len}
+use Rattle.outside.specs.Outside.{IsBytes}
+use Rattle.elf_form.specs.Accepted.{IsAccepted, names_len}
 use Rattle.elf_write.specs.Layout.{elf_bytes, CanWrite}
 use Rattle.pn_types.specs.declared.image.Image.{Image}
 

@@ -14,7 +14,8 @@ front_more (Some (Some file)) bytes buf n front gives =
     let len = length-append bytes (take n buf) ∙ ap (λ k. length bytes + k) piece in
     let parts = take-add (length bytes) n file in
     let bytes_are = gives.bytes in
-    rw len (cc)
+    let so_far = front.0 in
+    (rw len (cc), λ some. gives.are)
 
 -- the same, from what one turn of a reading knows
 pub front_step : (holding now : Holding) (bytes buf piece new : List ℕ) (at n : ℕ) →

@@ -1,5 +1,5 @@
 -- What a reading of a file gives, and what a writing to a sink leaves.
-use Rattle.std.specs.Prelude.{◌≡◌, ◌≢◌, ℕ, ◌≤◌, ◌<◌, ⊤, List, [], length, take, drop, Option, None, Some, Result, Ok, Err, MatchResult, ◌==◌, if◌then◌else◌, IfOk, IsSome}
+use Rattle.std.specs.Prelude.{◌≡◌, ◌≢◌, ℕ, ◌≤◌, ◌<◌, ⊤, List, [], length, take, drop, slice_index, Option, None, Some, Result, Ok, Err, MatchResult, ◌==◌, if◌then◌else◌, IfOk, IsSome}
 use Rattle.std.specs.Io.KnownBytes.{append_known}
 use Rattle.outside.specs.Causes.{Rose, count_up}
 
@@ -7,8 +7,13 @@ use Rattle.outside.specs.Causes.{Rose, count_up}
 abbrev pub Holding : Type 0
 Holding = Option (Option (List ℕ))
 
--- The n bytes at the front of the buffer are the file's from `at` on; none come only at or past the end.
+-- Each is a byte.
+abbrev pub IsBytes : List ℕ → Type 0
+IsBytes b = (i : ℕ) → slice_index b i < 256
+
+-- The n bytes at the front of the buffer are the file's from `at` on; none come only at or past the end. What is told of a file are bytes.
 pub record GivesBytes (file : List ℕ) (at n : ℕ) (buf : List ℕ) : Type 0 where
+  pub are : IsBytes file
   pub bytes : take n (drop at file) ≡ take n buf
   pub inside : n ≤ length (drop at file)
   pub end : n ≡ 0 → length file ≤ at
@@ -32,11 +37,11 @@ Gains old new result piece =
 abbrev pub Counts : {E : Type 0} → ℕ → ℕ → Result ℕ E → Type 0
 Counts before now result = IfOk result (λ n. (n ≡ 0 → Rose before now) × (n ≢ 0 → now ≡ before))
 
--- These bytes are the front of what the file holds, where that is told.
+-- These bytes are the front of what the file holds, where that is told; where there are some, all of it are bytes.
 abbrev pub HasFront : Holding → List ℕ → Type 0
 HasFront None bytes = ⊤
 HasFront (Some None) bytes = bytes ≡ []
-HasFront (Some (Some file)) bytes = take (length bytes) file ≡ bytes
+HasFront (Some (Some file)) bytes = (take (length bytes) file ≡ bytes) × (1 ≤ length bytes → IsBytes file)
 
 -- These bytes are all that the file holds, and it is there, where that is told.
 abbrev pub IsWhole : Holding → List ℕ → Type 0
@@ -48,7 +53,7 @@ IsWhole (Some (Some file)) bytes = bytes ≡ file
 abbrev pub IsLonger : Holding → ℕ → Type 0
 IsLonger None most = ⊤
 IsLonger (Some None) most = ⊥
-IsLonger (Some (Some file)) most = most < length file
+IsLonger (Some (Some file)) most = (most < length file) × IsBytes file
 
 -- A reading of a name left what every file holds, and raised no count but that of the name, where others are told.
 pub record ReadsOnly {F : Type 0} (holds : F → List ℕ → Holding) (faults : F → List ℕ → ℕ)

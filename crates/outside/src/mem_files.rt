@@ -1,7 +1,7 @@
 ghost use Rattle.std.specs.Prelude.{◌≡◌, ◌≢◌, ◌↔◌, ◌<◌, ◌-◌, ◌++◌, List, [], ℕ, Some, None, IsErr, IfOk, OnOk, OnErr, length, min, take, drop, option_map, unwrap_or, IsSomeAnd};
 ghost use Rattle.std.specs.Io.{ReadsAtMost};
 ghost use Rattle.outside.specs.Causes.{HasCause};
-ghost use Rattle.outside.specs.Outside.{Gives, IsCalm, ReadsOnly};
+ghost use Rattle.outside.specs.Outside.{Gives, IsBytes, IsCalm, ReadsOnly};
 ghost use Rattle.outside.specs.GivenFile.{FailsNext, after_reading, new_file};
 ghost use Rattle.outside.specs.MemFiles.{content_in, faults_in, file_of, held_in};
 
@@ -60,6 +60,7 @@ impl MemFile {
             n ≡ min (length buf.old) (length (unwrap_or self.old.bytes []) - at)) }
         ensures filled { IfOk result (λ n.
             buf.new ≡ take n (drop at (unwrap_or self.old.bytes [])) ++ drop n buf.old) }
+        ensures are { OnOk result (IsBytes (unwrap_or self.old.bytes [])) }
         ensures after { self.new ≡ after_reading self.old result }
         ensures cause { HasCause self.old.faults self.new.faults result }
     {

@@ -1,6 +1,7 @@
 //! Steps that several files and sinks share.
 ghost use Rattle.std.specs.Prelude.{◌≡◌, ◌≤◌, ◌↔◌, ◌-◌, ◌++◌, IsTrue, Contains, length, min, take, drop};
 ghost use Rattle.outside.specs.Causes.{count_up};
+ghost use Rattle.outside.specs.Outside.{IsBytes};
 
 // Raises a count, which stops at the last number of its type.
 pub(crate) fn count_up(count: &mut u64)
@@ -21,6 +22,7 @@ pub(crate) fn is_to_fail(fails: &[u64], call: u64) -> bool
 pub(crate) fn copy_from(bytes: &[u8], at: u64, buf: &mut [u8]) -> usize
     ensures count { result ≡ min (length buf.old) (length bytes.now - at) }
     ensures copied { buf.new ≡ take result (drop at bytes.now) ++ drop result buf.old }
+    ensures are { IsBytes bytes.now }
 {
     let start = (at as usize).min(bytes.len());
     let count = buf.len().min(bytes.len() - start);

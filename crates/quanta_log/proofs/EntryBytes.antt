@@ -13,7 +13,7 @@ use Rattle.pn_types.specs.declared.quantum.Quantum.{Quantum}
 use Rattle.quanta_log.specs.Fields.{entry_len, entry_fields, number}
 use Rattle.quanta_log.specs.Meaning.{quantum_at, quanta_at, entry_fault, entries_fault}
 use Rattle.quanta_log.specs.Spelling.{entry, IsQuantum, CanSpell}
-use Rattle.quanta_log.specs.Laws.{IsBytes}
+use Rattle.outside.specs.Outside.{IsBytes}
 use Rattle.quanta_log.proofs.CheckLemmas.{each_none, none_at_all, all_lie, no_faults}
 use Rattle.quanta_log.proofs.NumberLemmas.{number-drop, number-front, number_step}
 

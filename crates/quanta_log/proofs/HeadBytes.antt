@@ -14,7 +14,7 @@ use Rattle.quanta_log.specs.declared.version.Version.TheVariants.{One, Two}
 use Rattle.quanta_log.specs.Fields.{magic, head_len, most_harts, head_fields, number}
 use Rattle.quanta_log.specs.Meaning.{begins_as, version_of, harts_of, count_of, start_of, settings_of, head_fault}
 use Rattle.quanta_log.specs.Spelling.{start_number, shared_head, head, IsPlain}
-use Rattle.quanta_log.specs.Laws.{IsBytes}
+use Rattle.outside.specs.Outside.{IsBytes}
 use Rattle.quanta_log.proofs.CheckLemmas.{all_lie, no_faults}
 use Rattle.quanta_log.proofs.NumberLemmas.{number_step}
 

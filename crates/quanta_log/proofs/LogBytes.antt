@@ -13,7 +13,7 @@ use Rattle.quanta_log.specs.declared.fault.LogFault.TheVariants.{Short, Trailing
 use Rattle.quanta_log.specs.Fields.{head_len, entry_len, log_len, most_harts}
 use Rattle.quanta_log.specs.Meaning.{version_of, harts_of, count_of, settings_of, quanta_at, fault_where, head_fault, entries_fault, log_fault, unless_fault, meaning_as, meaning_of}
 use Rattle.quanta_log.specs.Spelling.{head, entry, spelled, IsQuantum, CanSpell}
-use Rattle.quanta_log.specs.Laws.{IsBytes}
+use Rattle.outside.specs.Outside.{IsBytes}
 use Rattle.quanta_log.proofs.CheckLemmas.{each_none, none_at_all, not_less, at_least}
 use Rattle.quanta_log.proofs.EntryBytes.{AreGood, entries_again, entries_spelled}
 use Rattle.quanta_log.proofs.HeadBytes.{IsHead, head_again, head_spelled}

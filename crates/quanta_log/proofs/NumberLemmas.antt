@@ -6,7 +6,7 @@ use Rattle.std.specs.Int.{byte_at, bytes_low_first}
 use Rattle.byteorder.specs.Endian.{little_from, little_number, little_bytes}
 use Rattle.byteorder.specs.Numbers.{little_from-cons, little_number-reads_back, little_from-lt}
 use Rattle.quanta_log.specs.Fields.{number}
-use Rattle.quanta_log.specs.Laws.{IsBytes}
+use Rattle.outside.specs.Outside.{IsBytes}
 
 pub IsBytes-drop : (n : ℕ) (b : List ℕ) → IsBytes b → IsBytes (drop n b)
 IsBytes-drop n b h i = rw get_or-drop (h (n + i))

@@ -1,14 +1,11 @@
 -- That reading and writing of logs are each other's inverse.
-use Rattle.std.specs.Prelude.{◌≡◌, ℕ, ◌<◌, Ok, Some, List, slice_index}
+use Rattle.std.specs.Prelude.{◌≡◌, ℕ, Ok, Some, List}
+use Rattle.outside.specs.Outside.{IsBytes}
 use Rattle.pn_types.specs.declared.settings.Settings.{Settings}
 use Rattle.quanta_log.specs.declared.version.Version.{Version}
 use Rattle.pn_types.specs.declared.quantum.Quantum.{Quantum}
 use Rattle.quanta_log.specs.Spelling.{spelled, CanSpell}
 use Rattle.quanta_log.specs.Meaning.{meaning_of, version_of}
-
--- each is a byte
-abbrev pub IsBytes : List ℕ → Type 0
-IsBytes b = (i : ℕ) → slice_index b i < 256
 
 -- what is spelled means what was spelled
 abbrev pub IsReadAgain : Type 0

@@ -2,7 +2,8 @@ use Rattle.std.proofs.Common.{◌≡◌, ℕ, ◌<◌, ◌^◌, List, length, ap
 use Rattle.std.proofs.lemmas.Result.{MatchResult-weaker}
 use Rattle.std.specs.Prelude.{◌≢◌, IfOk, MatchResult, Result, Ok, Err}
 use Rattle.elf_form.proofs.AcceptedImages.{accepted, good_modules}
-use Rattle.elf_form.specs.Accepted.{IsAccepted, IsBytes}
+use Rattle.outside.specs.Outside.{IsBytes}
+use Rattle.elf_form.specs.Accepted.{IsAccepted}
 use Rattle.elf_form.specs.Meaning.{meaning_of}
 use Rattle.elf_form.specs.Segments.{loads_from}
 use Rattle.elf_form.specs.declared.fault.ElfFault.{ElfFault}
