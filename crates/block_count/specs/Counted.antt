@@ -1,18 +1,15 @@
 -- What is answered of the blocks of a program: how its own run, which the definitions run on the unpatched machine, passes them.
-use Rattle.std.specs.Prelude.{◌≡◌, ℕ, ◌<◌, ◌≤◌, ◌%◌, ◌^◌, ◌==◌, Bool, true, false, Option, Some, None, List, length, map}
+use Rattle.std.specs.Prelude.{◌≡◌, ℕ, ◌<◌, ◌≤◌, ◌%◌, ◌^◌, ◌==◌, Option, Some, None, List, length, map}
 use Rattle.std.specs.List.{count_by}
 use Rattle.std.specs.Option.{option_map}
 use Rattle.pn_types.specs.declared.code.Proc.{Proc}
 use Rattle.pn_types.specs.declared.image.Image.{Image}
-use Rattle.pn_types.specs.declared.stop.StopText.{StopText}
-use Rattle.pn_types.specs.declared.stop.StopText.TheVariants as ended
-use Rattle.rv_word.specs.declared.outcome.Cause.{Cause}
-use Rattle.rv_word.specs.declared.outcome.Cause.TheVariants as cause
 use Rattle.rv_word.specs.Plain.{PlainHart, may_go}
 use Rattle.rv_exec.specs.Run.{Position, run, trace, IsLegal}
 use Rattle.machine.specs.Cores.{start_core}
 use Rattle.machine.specs.Replays.{Legal, owns, replay}
 use Rattle.machine.specs.Same.{SameProgram}
+use Rattle.report.specs.HartEnds.{hart_end}
 use Rattle.block_count.specs.CountedBlocks.{counted_blocks_of, counters_of}
 use Rattle.block_count.specs.Course.{Pace, block_events}
 use Rattle.block_count.specs.declared.counts.Counts.{Counts}
@@ -23,20 +20,9 @@ use Rattle.block_count.specs.declared.counted_block.CountedBlock.{CountedBlock}
 
 -- ---- harts
 
--- how a hart ended: it stopped; or it could still go on, and the run was cut; or its ticks reached the budget
-abbrev pub ended_by : Option Cause → Bool → StopText
-ended_by None true = ended.Cut
-ended_by None false = ended.Budget
-ended_by (Some (cause.Exit status)) going = ended.Exit status
-ended_by (Some cause.Illegal) going = ended.Illegal
-ended_by (Some cause.Break) going = ended.Break
-ended_by (Some cause.Misaligned) going = ended.Misaligned
-ended_by (Some (cause.Access at)) going = ended.Access at
-ended_by (Some (cause.TextAccess at)) going = ended.TextAccess at
-ended_by (Some cause.FetchOutside) going = ended.FetchOutside
-
+-- how a hart ended, and where
 abbrev pub stop_of : ℕ → PlainHart → HartStop
-stop_of budget x = record { stop = ended_by x.stop (may_go (Some x) budget); pc = x.pc }
+stop_of budget x = record { stop = hart_end x.stop (may_go (Some x) budget); pc = x.pc }
 
 -- ---- counts
 
@@ -50,11 +36,15 @@ passes_of trace s = option_map (λ _. positions_at s.head.at trace % 2 ^ 64) s.c
 
 -- ---- the answer
 
+-- a hart has slots for so many counters
+abbrev pub most_counters : ℕ
+most_counters = 4094
+
 -- There are at most as many counters as slots. The events can happen when they come. Their ticks are a run of the unpatched program,
 -- and the patched machine is that program's state behind it. The ticks and stops are those of this run, and a block's count is the
 -- number of the run's positions at the block's head, modulo 2^64. A block whose first word can't be moved has none.
 pub record IsCounted (image : Image) (procs : List Proc) (budget : ℕ) (p : Pace) (r : Counts) : Type 0 where
-  pub few : length (counters_of image procs) ≤ 4094
+  pub few : length (counters_of image procs) ≤ most_counters
   pub legal : Legal (block_events image procs budget p) (start_core image p.harts budget)
   pub turns : List ℕ
   pub owned : turns ≡ owns (block_events image procs budget p) (start_core image p.harts budget)
@@ -67,4 +57,4 @@ pub record IsCounted (image : Image) (procs : List Proc) (budget : ℕ) (p : Pac
 -- More blocks have counters than there are slots: there are so many.
 abbrev pub IsFault : Image → List Proc → CountFault → Type 0
 IsFault image procs fault.NoMemory = Unit {0}
-IsFault image procs (fault.TooManyBlocks n) = (length (counters_of image procs) ≡ n) × (4094 < n)
+IsFault image procs (fault.TooManyBlocks n) = (length (counters_of image procs) ≡ n) × (most_counters < n)

@@ -5,14 +5,14 @@ use Rattle.tramp_spec.specs.Harts.{Hart}
 use Rattle.machine.specs.Cores.{Core}
 use Rattle.machine.specs.Places.{program_pc}
 use Rattle.machine.specs.Instruments.{reading}
-use Rattle.block_count.specs.Counted.{ended_by}
+use Rattle.report.specs.HartEnds.{hart_end}
 use Rattle.block_count.specs.Counters.{Counter, placed_of}
 use Rattle.block_count.specs.declared.counts.HartStop.{HartStop}
 use Rattle.block_count.specs.declared.counted_block.CountedBlock.{CountedBlock}
 
 -- how a hart ended
 abbrev pub stop_seen : ℕ → Core → Hart → HartStop
-stop_seen budget c x = record { stop = ended_by x.stop (nat_lt x.ticks budget); pc = program_pc c.code c.rows x }
+stop_seen budget c x = record { stop = hart_end x.stop (nat_lt x.ticks budget); pc = program_pc c.code c.rows x }
 
 abbrev pub stops_seen : ℕ → Core → List HartStop
 stops_seen budget c = map (stop_seen budget c) c.harts

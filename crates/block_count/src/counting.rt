@@ -17,11 +17,11 @@ use crate::placing::{arm_all, place_all};
 use crate::reading::{counts, stops, ticks};
 use crate::turns::take_turns;
 use machine::Machine;
-use pn_types::{Image, MAX_BUDGET, MAX_HARTS, NoMemory, Proc, Seq};
+use pn_types::{BANK_LEN, FIRST_SLOT, Image, MAX_BUDGET, MAX_HARTS, NoMemory, Proc, Seq};
 use std::alloc::Global;
 
 /// How many counters there can be: a hart has as many slots.
-const MAX_COUNTERS: usize = 4_094;
+const MAX_COUNTERS: usize = (BANK_LEN - FIRST_SLOT) as usize;
 
 /// The machine in which an image starts, with all counters placed and armed.
 fn begun(

@@ -2,15 +2,14 @@
 
 ghost use Rattle.std.specs.Prelude.{◌≡◌, ◌+◌, ◌<◌, ◌≤◌, ◌%◌, ◌^◌, length, map, nat_lt, sum, slice_get, Some, IfOk, OnOk};
 ghost use Rattle.machine.specs.Events.{IsQuiet};
-ghost use Rattle.block_count.specs.Counted.{ended_by};
 ghost use Rattle.block_count.specs.Readings.{counter_read, counts_read, stop_seen, stops_seen, ticks_seen};
 
 use crate::counted_block::CountedBlock;
 use crate::counter::Counter;
 use crate::counts::HartStop;
 use machine::{Machine, Sample};
-use pn_types::{HartNo, MAX_HARTS, NoMemory, Seq, StopText};
-use rv_word::Cause;
+use pn_types::{HartNo, MAX_HARTS, NoMemory, Seq};
+use report::hart_end;
 use std::alloc::Global;
 
 /// How many words each hart executed.
@@ -26,23 +25,6 @@ pub fn ticks(alloc: Global, machine: &Machine, harts: u32) -> Result<Vec<u64>, N
     Ok(ticks)
 }
 
-/// How a hart ended.
-fn ended(stop: Option<Cause>, going: bool) -> StopText
-    ensures { result ≡ ended_by stop going }
-{
-    match stop {
-        None if going => StopText::Cut,
-        None => StopText::Budget,
-        Some(Cause::Exit(status)) => StopText::Exit(status),
-        Some(Cause::Illegal) => StopText::Illegal,
-        Some(Cause::Break) => StopText::Break,
-        Some(Cause::Misaligned) => StopText::Misaligned,
-        Some(Cause::Access(at)) => StopText::Access(at),
-        Some(Cause::TextAccess(at)) => StopText::TextAccess(at),
-        Some(Cause::FetchOutside) => StopText::FetchOutside,
-    }
-}
-
 /// How a hart ended, and where.
 fn hart_stop(machine: &Machine, budget: u64, hart: HartNo) -> HartStop
     requires { hart < length machine.now.core.harts }
@@ -50,7 +32,7 @@ fn hart_stop(machine: &Machine, budget: u64, hart: HartNo) -> HartStop
 {
     let going = machine.ticks(hart) < budget;
     HartStop {
-        stop: ended(machine.stop(hart), going),
+        stop: hart_end(machine.stop(hart), going),
         pc: machine.at(hart),
     }
 }

@@ -4,8 +4,6 @@ use Rattle.std.specs.Prelude.{◌&&◌, Bool, Option, None, cond, false, true, i
 use Rattle.std.proofs.Math.Seq.{take-suc}
 use Rattle.std.proofs.lemmas.List.{append-nil, append_assoc}
 use Rattle.std.proofs.lemmas.Option.{slice_get_within, get_or_from_slice_get}
-use Rattle.rv_word.specs.declared.outcome.Cause.{Cause}
-use Rattle.rv_word.specs.declared.outcome.Cause.TheVariants as cause
 use Rattle.rv_word.specs.Exec.{Prog}
 use Rattle.rv_word.specs.Plain.{PlainHart}
 use Rattle.tramp_spec.specs.Harts.{Hart}
@@ -20,7 +18,9 @@ use Rattle.session_spec.specs.declared.data.Shown.{Shown}
 use Rattle.session_spec.specs.States.{Kept, State}
 use Rattle.session_spec.proofs.Runs.{is_run}
 use Rattle.session_kits.specs.declared.kit.Kit.{Kit}
-use Rattle.session.specs.Parts.{ended_by, hart_part, parts_of, program_of_run, refused_part, search_part, shown_part, shown_parts}
+use Rattle.report.proofs.HartEnds.{same_end}
+use Rattle.report.specs.HartEnds.{hart_end}
+use Rattle.session.specs.Parts.{hart_part, parts_of, program_of_run, refused_part, search_part, shown_part, shown_parts}
 use Rattle.session.specs.Seen.{hart_seen, kit_parts, parts_by, table_parts}
 use Rattle.session.specs.Tables.{AreFolded, IsTableOf, Table, lasts_in, shown_in}
 
@@ -33,24 +33,13 @@ one_more {A} xs old new n x before at e =
 
 -- ---- harts
 
--- of a hart that isn't stopped the ticks tell whether it can go on
-same_stop : (o : Option Cause) (below : Bool) → ended_by o below ≡ ended_by o (is_none o && below)
-same_stop None below = refl
-same_stop (Some (cause.Exit status)) below = refl
-same_stop (Some cause.Illegal) below = refl
-same_stop (Some cause.Break) below = refl
-same_stop (Some cause.Misaligned) below = refl
-same_stop (Some (cause.Access at)) below = refl
-same_stop (Some (cause.TextAccess at)) below = refl
-same_stop (Some cause.FetchOutside) below = refl
-
 same_part : (budget : ℕ) (c : Core) (x : Hart) (y : PlainHart) → SameHart c x y → hart_seen budget c x ≡ hart_part budget y
 same_part budget c x y s =
     let seen = hart_seen budget c x in
     let part = hart_part budget y in
-    ap (λ n. record seen { ticks = n; stop = ended_by x.stop (nat_lt n budget) }) s.ticks
-    ∙ ap (λ o. record seen { ticks = y.ticks; stop = ended_by o (nat_lt y.ticks budget) }) s.stop
-    ∙ ap (λ e. record seen { ticks = y.ticks; stop = e }) (same_stop y.stop (nat_lt y.ticks budget))
+    ap (λ n. record seen { ticks = n; stop = hart_end x.stop (nat_lt n budget) }) s.ticks
+    ∙ ap (λ o. record seen { ticks = y.ticks; stop = hart_end o (nat_lt y.ticks budget) }) s.stop
+    ∙ ap (λ e. record seen { ticks = y.ticks; stop = e }) (same_end y.stop (nat_lt y.ticks budget))
     ∙ ap (λ p. record part { pc = p }) s.pc
 
 abbrev AreSame : Core → List Hart → List PlainHart → Type 0

@@ -1,10 +1,6 @@
 -- What a report shows of a session.
 use Rattle.std.specs.Prelude.{ℕ, zero, suc, nat_le, if◌then◌else◌, Bool, true, false, List, [], ◌∷◌, ◌++◌, Option, None, Some, codes, is_none, length, map, slice_get}
 use Rattle.std.specs.Option.{option_map_or}
-use Rattle.pn_types.specs.declared.stop.StopText.{StopText}
-use Rattle.pn_types.specs.declared.stop.StopText.TheVariants as ended
-use Rattle.rv_word.specs.declared.outcome.Cause.{Cause}
-use Rattle.rv_word.specs.declared.outcome.Cause.TheVariants as cause
 use Rattle.rv_word.specs.Plain.{PlainHart, Plain, may_go}
 use Rattle.rv_exec.specs.Run.{run}
 use Rattle.fold_hist.specs.Bins.{Histogram, hist_of}
@@ -15,6 +11,7 @@ use Rattle.mdl_ast.specs.declared.items.SearchDecl.{SearchDecl}
 use Rattle.resource_tree.specs.Foci.{canonical}
 use Rattle.w3_search.specs.Nodes.{most_nodes}
 use Rattle.w3_search.specs.declared.node.Node.{Node}
+use Rattle.report.specs.HartEnds.{hart_end}
 use Rattle.report.specs.declared.parts.HartPart.{HartPart}
 use Rattle.report.specs.declared.parts.NodePart.{NodePart}
 use Rattle.report.specs.declared.parts.RefusedPart.{RefusedPart}
@@ -28,20 +25,9 @@ use Rattle.session_spec.specs.States.{State}
 
 -- ---- harts
 
--- how a hart ended: it stopped; or it could still go on, and the run was cut; or its ticks reached the budget
-abbrev pub ended_by : Option Cause → Bool → StopText
-ended_by None true = ended.Cut
-ended_by None false = ended.Budget
-ended_by (Some (cause.Exit status)) going = ended.Exit status
-ended_by (Some cause.Illegal) going = ended.Illegal
-ended_by (Some cause.Break) going = ended.Break
-ended_by (Some cause.Misaligned) going = ended.Misaligned
-ended_by (Some (cause.Access at)) going = ended.Access at
-ended_by (Some (cause.TextAccess at)) going = ended.TextAccess at
-ended_by (Some cause.FetchOutside) going = ended.FetchOutside
-
+-- a hart: its ticks, how it ended and where
 abbrev pub hart_part : ℕ → PlainHart → HartPart
-hart_part budget x = record { ticks = x.ticks; stop = ended_by x.stop (may_go (Some x) budget); pc = x.pc }
+hart_part budget x = record { ticks = x.ticks; stop = hart_end x.stop (may_go (Some x) budget); pc = x.pc }
 
 -- ---- metrics at foci
 

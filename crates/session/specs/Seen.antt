@@ -10,12 +10,13 @@ use Rattle.report.specs.declared.parts.ShownPart.{ShownPart}
 use Rattle.session_spec.specs.declared.data.Shown.{Shown}
 use Rattle.session_spec.specs.Inputs.{Inputs}
 use Rattle.session_kits.specs.declared.kit.Kit.{Kit}
-use Rattle.session.specs.Parts.{ended_by, refused_part, search_part, shown_part}
+use Rattle.report.specs.HartEnds.{hart_end}
+use Rattle.session.specs.Parts.{refused_part, search_part, shown_part}
 use Rattle.session.specs.Tables.{Table}
 
 -- a hart of the patched machine
 abbrev pub hart_seen : ℕ → Core → Hart → HartPart
-hart_seen budget c x = record { ticks = x.ticks; stop = ended_by x.stop (nat_lt x.ticks budget); pc = program_pc c.code c.rows x }
+hart_seen budget c x = record { ticks = x.ticks; stop = hart_end x.stop (nat_lt x.ticks budget); pc = program_pc c.code c.rows x }
 
 -- those that have a histogram
 abbrev pub parts_by : Inputs → Shown → Option Histogram → List ShownPart

@@ -2,7 +2,7 @@
 
 ghost use Rattle.std.specs.Prelude.{◌≡◌, ◌≤◌, ◌<◌, IfOk, Some, length, map, slice_get};
 ghost use Rattle.std.specs.Option.{option_map};
-ghost use Rattle.session.specs.Parts.{ended_by, metric_of, name_of, refused_part, shown_part, units_of};
+ghost use Rattle.session.specs.Parts.{metric_of, name_of, refused_part, shown_part, units_of};
 ghost use Rattle.session.specs.Seen.{hart_seen, kit_parts, table_parts};
 
 use crate::desk::Desk;
@@ -11,29 +11,11 @@ use crate::node_parts::search_part;
 use fold_hist::Hist;
 use instrumented::InstrumentedMachine;
 use mdl_ast::Metric;
-use pn_types::{HartNo, MAX_HARTS, NoMemory, Seq, Settings, StopText, Text};
-use report::{HartPart, RefusedPart, ReportParts, ShownPart};
-use rv_word::Cause;
+use pn_types::{HartNo, MAX_HARTS, NoMemory, Seq, Settings, Text};
+use report::{HartPart, RefusedPart, ReportParts, ShownPart, hart_end};
 use session_kits::Kit;
 use session_spec::{RefusedWish, Shown};
 use std::alloc::Global;
-
-/// How a hart ended, as a report says it.
-fn stop_text(stop: Option<Cause>, going: bool) -> StopText
-    ensures { result ≡ ended_by stop going }
-{
-    match stop {
-        None if going => StopText::Cut,
-        None => StopText::Budget,
-        Some(Cause::Exit(status)) => StopText::Exit(status),
-        Some(Cause::Illegal) => StopText::Illegal,
-        Some(Cause::Break) => StopText::Break,
-        Some(Cause::Misaligned) => StopText::Misaligned,
-        Some(Cause::Access(at)) => StopText::Access(at),
-        Some(Cause::TextAccess(at)) => StopText::TextAccess(at),
-        Some(Cause::FetchOutside) => StopText::FetchOutside,
-    }
-}
 
 /// What a report shows of a hart.
 fn hart_part(machine: &InstrumentedMachine, budget: u64, hart: HartNo) -> HartPart
@@ -44,7 +26,7 @@ fn hart_part(machine: &InstrumentedMachine, budget: u64, hart: HartNo) -> HartPa
     HartPart {
         ticks,
         // A hart inside a trampoline is runnable past its budget, so the ticks tell whether the program's could go on.
-        stop: stop_text(machine.stop(hart), ticks < budget),
+        stop: hart_end(machine.stop(hart), ticks < budget),
         pc: machine.at(hart),
     }
 }

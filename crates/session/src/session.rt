@@ -193,14 +193,13 @@ impl Session {
         desk_parts(self.alloc, &self.inputs, &self.desk)
     }
 
-    /// What holds of it: each of its quanta was allowed when it came; its machine is the one that the definitions say; and that came
-    /// about by events of which each could happen, is the unpatched program's behind a legal run of it, and so has its memory, output,
-    /// ticks and stops. What was recorded for an
-    /// instrument, and what its part of a report shows, follows from its arming on, and is what its plan measures on that run; so is
-    /// what was told of it; and each sample is a difference of readings. Where all wishes are for the opening, and none drops a pair,
-    /// that is so of the whole run. The search's nodes are a history; each verdict is that of the program's own run, by the samples of
-    /// an instrument of the node's own; each barred node was barred when its turn came; behind the end each node has a verdict, or says
-    /// why not; and what is under test costs no more than the limit, at each moment.
+    /// What holds of it: each of its quanta was allowed when it came; its machine is the one that the definitions say; and that came about
+    /// by events of which each could happen, is the unpatched program's behind a legal run of it, and so has its memory, output, ticks and
+    /// stops. What was recorded for an instrument, and what its part of a report shows, follows from its arming on, and is what its plan
+    /// measures on that run; so is what was told of it; and each sample is a difference of readings. Where all wishes are for the opening,
+    /// and none drops a pair, that is so of the whole run. The search's nodes are a history; each verdict is that of the program's own run,
+    /// by the samples of an instrument of the node's own; each barred node was barred when its turn came; behind the end each node has a
+    /// verdict, or says why not; and what is under test costs no more than the limit, at each moment.
     pub fn laws(&self)
         ensures allowed { AreAllowed self.now.inputs self.now.quanta }
         ensures machine { self.now.machine ≡ (state_of self.now).kept.machine }
