@@ -1,6 +1,7 @@
 -- Lists of quanta that workers took, each of which takes its harts in turn.
-use Rattle.std.specs.Prelude.{◌≡◌, ◌≢◌, ℕ, ◌+◌, ◌%◌, ◌<◌, ◌==◌, List, [], ◌∷◌, ◌++◌, Bool, true, false}
+use Rattle.std.specs.Prelude.{◌≡◌, ◌≢◌, ℕ, ◌+◌, ◌%◌, ◌<◌, ◌≤◌, ◌==◌, List, [], ◌∷◌, ◌++◌, Bool, true, false}
 use Rattle.std.specs.List.{AllByRecursion}
+use Rattle.pn_types.specs.declared.limits.TheConstants.{MAX_QUANTUM, MAX_WORKERS}
 use Rattle.pn_types.specs.declared.quantum.Quantum.{Quantum}
 use Rattle.session_spec.specs.Inputs.{Inputs}
 use Rattle.session_spec.specs.Work.{IsWhole}
@@ -25,3 +26,7 @@ pub record IsByWorkers (workers turns : ℕ) (quanta : List Quantum) : Type 0 wh
 pub record IsShared (i : Inputs) (workers turns : ℕ) (quanta : List Quantum) : Type 0 where
   pub whole : IsWhole i quanta
   pub by_workers : IsByWorkers workers turns quanta
+
+-- There is one, for any number of workers.
+abbrev pub SomeShared : Type 0
+SomeShared = (i : Inputs) (workers turns : ℕ) → 1 ≤ workers → workers ≤ MAX_WORKERS → 1 ≤ turns → turns ≤ MAX_QUANTUM → (quanta : List Quantum) × IsShared i workers turns quanta

@@ -4,3 +4,4 @@ pub mod OneSeeded
 pub mod Logged
 pub mod Fitting
 pub mod Following
+pub mod SomeSeeded

@@ -56,7 +56,7 @@ pub halted : (i : Inputs) (quanta : List Quantum) (h : ℕ) → may_go i quanta 
 unfolding Halted
 halted i quanta h e = inl e
 
-full : (i : Inputs) (quanta : List Quantum) (h : ℕ) → MAX_QUANTA ≤ length quanta → Halted i quanta h
+pub full : (i : Inputs) (quanta : List Quantum) (h : ℕ) → MAX_QUANTA ≤ length quanta → Halted i quanta h
 unfolding Halted
 full i quanta h l = inr l
 

@@ -1,5 +1,6 @@
 -- The order in which harts take their quanta, where nothing but a seed tells it.
-use Rattle.std.specs.Prelude.{◌≡◌, ℕ, Some, List, [], ◌∷◌}
+use Rattle.std.specs.Prelude.{◌≡◌, ℕ, ◌≤◌, Some, List, [], ◌∷◌}
+use Rattle.pn_types.specs.declared.limits.TheConstants.{MAX_QUANTUM}
 use Rattle.turn_order.specs.declared.order.Order.{Order}
 use Rattle.turn_order.specs.Orders.{order_after, order_of_seed, picked}
 use Rattle.pn_types.specs.declared.quantum.Quantum.{Quantum}
@@ -23,3 +24,7 @@ pub record IsSeeded (i : Inputs) (seed turns : ℕ) (quanta : List Quantum) : Ty
 -- there is at most one
 abbrev pub OneSeeded : Type 0
 OneSeeded = (i : Inputs) (seed turns : ℕ) (quanta others : List Quantum) → IsSeeded i seed turns quanta → IsSeeded i seed turns others → quanta ≡ others
+
+-- there is one
+abbrev pub SomeSeeded : Type 0
+SomeSeeded = (i : Inputs) (seed turns : ℕ) → 1 ≤ turns → turns ≤ MAX_QUANTUM → (quanta : List Quantum) × IsSeeded i seed turns quanta

@@ -8,7 +8,7 @@ mod recorded;
 mod replay;
 mod summed;
 
-pub use laws::{one_seeded, whole_quanta_fit};
+pub use laws::{one_seeded, some_seeded, whole_quanta_fit};
 pub use misfit::{Misfit, ReplayFault};
 pub use order::{Rounds, take_quanta};
 pub use recorded::{Course, Recorded, record_end, record_run};
