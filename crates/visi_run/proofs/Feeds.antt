@@ -1,6 +1,7 @@
 -- What a quantum and the end add to the samples.
-use Rattle.std.proofs.Common.{◌≡◌, ◌∙◌, ℕ, ◌+◌, ◌≤◌, [], ◌∷◌, ◌++◌, refl, sym, ap, subst, arith}
-use Rattle.std.specs.Prelude.{Bool, true, false, cond, nat_lt}
+use Rattle.std.proofs.Common.{◌≡◌, ◌≢◌, ◌⊎◌, inl, inr, ◌∙◌, ℕ, ◌+◌, ◌-◌, ◌^◌, ◌≤◌, List, [], ◌∷◌, ◌++◌, length, length-append, refl, sym, ap, subst, arith}
+use Rattle.std.specs.Prelude.{Bool, true, false, cond, min, nat_lt}
+use Rattle.std.proofs.lemmas.Bool.{cases_eq}
 use Rattle.pn_types.specs.declared.quantum.Quantum.{Quantum}
 use Rattle.session_spec.specs.Inputs.{Inputs}
 use Rattle.session_spec.specs.States.{State}
@@ -10,9 +11,11 @@ use Rattle.session_spec.specs.Verdicts.{with_search_end}
 use Rattle.session_spec.specs.Work.{closed, is_due, state_admitted, state_armed, state_done, state_ended, state_handed, state_judged, state_last, state_next, state_quiet, state_sampled, state_turned, tend, tests_now, work}
 use Rattle.session.specs.Sessions.{SessionData, begun, session_at, state_of}
 use Rattle.whole_run.proofs.Ordered.{work_push}
-use Rattle.visi_run.specs.Feed.{feed_of}
+use Rattle.session_spec.specs.declared.data.Latest.{Latest}
+use Rattle.visi_stream.specs.Readings.{MayFollow}
+use Rattle.visi_run.specs.Feed.{feed_of, last_reading, reading_of}
 use Rattle.visi_run.specs.Steps.{IsStep}
-use Rattle.visi_run.proofs.Sampling.{Same, admission_same, verdicts_same}
+use Rattle.visi_run.proofs.Sampling.{Same, admission_same, opened_early, verdicts_same}
 
 -- no samples were taken, and time went on
 record Idle (s t : State) : Type 0 where
@@ -153,7 +156,28 @@ pub feed_is : (s : SessionData) → s.closed ≡ true → (state_of s).feed ≡ 
 unfolding feed_of
 feed_is s e = ap (λ (x : State). x.feed) (closed_state s e)
 
+-- the gauge of a session that was closed
+pub last_is : (s : SessionData) → s.closed ≡ true → reading_of (state_of s) true ≡ last_reading s.inputs s.quanta
+unfolding last_reading
+last_is s e = ap (λ (x : State). reading_of x true) (closed_state s e)
+
 -- one that just began has none
 pub begun_feed : (s : SessionData) → s ≡ begun s.inputs → (state_of s).feed ≡ []
 unfolding work
 begun_feed s e = ap (λ (x : SessionData). (state_of x).feed) e
+
+-- it is at time 0
+pub begun_time : (s : SessionData) → s ≡ begun s.inputs → (state_of s).kept.time ≡ 0
+unfolding work
+begun_time s e = ap (λ (x : SessionData). (state_of x).kept.time) e ∙ opened_early s.inputs
+
+-- the gauge behind a step may follow the one before it
+pub reading_follows : (s t : State) (ended : Bool) → IsStep s t → MayFollow (reading_of s false) (reading_of t ended)
+reading_follows s t ended step = (refl, more, step.time)
+  where
+    longer : (t.kept.samples ≡ s.kept.samples) ⊎ (t.kept.samples ≢ s.kept.samples) → length s.feed ≤ length t.feed
+    longer (inl same) = omega (arith, ap (λ (l : List Latest). length l) (step.none same))
+    longer (inr risen) = omega (arith, ap (λ (l : List Latest). length l) (step.some risen), length-append s.feed t.latest)
+
+    more : min (length s.feed) (2 ^ 64 - 1) ≤ min (length t.feed) (2 ^ 64 - 1)
+    more = let l = longer (cases_eq t.kept.samples s.kept.samples) in grind arith

@@ -16,9 +16,11 @@ use Rattle.w3_search.specs.declared.node.NodeSample.{NodeSample}
 use Rattle.w3_search.specs.Nodes.{is_waiting, waiting_of}
 use Rattle.w3_search.specs.Steps.{search_step}
 use Rattle.session_spec.specs.declared.data.Shown.{Shown}
-use Rattle.session_spec.specs.Inputs.{Inputs, cause_of_plan, cause_of_refusal, planned}
+use Rattle.session_spec.specs.Inputs.{Inputs, cause_of_plan, cause_of_refusal, first_wishes, planned}
 use Rattle.session_spec.specs.Searches.{bar_of_plan, bar_of_refusal, metric_of, rules_of}
-use Rattle.session_spec.specs.States.{Kept}
+use Rattle.session_spec.specs.Due.{with_arms}
+use Rattle.session_spec.specs.Opening.{opened, wished, with_agenda, with_all}
+use Rattle.session_spec.specs.States.{Kept, first_kept}
 use Rattle.session_spec.specs.Admission.{shown_now, with_admission, with_answer, with_drop, with_plan, with_refused, with_show, with_wish, with_wishes}
 use Rattle.session_spec.specs.Tests.{barred, in_force, is_full, must_wait, taken_at_once, with_cost, with_node, with_nodes, with_plan_of, with_test, with_tests, with_waiting}
 use Rattle.session_spec.specs.Verdicts.{tester_of, with_verdicts, without_tester, without_tests}
@@ -135,3 +137,14 @@ unfolding with_verdicts
 verdicts_same samples k =
     let step = search_step k.time samples k.search in
     without_same step.drops (record k { search = step })
+
+-- ---- the opening
+
+all_same : (i : Inputs) (ws : List CheckedWish) (k : Kept) → Same k (with_all i ws k)
+all_same i [] k = (refl, refl)
+all_same i (w ∷ ws) k = both k (with_wish i w k) (with_all i ws (with_wish i w k)) (wish_same i w k) (all_same i ws (with_wish i w k))
+
+-- a session begins at time 0
+pub opened_early : (i : Inputs) → (opened i).time ≡ 0
+unfolding wished with_agenda with_arms
+opened_early i = (both (first_kept i) (wished i) (with_tests i (wished i)) (all_same i (first_wishes i) (first_kept i)) (tests_same i (wished i))).1

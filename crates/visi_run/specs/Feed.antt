@@ -1,11 +1,21 @@
--- The samples that the views of a run are given.
-use Rattle.std.specs.Prelude.{List}
+-- The samples that the views of a run are given, and how far they are told that it is.
+use Rattle.std.specs.Prelude.{ℕ, ◌-◌, ◌^◌, Bool, true, List, length, min}
 use Rattle.pn_types.specs.declared.quantum.Quantum.{Quantum}
 use Rattle.session_spec.specs.declared.data.Latest.{Latest}
 use Rattle.session_spec.specs.Inputs.{Inputs}
+use Rattle.session_spec.specs.States.{State}
 use Rattle.session_spec.specs.Work.{closed, work}
+use Rattle.visi_stream.specs.declared.dial.Reading.{Reading}
 
 -- The samples of what was wished that a session took behind these quanta and at its end, in the order in which they were taken, and of
 -- those that were taken together in the order of a report.
 unfoldable pub feed_of : Inputs → List Quantum → List Latest
 feed_of i quanta = (closed i (work i quanta)).feed
+
+-- How far a run is: how many samples were published, which a count of 64 bits tells up to its last number, and its clock.
+abbrev pub reading_of : State → Bool → Reading
+reading_of s ended = record { published = min (length s.feed) (2 ^ 64 - 1); ticks = s.kept.time; ended = ended }
+
+-- the reading at the end of these quanta
+unfoldable pub last_reading : Inputs → List Quantum → Reading
+last_reading i quanta = reading_of (closed i (work i quanta)) true

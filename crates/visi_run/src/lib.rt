@@ -1,6 +1,7 @@
 //! Runs of programs whose samples are streamed to view threads.
 #![tactic(auto)]
 
+mod board;
 mod outlet;
 mod run;
 mod seats;

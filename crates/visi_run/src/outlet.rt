@@ -1,21 +1,23 @@
 // Where a run is told of.
 
-ghost use Rattle.std.specs.Prelude.{◌≡◌, ◌≤◌, [], ◌∷◌, false, OnOk};
+ghost use Rattle.std.specs.Prelude.{◌≡◌, [], ◌∷◌, false, OnOk};
 ghost use Rattle.session.specs.Sessions.{begun, state_of};
 ghost use Rattle.visi_stream.specs.Readings.{first_reading};
+ghost use Rattle.visi_run.specs.Feed.{reading_of};
 ghost use Rattle.visi_run.specs.Steps.{IsBehind, IsTold};
 
+use crate::board::Board;
 use pn_types::NoMemory;
 use session::Session;
 use std::sync::Wait;
-use visi_stream::{Gauge, GaugeWriter, Publisher, Reading};
+use visi_stream::{GaugeWriter, Publisher, Reading};
 
 /// Tells the views of a run: its samples by the publisher, and how far it is by the gauge.
 #[derive(Drop)]
 pub struct Outlet {
     pub publisher: Publisher,
     pub writer: GaugeWriter,
-    /// How many samples were published.
+    /// How many samples were published, as far as the count goes.
     pub published: u64,
     /// How many times the session had taken samples by then.
     pub samples: u64,
@@ -27,7 +29,7 @@ impl Outlet {
         requires begun { session.now ≡ begun session.now.inputs }
         requires none { publisher.items ≡ [] }
         requires first { writer.list ≡ first_reading ∷ [] }
-        ensures told { IsTold result (state_of session.now) }
+        ensures told { IsTold result (state_of session.now) false }
         ensures same { (result.publisher.lines ≡ publisher.lines) × (result.writer.cell ≡ writer.cell) }
     {
         Outlet {
@@ -43,7 +45,7 @@ impl Outlet {
         requires { IsBehind self.old (state_of session.now) }
         ensures feed { OnOk result (self.new.publisher.items ≡ (state_of session.now).feed) }
         ensures samples { OnOk result (self.new.samples ≡ (state_of session.now).kept.samples) }
-        ensures more { self.old.published ≤ self.new.published }
+        ensures published { OnOk result (self.new.published ≡ (reading_of (state_of session.now) false).published) }
         ensures same { (self.new.publisher.lines ≡ self.old.publisher.lines) × (self.new.writer ≡ self.old.writer) }
     {
         let samples = session.samples();
@@ -57,7 +59,7 @@ impl Outlet {
         Ok(())
     }
 
-    /// Tells of the session's last step: publishes its samples, offers what waits, and sets the gauge.
+    /// Tells of the session's last step: publishes its samples, offers what waits, sets the gauge, and wakes the views.
     ///
     /// # Errors
     ///
@@ -65,14 +67,13 @@ impl Outlet {
     pub fn tell<R: Wait>(
         &mut self,
         rt: &R,
-        dial: &Gauge,
+        board: &Board,
         session: &Session,
         ended: bool,
     ) -> Result<(), NoMemory>
-        requires cell { self.old.writer.cell ≡ dial.now.cell }
+        requires cell { self.old.writer.cell ≡ board.now.gauge.cell }
         requires behind { IsBehind self.old (state_of session.now) }
-        ensures feed { OnOk result (self.new.publisher.items ≡ (state_of session.now).feed) }
-        ensures told { OnOk result (ended ≡ false → IsTold self.new (state_of session.now)) }
+        ensures told { OnOk result (IsTold self.new (state_of session.now) ended) }
         ensures same { (self.new.publisher.lines ≡ self.old.publisher.lines) × (self.new.writer.cell ≡ self.old.writer.cell) }
     {
         self.publish(session)?;
@@ -82,7 +83,8 @@ impl Outlet {
             ticks: session.time(),
             ended,
         };
-        dial.set(rt, &mut self.writer, reading);
+        board.gauge.set(rt, &mut self.writer, reading);
+        board.wake();
         Ok(())
     }
 }

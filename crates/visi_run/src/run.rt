@@ -7,15 +7,17 @@ ghost use Rattle.session.specs.Sessions.{begun, IsStartFault, state_of};
 ghost use Rattle.session_spec.specs.Opening.{bad_pick};
 ghost use Rattle.whole_run.specs.Rounds.{StandAt};
 ghost use Rattle.whole_run.specs.Seeded.{IsSeeded};
-ghost use Rattle.visi_run.specs.Feed.{feed_of};
-ghost use Rattle.visi_run.specs.Steps.{CanRun, HasRun, IsTold};
+ghost use Rattle.visi_run.specs.Feed.{feed_of, last_reading};
+ghost use Rattle.visi_run.specs.Steps.{HasRun, IsTold};
 ghost use Rattle.visi_run.specs.Viewed.{IsViewed};
 ghost use Rattle.visi_run.specs.Watching.{seat_lines, AreSeatsOf};
 
+use crate::board::Board;
 use crate::outlet::Outlet;
 use crate::seats::{follow_all, pair, part};
 use crate::text::visi_text;
 use crate::view::Seat;
+use outside::Gate;
 use pn_types::{MAX_HARTS, MAX_QUANTUM, NoMemory};
 use session::{Inputs, Session, StartFault};
 use session_spec::Latest;
@@ -23,7 +25,7 @@ use std::alloc::Global;
 use std::sync::Wait;
 use std::thread;
 use std::thread::Threads;
-use visi_stream::{Gauge, gather, gauge, streams};
+use visi_stream::{Reading, gather, gauge, streams};
 use whole_run::Rounds;
 
 /// For how many items the channel of a view has room.
@@ -40,98 +42,118 @@ pub struct ViewedCourse {
     pub views: u32,
 }
 
-/// Lets a session take the quanta that are left of the seed's, and tells of each.
+/// Lets a session take the quanta that are left of the seed's, each behind the gate, and tells of each.
 ///
 /// # Errors
 ///
 /// `NoMemory` where memory is wanting.
-fn take_all<R: Wait>(
+fn take_all<R: Wait, G: Gate>(
     rt: &R,
-    dial: &Gauge,
+    board: &Board,
     mut rounds: Rounds,
     session: &mut Session,
     outlet: &mut Outlet,
+    gate: &G,
 ) -> Result<(), NoMemory>
     requires at { StandAt rounds session.old }
-    requires cell { outlet.old.writer.cell ≡ dial.now.cell }
-    requires told { IsTold outlet.old (state_of session.old) }
+    requires cell { outlet.old.writer.cell ≡ board.now.gauge.cell }
+    requires told { IsTold outlet.old (state_of session.old) false }
     ensures inputs { session.new.inputs ≡ session.old.inputs }
     ensures going { session.new.closed ≡ false }
     ensures seeded { OnOk result (IsSeeded session.old.inputs rounds.seed rounds.turns session.new.quanta) }
-    ensures told { OnOk result (IsTold outlet.new (state_of session.new)) }
+    ensures told { OnOk result (IsTold outlet.new (state_of session.new) false) }
     ensures same { (outlet.new.publisher.lines ≡ outlet.old.publisher.lines) × (outlet.new.writer.cell ≡ outlet.old.writer.cell) }
 {
     'quanta: for _ in rt.forever() {
+        gate.pass(0, session.quanta().len() as u64);
         let Some(_) = rounds.next(session)? else {
             return Ok(());
         };
-        outlet.tell(rt, dial, session, false)?;
+        outlet.tell(rt, board, session, false)?;
     }
     unreachable!()
 }
 
-/// Runs a session that just began to its end, and tells of each step.
+/// Runs a session to its end in rounds, and tells of each step.
 ///
 /// # Errors
 ///
 /// `NoMemory` where memory is wanting.
-fn run<R: Wait>(
+fn run<R: Wait, G: Gate>(
     rt: &R,
-    alloc: Global,
-    dial: &Gauge,
-    course: ViewedCourse,
+    board: &Board,
+    rounds: Rounds,
     mut session: Session,
-    harts: u32,
     mut outlet: Outlet,
+    gate: &G,
 ) -> Result<(Session, Outlet), NoMemory>
-    requires can { CanRun course session harts }
-    requires cell { outlet.writer.cell ≡ dial.now.cell }
-    requires told { IsTold outlet (state_of session) }
-    ensures { IfOk result (λ r. HasRun session.inputs course outlet r.0 r.1) }
+    requires at { StandAt rounds session }
+    requires cell { outlet.writer.cell ≡ board.now.gauge.cell }
+    requires told { IsTold outlet (state_of session) false }
+    ensures { IfOk result (λ r. HasRun session.inputs rounds.seed rounds.turns outlet r.0 r.1) }
 {
-    let rounds = Rounds::begin(alloc, &session, harts, course.seed, course.turns)?;
-    take_all(rt, dial, rounds, &mut session, &mut outlet)?;
+    take_all(rt, board, rounds, &mut session, &mut outlet, gate)?;
     session.close();
-    outlet.tell(rt, dial, &session, true)?;
+    outlet.tell(rt, board, &session, true)?;
     Ok((session, outlet))
 }
 
-/// Runs a session that just began to its end before the views. It answers the session, which is closed, and what each view was given.
+/// What is left of a run before views.
+#[derive(Drop)]
+struct Streamed {
+    /// The session, which is closed.
+    session: Session,
+    /// What each view was given.
+    lists: Vec<Vec<Latest>>,
+    /// The last reading of the gauge.
+    last: Reading,
+}
+
+/// Runs a session that just began to its end before the views.
 ///
 /// # Errors
 ///
 /// `NoMemory` where memory is wanting, also to one view alone.
-fn stream<R: Threads + Wait + Sync>(
+fn stream<R: Threads + Wait + Sync, G: Gate + Sync>(
     rt: &R,
     alloc: Global,
     course: ViewedCourse,
     session: Session,
     harts: u32,
-) -> Result<(Session, Vec<Vec<Latest>>), NoMemory>
+    gate: &G,
+) -> Result<Streamed, NoMemory>
     requires begun { session ≡ begun session.inputs }
     requires harts { harts ≡ session.inputs.settings.harts }
     requires few { harts ≤ MAX_HARTS }
     requires turns { (1 ≤ course.turns) × (course.turns ≤ MAX_QUANTUM) }
     requires views { (1 ≤ course.views) × (course.views ≤ 8) }
-    ensures inputs { IfOk result (λ r. (r.0.inputs ≡ session.inputs) × (r.0.closed ≡ true)) }
-    ensures seeded { IfOk result (λ r. IsSeeded session.inputs course.seed course.turns r.0.quanta) }
-    ensures count { IfOk result (λ r. length r.1.items ≡ course.views) }
-    ensures feed { IfOk result (λ r. AllByRecursion (λ xs. xs ≡ feed_of session.inputs r.0.quanta) (map (λ v. v.items) r.1.items)) }
+    ensures inputs { IfOk result (λ r. (r.session.inputs ≡ session.inputs) × (r.session.closed ≡ true)) }
+    ensures seeded { IfOk result (λ r. IsSeeded session.inputs course.seed course.turns r.session.quanta) }
+    ensures count { IfOk result (λ r. length r.lists.items ≡ course.views) }
+    ensures feed { IfOk result (λ r. AllByRecursion (λ xs. xs ≡ feed_of session.inputs r.session.quanta) (map (λ v. v.items) r.lists.items)) }
+    ensures last { IfOk result (λ r. r.last ≡ last_reading session.inputs r.session.quanta) }
 {
     let (publisher, views) = streams(alloc, course.views, ROOM)?;
-    let (dial, writer, readers) = gauge(alloc, course.views)?;
-    let seats = pair(alloc, views, readers)?;
+    let (gauge, writer, readers) = gauge(alloc, course.views)?;
+    let (board, parkers) = Board::new(alloc, gauge, course.views)?;
+    let seats = pair(alloc, views, readers, parkers)?;
+    let rounds = Rounds::begin(alloc, &session, harts, course.seed, course.turns)?;
     let outlet = Outlet::new(publisher, writer, &session);
     let (ran, seats) = thread::join(
         rt,
         || -> Result<(Session, Outlet), NoMemory>
-            requires { CanRun course session harts × (outlet.writer.cell ≡ dial.cell) × IsTold outlet (state_of session) }
-            ensures { IfOk result (λ r. HasRun session.inputs course outlet r.0 r.1) }
-        { run(rt, alloc, &dial, course, session, harts, outlet) },
+            requires { StandAt rounds session × (outlet.writer.cell ≡ board.gauge.cell) × IsTold outlet (state_of session) false }
+            ensures { IfOk result (λ r. HasRun session.inputs rounds.seed rounds.turns outlet r.0 r.1) }
+        {
+            let ran = run(rt, &board, rounds, session, outlet, gate);
+            // Also where it failed, so that no view waits for ever.
+            board.end();
+            ran
+        },
         || -> Result<Vec<Seat>, NoMemory>
-            requires { AreSeatsOf dial.cell seats.items }
-            ensures { IfOk result (λ v. (seat_lines v.items ≡ seat_lines seats.items) × AreSeatsOf dial.cell v.items) }
-        { follow_all(rt, alloc, &dial, seats) },
+            requires { AreSeatsOf board.gauge.cell seats.items }
+            ensures { IfOk result (λ v. (seat_lines v.items ≡ seat_lines seats.items) × AreSeatsOf board.gauge.cell v.items) }
+        { follow_all(rt, alloc, &board, seats, gate) },
     );
     let (session, outlet) = ran?;
     let (views, readers) = part(alloc, seats?)?;
@@ -140,9 +162,13 @@ fn stream<R: Threads + Wait + Sync>(
         writer,
         ..
     } = outlet;
-    dial.close(rt, writer, readers);
+    let last = board.gauge.close(rt, writer, readers);
     let lists = gather(rt, alloc, publisher, views)?;
-    Ok((session, lists))
+    Ok(Streamed {
+        session,
+        lists,
+        last,
+    })
 }
 
 /// Runs a session that just began, and answers the text of what its views were given.
@@ -150,12 +176,13 @@ fn stream<R: Threads + Wait + Sync>(
 /// # Errors
 ///
 /// `NoMemory` where memory is wanting, also to one view alone.
-fn view_on<R: Threads + Wait + Sync>(
+fn view_on<R: Threads + Wait + Sync, G: Gate + Sync>(
     rt: &R,
     alloc: Global,
     course: ViewedCourse,
     session: Session,
     harts: u32,
+    gate: &G,
 ) -> Result<Vec<u8>, NoMemory>
     requires begun { session ≡ begun session.inputs }
     requires harts { harts ≡ session.inputs.settings.harts }
@@ -164,23 +191,31 @@ fn view_on<R: Threads + Wait + Sync>(
     requires views { (1 ≤ course.views) × (course.views ≤ 8) }
     ensures { IfOk result (λ text. IsViewed session.inputs course text.items) }
 {
-    let (session, lists) = stream(rt, alloc, course, session, harts)?;
-    session.laws();
-    let parts = session.parts()?;
-    visi_text(alloc, parts.shown.as_slice(), &lists)
+    let streamed = stream(rt, alloc, course, session, harts, gate)?;
+    streamed.session.laws();
+    let parts = streamed.session.parts()?;
+    visi_text(
+        alloc,
+        parts.shown.as_slice(),
+        &streamed.lists,
+        streamed.last.published,
+    )
 }
 
 /// Runs a program with its instruments, with quanta in the order of a seed as [`record_run`](whole_run::record_run) does, while view
 /// threads follow it, each of which is given all samples of what was wished. It answers the text of what each was given.
 ///
+/// The run passes the gate as worker 0 before its quantum number n, and view number v as worker v + 1 behind its item number n, both from 0.
+///
 /// # Errors
 ///
 /// `NoMemory` where memory is wanting, also to one view alone; `BadPick` with the first wish at tick 0 that is refused, if one is.
-pub fn view_run<R: Threads + Wait + Sync>(
+pub fn view_run<R: Threads + Wait + Sync, G: Gate + Sync>(
     rt: &R,
     alloc: Global,
     inputs: Inputs,
     course: &ViewedCourse,
+    gate: &G,
 ) -> Result<Vec<u8>, StartFault>
     requires given { AreGiven inputs }
     requires turns { (1 ≤ course.now.turns) × (course.now.turns ≤ MAX_QUANTUM) }
@@ -191,7 +226,7 @@ pub fn view_run<R: Threads + Wait + Sync>(
 {
     let harts = inputs.settings.harts;
     let session = Session::begin(alloc, inputs)?;
-    match view_on(rt, alloc, *course, session, harts) {
+    match view_on(rt, alloc, *course, session, harts, gate) {
         Ok(text) => Ok(text),
         Err(_) => Err(StartFault::NoMemory),
     }

@@ -6,36 +6,40 @@ ghost use Rattle.visi_stream.specs.Streams.{watch_lines};
 ghost use Rattle.visi_stream.specs.Gauges.{AreOf};
 ghost use Rattle.visi_run.specs.Watching.{IsSameSeat, seat_lines, AreSeatsOf};
 
+use crate::board::Board;
 use crate::view::{Seat, follow};
+use crossbeam_utils::sync::Parker;
+use outside::Gate;
 use pn_types::NoMemory;
 use std::alloc::Global;
 use std::sync::Wait;
 use std::thread;
 use std::thread::Threads;
-use visi_stream::{Gauge, GaugeReader, View};
+use visi_stream::{GaugeReader, View};
 
 /// Each view follows the run in a thread, if there is one to be had.
 ///
 /// # Errors
 ///
 /// `NoMemory` where memory is wanting, also to one view alone.
-pub fn follow_all<R: Threads + Wait + Sync>(
+pub fn follow_all<R: Threads + Wait + Sync, G: Gate + Sync>(
     rt: &R,
     alloc: Global,
-    dial: &Gauge,
+    board: &Board,
     seats: Vec<Seat>,
+    gate: &G,
 ) -> Result<Vec<Seat>, NoMemory>
-    requires { AreSeatsOf dial.now.cell seats.items }
+    requires { AreSeatsOf board.now.gauge.cell seats.items }
     ensures lines { IfOk result (λ v. seat_lines v.items ≡ seat_lines seats.items) }
-    ensures cell { IfOk result (λ v. AreSeatsOf dial.now.cell v.items) }
+    ensures cell { IfOk result (λ v. AreSeatsOf board.now.gauge.cell v.items) }
 {
     let results = thread::map_vec(
         rt,
         seats,
         &|seat: Seat| -> Result<Seat, NoMemory>
-            requires { seat.reader.cell ≡ dial.now.cell }
+            requires { seat.reader.cell ≡ board.now.gauge.cell }
             ensures { IfOk result (λ s. IsSameSeat seat s) }
-        { follow(rt, dial, seat) },
+        { follow(rt, board, seat, gate) },
     )?;
     let seats = all_seats(alloc, results)?;
     Ok(seats)
@@ -55,7 +59,7 @@ fn all_seats(alloc: Global, results: Vec<Result<Seat, NoMemory>>) -> Result<Vec<
     Ok(seats)
 }
 
-/// Each view gets a reader of the gauge.
+/// Each view gets a reader of the gauge, and what it sleeps by.
 ///
 /// # Errors
 ///
@@ -64,17 +68,29 @@ pub fn pair(
     alloc: Global,
     views: Vec<View>,
     mut readers: Vec<GaugeReader>,
+    mut parkers: Vec<Parker>,
 ) -> Result<Vec<Seat>, NoMemory>
-    requires { length views.items ≡ length readers.items }
+    requires readers { length views.items ≡ length readers.items }
+    requires parkers { length views.items ≡ length parkers.items }
     ensures lines { IfOk result (λ v. seat_lines v.items ≡ watch_lines views.items) }
     ensures cell { IfOk result (λ v. (cell : TableId) → AreOf cell readers.items → AreSeatsOf cell v.items) }
 {
     let mut seats = Vec::with_capacity(alloc, views.len())?;
+    let mut number = 0u32;
     for view in views {
         let Some(reader) = readers.pop() else {
             unreachable!();
         };
-        seats.push_reserved(Seat { view, reader });
+        let Some(parker) = parkers.pop() else {
+            unreachable!();
+        };
+        seats.push_reserved(Seat {
+            number,
+            view,
+            reader,
+            parker,
+        });
+        number = number.saturating_add(1);
     }
     Ok(seats)
 }
@@ -92,7 +108,7 @@ pub fn part(alloc: Global, seats: Vec<Seat>) -> Result<(Vec<View>, Vec<GaugeRead
     let mut views = Vec::with_capacity(alloc, seats.len())?;
     let mut readers = Vec::with_capacity(alloc, seats.len())?;
     for seat in seats {
-        let Seat { view, reader } = seat;
+        let Seat { view, reader, .. } = seat;
         views.push_reserved(view);
         readers.push_reserved(reader);
     }

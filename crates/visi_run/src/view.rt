@@ -3,44 +3,58 @@
 ghost use Rattle.std.specs.Prelude.{◌≡◌, IfOk};
 ghost use Rattle.visi_run.specs.Watching.{IsSameSeat};
 
+use crate::board::Board;
+use crossbeam_utils::sync::Parker;
+use outside::Gate;
 use pn_types::NoMemory;
 use std::sync::Wait;
-use std::thread;
-use visi_stream::{Gauge, GaugeReader, View};
+use visi_stream::{GaugeReader, View};
 
 /// A view's end of the stream, and its end of the gauge.
 #[derive(Drop)]
 pub struct Seat {
+    /// The view's number, from 0.
+    pub number: u32,
+    /// The end of its channel.
     pub view: View,
+    /// Its right to read the gauge.
     pub reader: GaugeReader,
+    /// What it sleeps by.
+    pub parker: Parker,
 }
 
-// After so many takes in a row that gave nothing the view leaves the rest to the end.
-const PATIENCE: u32 = 1_000_000;
-
-/// Takes items until the run has ended and none is left in the channel, or none comes for long.
+/// Takes items until the run has ended and none is left in the channel, and sleeps while there are none. It passes the gate behind each item.
 ///
 /// # Errors
 ///
 /// `NoMemory` where memory is wanting.
-pub fn follow<R: Wait>(rt: &R, dial: &Gauge, mut seat: Seat) -> Result<Seat, NoMemory>
-    requires { seat.reader.cell ≡ dial.now.cell }
+pub fn follow<R: Wait, G: Gate>(
+    rt: &R,
+    board: &Board,
+    mut seat: Seat,
+    gate: &G,
+) -> Result<Seat, NoMemory>
+    requires { seat.reader.cell ≡ board.now.gauge.cell }
     ensures { IfOk result (λ s. IsSameSeat seat s) }
 {
+    let worker = seat.number.saturating_add(1);
+    let mut items = 0u64;
     let mut ended = false;
-    let mut nones = 0u32;
     'follow: for _ in rt.forever() {
         if seat.view.take(rt)?.is_some() {
-            nones = 0;
+            gate.pass(worker, items);
+            items = items.saturating_add(1);
             continue;
         }
         // Nothing is offered behind the end: the view is given what still waits for it when all views have left.
-        if ended || nones >= PATIENCE {
+        if ended {
             break;
         }
-        ended = dial.read(rt, &mut seat.reader).ended;
-        nones = nones.saturating_add(1);
-        thread::yield_now();
+        ended = board.gauge.read(rt, &mut seat.reader).ended || board.is_over();
+        if !ended {
+            // The run wakes its views behind each step, also where that was between the take and here.
+            seat.parker.park(rt);
+        }
     }
     Ok(seat)
 }

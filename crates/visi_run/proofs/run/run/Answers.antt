@@ -2,10 +2,9 @@ use Rattle.std.proofs.Common.{◌∙◌, ap, subst, sym}
 use Rattle.session.specs.Sessions.{SessionData}
 use Rattle.session_spec.specs.Inputs.{Inputs}
 use Rattle.whole_run.specs.Seeded.{IsSeeded}
-use Rattle.whole_run.proofs.Ordered.{seeded_by}
 use Rattle.session.specs.Sessions.{state_of}
-use Rattle.visi_run.specs.Feed.{feed_of}
-use Rattle.visi_run.proofs.Feeds.{close_step, feed_is}
+use Rattle.visi_run.specs.Feed.{feed_of, last_reading}
+use Rattle.visi_run.proofs.Feeds.{close_step, feed_is, last_is}
 use Rattle.visi_run.proofs.run.run.Goals as goal
 
 pub tell-requires-clause-behind : goal.tell-requires-clause-behind
@@ -24,9 +23,9 @@ returns g c =
     record {
       inputs = inputs;
       closed = closed;
-      seeded = subst (λ l. IsSeeded c.args.session.inputs c.args.course.seed c.args.course.turns l) (sym quanta)
-          (seeded_by _ _ _ _ _ _ s.quanta (λ k. c.args.session.inputs) c.in_ok-rounds.ensures.same.0 c.in_ok-rounds.ensures.same.1 e.seeded);
-      feed = c.in_ok-tell.ensures.feed ∙ (feed_is t closed ∙ ap (λ (i : Inputs). feed_of i t.quanta) inputs);
+      seeded = subst (λ l. IsSeeded c.args.session.inputs c.args.rounds.seed c.args.rounds.turns l) (sym quanta) e.seeded;
+      feed = c.in_ok-tell.ensures.told.feed ∙ (feed_is t closed ∙ ap (λ (i : Inputs). feed_of i t.quanta) inputs);
+      last = c.in_ok-tell.ensures.told.last ∙ (last_is t closed ∙ ap (λ (i : Inputs). last_reading i t.quanta) inputs);
       lines = c.in_ok-tell.ensures.same.0 ∙ e.same.0;
       cell = c.in_ok-tell.ensures.same.1 ∙ e.same.1;
     }

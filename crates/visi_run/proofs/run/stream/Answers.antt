@@ -5,7 +5,7 @@ use Rattle.session_spec.specs.declared.data.Latest.{Latest}
 use Rattle.visi_stream.specs.Streams.{Watch}
 use Rattle.visi_stream.proofs.Desks.{same_length}
 use Rattle.visi_run.specs.declared.view.Seat.{Seat}
-use Rattle.visi_run.specs.Steps.{CanRun, HasRun}
+use Rattle.visi_run.specs.Steps.{HasRun}
 use Rattle.visi_run.specs.Watching.{AreSeatsOf, seat_lines}
 use Rattle.visi_run.proofs.run.stream.Goals as goal
 
@@ -13,8 +13,7 @@ pub join-ran-requires-after_bounds : goal.join-ran-requires-after_bounds
 join-ran-requires-after_bounds g c κs within =
     let d = c.in_ok-dial.ensures in
     let o = c.new-outlet.ensures in
-    let can : CanRun c.args.course c.args.session c.args.harts = record { new = c.requires.begun; harts = c.requires.harts; few = c.requires.few; turns = c.requires.turns } in
-    ((can, o.same.1 ∙ d.writer.0, o.told), (c.in_ok-seats.ensures.cell c.in_ok-dial.dial.cell d.fresh.0, record { shared = c.type_bounds.sync-R.shared }))
+    ((c.in_ok-rounds.ensures.at, o.same.1 ∙ d.writer.0, o.told), (c.in_ok-seats.ensures.cell c.in_ok-dial.dial.cell d.fresh.0, record { shared = c.type_bounds.sync-R.shared }))
 
 pub close-requires-clause-readers : goal.close-requires-clause-readers
 close-requires-clause-readers g c =
@@ -29,5 +28,5 @@ close-requires-clause-readers g c =
 
 pub returns-clause-feed : goal.returns-clause-feed
 returns-clause-feed g c =
-    let first : HasRun c.args.session.inputs c.args.course c.new-outlet.result c.in_ok-session.session c.in_ok-session.outlet = rw c.in_ok-session.was at c.join-ran.ensures.first in
+    let first : HasRun c.args.session.inputs c.in_ok-rounds.rounds.seed c.in_ok-rounds.rounds.turns c.new-outlet.result c.in_ok-session.session c.in_ok-session.outlet = rw c.in_ok-session.was at c.join-ran.ensures.first in
     subst (λ (l : List Latest). AllByRecursion (λ (xs : List Latest). xs ≡ l) (map (λ v. v.items) c.in_ok-lists.lists.items)) first.feed c.in_ok-lists.ensures.whole

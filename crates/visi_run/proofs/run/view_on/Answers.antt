@@ -19,15 +19,15 @@ use Rattle.visi_run.proofs.run.view_on.Goals as goal
 
 pub returns : goal.returns
 returns g c =
-    let s = c.in_ok-session.session in
-    let e = c.in_ok-session.ensures in
+    let s = c.in_ok-streamed.streamed.session in
+    let e = c.in_ok-streamed.ensures in
     let i = c.args.session.inputs in
-    let lists = map (λ v. v.items) c.in_ok-session.lists.items in
+    let lists = map (λ v. v.items) c.in_ok-streamed.streamed.lists.items in
     let feed = feed_of i s.quanta in
     let shown : c.as_slice.result.now ≡ shown_of i s.quanta =
     c.as_slice.ensures ∙ (ap (λ (p : ReportParts). p.shown) (c.in_ok-parts.ensures.parts ∙ ap (parts_of s.inputs) (closed_state s e.inputs.1)) ∙ ap (λ (j : Inputs). shown_of j s.quanta) e.inputs.0) in
     let given : lists ≡ replicate c.args.course.views feed =
-    all_same feed lists e.feed ∙ ap (λ n. replicate n feed) (length-map c.in_ok-session.lists.items (λ v. v.items) ∙ e.count) in
+    all_same feed lists e.feed ∙ ap (λ n. replicate n feed) (length-map c.in_ok-streamed.streamed.lists.items (λ v. v.items) ∙ e.count) in
     let state : state_of s ≡ closed i (work i s.quanta) = closed_state s e.inputs.1 ∙ ap (λ (j : Inputs). closed j (work j s.quanta)) e.inputs.0 in
     let recorded : AreRecorded i (closed i (work i s.quanta)) = subst (AreRecorded i) state (subst (λ (j : Inputs). AreRecorded j (state_of s)) e.inputs.0 c.laws.ensures.bins) in
     IfOk-weaker c.visi_text.result _ _

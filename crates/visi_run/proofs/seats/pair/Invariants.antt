@@ -12,6 +12,7 @@ invariant-loop-view l = record {
   seats : (cell : TableId) → AreOf cell l.fn.readers.items → AreSeatsOf cell l.seats.items;
   left : (cell : TableId) → AreOf cell l.fn.readers.items → AreOf cell l.readers.items;
   readers : length l.readers.items + length l.yielded ≡ length l.fn.views.items;
+  parkers : length l.parkers.items + length l.yielded ≡ length l.fn.views.items;
   count : vec_len l.seats ≡ length l.yielded;
   room : length l.fn.views.items ≤ vec_capacity l.seats;
 }
