@@ -13,11 +13,13 @@ use Rattle.mdl_check.specs.Checking.{IsAnswer}
 use Rattle.mdl_check.specs.declared.checked.Checked.{Checked}
 use Rattle.pn_types.specs.Texts.{axis_text}
 use Rattle.pn_types.specs.declared.focus.Axis.{Axis}
+use Rattle.pn_types.specs.declared.focus.Axis.TheVariants.{Code, Machine, SyncObject}
 use Rattle.pn_types.specs.declared.focus.Focus.{Focus}
 use Rattle.resource_tree.specs.Resources.{Resources}
 use Rattle.session.specs.Parts.{node_part}
 use Rattle.session_spec.specs.Inputs.{Inputs}
-use Rattle.w3_axes.specs.Refining.{finer_on, names_axis}
+use Rattle.w3_search.specs.History.{IsHistory}
+use Rattle.w3_search.specs.Steps.{SearchData}
 use Rattle.w3_search.specs.declared.node.Node.{Node}
 
 -- what the check says of what directives made of a configuration that it accepts
@@ -45,11 +47,21 @@ HypothesesAreDirected = (t : Resources) (shipped items : List Item) (directives 
     (number : ℕ) (h : Hypothesis) → slice_get checked.hypotheses number ≡ Some h →
     NoneIsPruned shipped items directives h × NoAxisIsPruned directives h × HasThreshold directives h
 
--- A node of a hypothesis has no children along an axis that was taken from the hypothesis: no foci just below are wanted there.
+-- ---- the nodes
+
+-- two foci with one part on an axis
+abbrev pub AreSameOn : Axis → Focus → Focus → Type 0
+AreSameOn Code f g = f.code ≡ g.code
+AreSameOn Machine f g = f.hart ≡ g.hart
+AreSameOn SyncObject f g = f.object ≡ g.object
+
+-- In a search of these hypotheses no node differs from its parent along an axis that was taken from its hypothesis.
 abbrev pub NoNodeGoesAlong : Type 0
 NoNodeGoesAlong = (t : Resources) (shipped items : List Item) (directives : List Directive) (checked : Checked) → IsDirected t shipped items directives checked →
-    (number : ℕ) (h : Hypothesis) → slice_get checked.hypotheses number ≡ Some h →
-    (axis : Axis) → list_any (λ d. is_axis_prune h.name (axis_text axis) d.act) directives ≡ true → (focus : Focus) → finer_on t focus (names_axis h.axes axis) axis ≡ []
+    (v : SearchData) → IsHistory v → v.rules.hypotheses ≡ checked.hypotheses →
+    (i number : ℕ) (n parent : Node) → slice_get v.nodes i ≡ Some n → n.parent ≡ Some number → slice_get v.nodes number ≡ Some parent →
+    (h : Hypothesis) → slice_get checked.hypotheses n.hypothesis ≡ Some h →
+    (axis : Axis) → list_any (λ d. is_axis_prune h.name (axis_text axis) d.act) directives ≡ true → AreSameOn axis n.focus parent.focus
 
 -- ---- the report
 
