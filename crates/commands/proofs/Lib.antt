@@ -11,3 +11,5 @@ mod Given
 mod Counted
 pub mod OneDue
 pub mod Rising
+mod Procs
+mod Runnable

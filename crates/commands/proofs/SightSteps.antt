@@ -4,7 +4,7 @@ use Rattle.std.specs.Prelude.{nat_lt, replicate}
 use Rattle.std.proofs.lemmas.Bool.{lt-ltb, le-ltb, cond-true, cond-false}
 use Rattle.std.proofs.lemmas.List.{length-replicate}
 use Rattle.outside.specs.Causes.{Rose}
-use Rattle.outside.specs.Outside.{Holding, IsWhole, IsLonger}
+use Rattle.outside.specs.Outside.{Holding, IsBytes, IsWhole, IsLonger}
 use Rattle.command_words.specs.Requests.{DirectRequest}
 use Rattle.directives.specs.declared.directive.Directive.{Directive}
 use Rattle.mdl_ast.specs.declared.items.Conf.{Conf}
@@ -24,11 +24,15 @@ use Rattle.commands.specs.declared.inputs.Inputs.{Inputs}
 use Rattle.commands.specs.declared.logs.Log.{Log}
 use Rattle.commands.specs.declared.texts.Texts.{Texts}
 
+-- zeros are bytes
+zeros : (n : ℕ) → IsBytes (replicate n 0)
+zeros n i = grind (arith, get_or-replicate)
+
 -- a file that is longer than so many bytes has some bytes
-pub some_longer : (holding : Holding) (most : ℕ) → IsLonger holding most → (bytes : List ℕ) × IsWhole holding bytes × (most < length bytes)
-some_longer None most h = (replicate (most + 1) 0, tt, omega (arith, length-replicate {A = ℕ} (most + 1) 0))
+pub some_longer : (holding : Holding) (most : ℕ) → IsLonger holding most → (bytes : List ℕ) × (IsWhole holding bytes × IsBytes bytes) × (most < length bytes)
+some_longer None most h = (replicate (most + 1) 0, (tt, zeros (most + 1)), omega (arith, length-replicate {A = ℕ} (most + 1) 0))
 some_longer (Some None) most h = absurd h
-some_longer (Some (Some file)) most h = (file, refl, h)
+some_longer (Some (Some file)) most h = (file, (refl, h.1), h.0)
 
 module _ (sees : Sight) (most : ℕ) (too_long : Fault) (name : List ℕ) where
   -- a file that has at most so many bytes
@@ -64,7 +68,7 @@ inputs_again holds before then now program conf i (Err fault, p, is) = absurd (c
 
 -- a file whose holding and count are those of before
 pub seen_from : (holds later : List ℕ → Holding) (before then now : List ℕ → ℕ) (name : List ℕ) → later name ≡ holds name → then name ≡ before name → (r : Result (List ℕ) Fault) → seen later then now name r → seen holds before now name r
-seen_from holds later before then now name same count (Ok bytes) h = subst (λ x. IsWhole x bytes) same h
+seen_from holds later before then now name same count (Ok bytes) h = (subst (λ x. IsWhole x bytes) same h.0, h.1)
 seen_from holds later before then now name same count (Err fault) h = (h.0, subst (λ n. Rose n (now name)) count h.1)
 
 pub configuration_from : (sees also : Sight) (name : List ℕ) → ((r : Result (List ℕ) Fault) → sees name r → also name r) → (conf : Result Conf Fault) → IsConfiguration sees name conf → IsConfiguration also name conf
@@ -89,7 +93,7 @@ comes_as step other more (Err refusal.NoMemory) h = tt
 
 -- what was seen of a file in memory that never fails
 pub seen_sure : (holds : List ℕ → Holding) (name text : List ℕ) → holds name ≡ Some (Some text) → (r : Result (List ℕ) Fault) → seen holds (λ name. 0) (λ name. 0) name r → r ≡ Ok text
-seen_sure holds name text is (Ok bytes) h = ap (λ (b : List ℕ). Ok b) (subst (λ x. IsWhole x bytes) is h)
+seen_sure holds name text is (Ok bytes) h = ap (λ (b : List ℕ). Ok b) (subst (λ x. IsWhole x bytes) is h.0)
 seen_sure holds name text is (Err fault) h = absurd (omega (arith, h.1))
 
 pub log_from : (sees also : Sight) (name : List ℕ) → ((r : Result (List ℕ) Fault) → sees name r → also name r) → (log : Result Log Fault) → IsLog sees name log → IsLog also name log

@@ -12,3 +12,4 @@ pub mod Advising
 pub mod Directing
 pub mod Listing
 pub mod Due
+pub mod Runnable

@@ -1,7 +1,7 @@
 -- What was seen of files, and which counts of faults rose.
 use Rattle.std.specs.Prelude.{◌≡◌, ℕ, List, length, nat_lt, if◌then◌else◌, Result, Ok, Err}
 use Rattle.outside.specs.Causes.{Rose}
-use Rattle.outside.specs.Outside.{Holding, IsWhole, IsCalm, ReadsOnly}
+use Rattle.outside.specs.Outside.{Holding, IsBytes, IsWhole, IsCalm, ReadsOnly}
 use Rattle.refusals.specs.Refusals.{Step, Then}
 use Rattle.refusals.specs.declared.fault.Fault.{Fault}
 use Rattle.refusals.specs.declared.fault.Fault.TheVariants.{Usage, FileFault, BadProgram, BadConf, BadPick, BadLog, TooManyBlocks, BadDirectives, BadReport}
@@ -12,9 +12,9 @@ use Rattle.refusals.specs.declared.refusal.Refusal.TheVariants as refusal
 abbrev pub Sight : Type 1
 Sight = List ℕ → Step (List ℕ)
 
--- A file was read to its end; or a reading failed, and the name's count of faults rose.
+-- A file was read to its end, and what it has are bytes; or a reading failed, and the name's count of faults rose.
 abbrev pub seen : (List ℕ → Holding) → (List ℕ → ℕ) → (List ℕ → ℕ) → Sight
-seen holds before now name (Ok bytes) = IsWhole (holds name) bytes
+seen holds before now name (Ok bytes) = IsWhole (holds name) bytes × IsBytes bytes
 seen holds before now name (Err fault) = (fault ≡ FileFault name) × Rose (before name) (now name)
 
 -- the bytes, or this fault where there are more than so many

@@ -12,7 +12,7 @@ use crate::preparing::prepare;
 use crate::running::bad_pick;
 use crate::texts::Texts;
 use command_words::{MAX_VIEWS, VisiRequest};
-use outside::Files;
+use outside::{Files, Gate};
 use pn_types::MAX_QUANTUM;
 use refusals::Refusal;
 use session::{Inputs, StartFault};
@@ -22,11 +22,12 @@ use std::thread::Threads;
 use visi_run::{ViewedCourse, view_run};
 
 /// What is due of a run with these inputs before views.
-fn view_inputs<R: Threads + Wait + Sync>(
+fn view_inputs<R: Threads + Wait + Sync, G: Gate + Sync>(
     rt: &R,
     alloc: Global,
     request: &VisiRequest<'_>,
     inputs: Inputs,
+    gate: &G,
 ) -> Result<Texts, Refusal>
     requires given { AreGiven inputs }
     requires quantum { (1 ≤ request.now.quantum) × (request.now.quantum ≤ MAX_QUANTUM) }
@@ -38,7 +39,7 @@ fn view_inputs<R: Threads + Wait + Sync>(
         turns: request.quantum,
         views: request.views,
     };
-    match view_run(rt, alloc, inputs, &course) {
+    match view_run(rt, alloc, inputs, &course, gate) {
         Ok(text) => Ok(Texts::output(alloc, text)),
         Err(StartFault::NoMemory) => Err(Refusal::NoMemory),
         Err(StartFault::BadPick(metric, focus, cause)) => Err(bad_pick(metric, focus, cause)),
@@ -46,11 +47,12 @@ fn view_inputs<R: Threads + Wait + Sync>(
 }
 
 /// What is due for `visi`.
-pub fn view<F: Files, R: Threads + Wait + Sync>(
+pub fn view<F: Files, R: Threads + Wait + Sync, G: Gate + Sync>(
     rt: &R,
     alloc: Global,
     request: &VisiRequest<'_>,
     files: &mut F,
+    gate: &G,
 ) -> Result<Texts, Refusal>
     requires ranges { HasRanges (visi (asked_visi request.now)) }
     ensures due { Comes result (IsVisiDue (asked_visi request.now) (seen (F.holds files.old) (F.faults files.old) (F.faults files.new))) }
@@ -63,5 +65,5 @@ pub fn view<F: Files, R: Threads + Wait + Sync>(
         request.conf,
         request.settings,
     )?;
-    view_inputs(rt, alloc, request, inputs)
+    view_inputs(rt, alloc, request, inputs, gate)
 }

@@ -74,7 +74,7 @@ pub(crate) fn answer_threaded<F: Files, R: Threads + Wait + Sync, G: Gate + Sync
 {
     match read_request(alloc, words) {
         Ok(Request::Live(request)) => run_shared(rt, alloc, &request, files, gate),
-        Ok(Request::Visi(request)) => view(rt, alloc, &request, files),
+        Ok(Request::Visi(request)) => view(rt, alloc, &request, files, gate),
         Ok(request) => answer_request(alloc, &request, files),
         Err(WordFault::Usage) => Err(Refusal::Fault(Fault::Usage)),
         Err(WordFault::NoMemory) => Err(Refusal::NoMemory),
