@@ -52,7 +52,7 @@ fn directives_in(alloc: Global, text: &[u8]) -> Result<Seq<Directive>, Refusal>
     ensures { Comes result (MeansDirectives text.now) }
 {
     match read_directives(alloc, text) {
-        Ok(directives) => Ok(Seq::from_vec(directives)),
+        Ok(directives) => Ok(directives),
         Err(DirectiveFault::NoMemory) => Err(Refusal::NoMemory),
         Err(DirectiveFault::At { line, col, kind }) => {
             Err(bad_directives(line, col, directive_kind(kind)))

@@ -1,11 +1,9 @@
 -- What the reader answers is what the text means.
-use Rattle.std.proofs.Common.{◌≡◌, ℕ, List, [], ◌∷◌, ◌++◌, flat_map, Option, Some, None, Ok, Err, refl, sym, ap, subst, ◌∙◌, arith, inl, inr, ◌⊎◌}
+use Rattle.std.proofs.Common.{◌≡◌, ℕ, List, [], ◌∷◌, ◌++◌, flat_map, Some, None, Ok, refl, sym, ap, subst, ◌∙◌, arith}
 use Rattle.std.proofs.lemmas.List.{append_assoc, append-nil}
-use Rattle.pn_text.specs.Scans.{Ending, AtEnd, AtFault, tokens_of, fault_place}
-use Rattle.mdl_parse.specs.declared.refusal.Refusal.{Refusal}
-use Rattle.mdl_parse.specs.declared.refusal.Refusal.TheVariants.{Unexpected, TooDeep}
+use Rattle.pn_text.specs.Scans.{Ending, AtEnd, AtFault, tokens_of}
 use Rattle.mdl_parse.specs.Picks.{is_any}
-use Rattle.mdl_parse.specs.Steps.{Read, stop}
+use Rattle.mdl_parse.specs.Steps.{Read, taken}
 use Rattle.mdl_parse.specs.WordsInText.{PlacedWord, Spells, placed_words}
 use Rattle.mdl_parse.proofs.Rules.{Misses}
 use Rattle.mdl_parse.proofs.Readers.{Completed, any}
@@ -13,11 +11,9 @@ use Rattle.mdl_parse.proofs.Repeats.{all_ok}
 use Rattle.mdl_parse.proofs.BlockRules.{all_any}
 use Rattle.directives.specs.declared.directive.Directive.{Directive}
 use Rattle.directives.specs.declared.fault.DirectiveFault.{DirectiveFault}
-use Rattle.directives.specs.declared.fault.DirectiveKind.{DirectiveKind}
-use Rattle.directives.specs.declared.fault.DirectiveKind.TheVariants as kind
 use Rattle.directives.specs.Spelling.{directive_words}
 use Rattle.directives.specs.Reading.{directives_at}
-use Rattle.directives.specs.Meaning.{AreOf, Begin, IsDirectives, lex_kind, IsFault, AtWord, AtBytes, AtLast, Faults, AlwaysMeans}
+use Rattle.directives.specs.Meaning.{AreOf, Begin, IsDirectives, AtWord, AtBytes, AtLast, Faults}
 use Rattle.directives.specs.Ahead.{lex_fault, fault_in, unread_in}
 use Rattle.directives.proofs.Rules.{directives_reads}
 
@@ -37,33 +33,37 @@ all_read words_ahead ds rest e =
 pub read_again : (words_ahead : List PlacedWord) (ds : List Directive) → AreOf words_ahead ds → directives_at words_ahead ≡ Ok (ds, [])
 read_again words_ahead ds a = ap directives_at (sym (append-nil words_ahead)) ∙ directives_reads.whole 0 ds words_ahead [] a (all_any 0 ds) tt
 
-begins : (n : ℕ) (words_ahead : List PlacedWord) → Completed (flat_map directive_words) (all_ok any) n words_ahead → Begin words_ahead
-begins n words_ahead c = record { whole = c.whole; tail = c.tail; words = c.words; spelled = c.spelled }
+begins : (words_ahead : List PlacedWord) → Completed (flat_map directive_words) (all_ok any) 0 words_ahead → Begin words_ahead
+begins words_ahead c = record { whole = c.whole; tail = c.tail; words = c.words; spelled = c.spelled }
 
 -- directives are a beginning
 pub whole_begins : (words_ahead : List PlacedWord) (ds : List Directive) → AreOf words_ahead ds → Begin words_ahead
 whole_begins words_ahead ds a = record { whole = ds; tail = []; words = tt; spelled = subst (λ (t : List PlacedWord). AreOf t ds) (sym (append-nil words_ahead)) a }
 
+-- ---- answers
+
+-- reading stops before these words
+abbrev stops : List PlacedWord → Read (List Directive)
+stops left = taken None left
+
 -- where nothing is read, nothing begins
-not_begun : (used : List PlacedWord) (x : PlacedWord) (why : Refusal) → ((other : List PlacedWord) → directives_at (used ++ (x ∷ other)) ≡ Err (stop why (x ∷ other))) → Begin (used ++ (x ∷ [])) → ⊥
-not_begun used x why bad b =
+not_begun : (used : List PlacedWord) (x : PlacedWord) → ((other : List PlacedWord) → directives_at (used ++ (x ∷ other)) ≡ stops (x ∷ other)) → Begin (used ++ (x ∷ [])) → ⊥
+not_begun used x bad b =
     let again = read_again ((used ++ (x ∷ [])) ++ b.tail) b.whole b.spelled in
     let e = sym again ∙ ap directives_at (append_assoc used (x ∷ []) b.tail) ∙ bad b.tail in
     absurd cc
 
--- ---- answers
-
 -- reading stops: that is the first fault
-pub stopped : (text : List ℕ) (left : List PlacedWord) (ending : Ending) → (tokens_of text).ending ≡ ending → directives_at (placed_words text) ≡ Err (stop Unexpected left) → Faults text (fault_in left ending)
+pub stopped : (text : List ℕ) (left : List PlacedWord) (ending : Ending) → (tokens_of text).ending ≡ ending → directives_at (placed_words text) ≡ stops left → Faults text (fault_in left ending)
 stopped text (x ∷ after) ending d e =
-    let f = directives_reads.fails 0 (placed_words text) (stop Unexpected (x ∷ after)) e in
-    AtWord f.used x after f.split (begins 0 f.used f.begun) (not_begun f.used x Unexpected (f.bad x after refl 0 (omega arith)))
+    let f = directives_reads.fails 0 (placed_words text) _ e in
+    AtWord f.used x after f.split (begins f.used f.begun) (not_begun f.used x (f.bad x after refl 0 (omega arith)))
 stopped text [] (AtFault fault) d e =
-    let f = directives_reads.fails 0 (placed_words text) (stop Unexpected []) e in
-    AtBytes fault d (subst Begin (sym (f.split ∙ append-nil f.used)) (begins 0 f.used f.begun))
+    let f = directives_reads.fails 0 (placed_words text) _ e in
+    AtBytes fault d (subst Begin (sym (f.split ∙ append-nil f.used)) (begins f.used f.begun))
 stopped text [] (AtEnd last) d e =
-    let f = directives_reads.fails 0 (placed_words text) (stop Unexpected []) e in
-    AtLast last d (subst Begin (sym (f.split ∙ append-nil f.used)) (begins 0 f.used f.begun)) (λ ds a. (let e2 = sym (read_again (placed_words text) ds a) ∙ e in absurd cc))
+    let f = directives_reads.fails 0 (placed_words text) _ e in
+    AtLast last d (subst Begin (sym (f.split ∙ append-nil f.used)) (begins f.used f.begun)) (λ ds a. (let e2 = sym (read_again (placed_words text) ds a) ∙ e in absurd cc))
 
 -- all is read, and no fault stands behind it
 pub directives_read : (text : List ℕ) (ds : List Directive) (rest : List PlacedWord) (ending : Ending) → (tokens_of text).ending ≡ ending → directives_at (placed_words text) ≡ Ok (ds, rest) → None ≡ unread_in rest ending → IsDirectives text ds
@@ -84,38 +84,3 @@ fault_read text ds rest ending fault d e u =
     go : (ending : Ending) → (tokens_of text).ending ≡ ending → Some fault ≡ unread_in [] ending → AreOf (placed_words text) ds → Faults text fault
     go (AtEnd last) d u a = absurd cc
     go (AtFault lex) d u a = let same : lex_fault lex ≡ fault = cc in subst (Faults text) same (AtBytes lex d (whole_begins (placed_words text) ds a))
-
--- ---- each text is read, or reading stops
-
--- reading directives never stops for depth
-stops_unexpected : (words_ahead left : List PlacedWord) (why : Refusal) → directives_at words_ahead ≡ Err (stop why left) → why ≡ Unexpected
-stops_unexpected words_ahead left Unexpected e = refl
-stops_unexpected words_ahead [] TooDeep e = (directives_reads.fails 0 words_ahead (stop TooDeep []) e).ended refl
-stops_unexpected words_ahead (x ∷ after) TooDeep e =
-    let f = directives_reads.fails 0 words_ahead (stop TooDeep (x ∷ after)) e in
-    absurd (not_begun f.used x TooDeep (f.bad x after refl 0 refl) (begins 1 (f.used ++ (x ∷ [])) (f.deeper x after refl refl)))
-
-abbrev Fault : List ℕ → Type 0
-Fault text = (line : ℕ) × (col : ℕ) × (kind : DirectiveKind) × IsFault text line col kind
-
-abbrev Means : List ℕ → Type 0
-Means text = ((ds : List Directive) × IsDirectives text ds) ⊎ Fault text
-
-fault_of : (text : List ℕ) (left : List PlacedWord) (ending : Ending) → Faults text (fault_in left ending) → Fault text
-fault_of text (x ∷ after) ending h = (x.line, x.col, kind.Unexpected, h)
-fault_of text [] (AtEnd last) h = (last.line, last.col, kind.Unexpected, h)
-fault_of text [] (AtFault fault) h = ((fault_place fault).line, (fault_place fault).col, lex_kind fault, h)
-
-read_means : (text : List ℕ) (ds : List Directive) (ending : Ending) → (tokens_of text).ending ≡ ending → AreOf (placed_words text) ds → Means text
-read_means text ds (AtEnd last) d a = inl (ds, record { last = last; end = d; spelled = a })
-read_means text ds (AtFault fault) d a = inr ((fault_place fault).line, (fault_place fault).col, lex_kind fault, AtBytes fault d (whole_begins (placed_words text) ds a))
-
-pub always_means : AlwaysMeans
-always_means text = go (directives_at (placed_words text)) refl
-  where
-    go : (read : Read (List Directive)) → directives_at (placed_words text) ≡ read → Means text
-    go (Ok x) e = read_means text x.0 (tokens_of text).ending refl (all_read (placed_words text) x.0 x.1 e).1
-    go (Err s) e =
-        let ending = (tokens_of text).ending in
-        let unexpected = stops_unexpected (placed_words text) s.left s.why e in
-        inr (fault_of text s.left ending (stopped text s.left ending refl (e ∙ ap (λ (why : Refusal). Err (stop why s.left)) unexpected)))

@@ -9,7 +9,7 @@ use Rattle.mdl_parse.proofs.Rules.{AreWords-append, ok_is}
 use Rattle.mdl_parse.proofs.Unique.{text_words, words_behind}
 use Rattle.directives.specs.declared.directive.Directive.{Directive}
 use Rattle.directives.specs.declared.fault.DirectiveKind.{DirectiveKind}
-use Rattle.directives.specs.Meaning.{AreOf, Begin, IsDirectives, lex_kind, IsFault, AtWord, AtBytes, AtLast, OneDirectives, OneFault, DirectivesOrFault}
+use Rattle.directives.specs.Meaning.{AreOf, Begin, lex_kind, AtWord, AtBytes, AtLast, OneDirectives, OneFault, DirectivesOrFault}
 use Rattle.directives.proofs.Exact.{read_again, whole_begins}
 
 -- what stands before words of a beginning is a beginning

@@ -3,9 +3,8 @@ use Rattle.std.specs.Prelude.{◌≡◌, ℕ, Option, Some, None, Result, Ok, Er
 use Rattle.pn_text.specs.Scans.{Scan, Ending, AtEnd, AtFault, AreSpans, tokens_of, fault_place}
 use Rattle.pn_text.specs.declared.token.Token.{Token}
 use Rattle.pn_text.specs.declared.token.LexFault.{LexFault}
-use Rattle.mdl_parse.specs.declared.refusal.Refusal.TheVariants as refusal
 use Rattle.mdl_parse.specs.Lexing.{tokens_ahead, HasEnded}
-use Rattle.mdl_parse.specs.Steps.{Read, stop, behind}
+use Rattle.mdl_parse.specs.Steps.{Read, behind, taken}
 use Rattle.mdl_parse.specs.WordsInText.{PlacedWord, placed_word, placed_words}
 use Rattle.directives.specs.declared.fault.DirectiveFault.{DirectiveFault}
 use Rattle.directives.specs.declared.fault.DirectiveFault.TheVariants.{At}
@@ -17,7 +16,7 @@ use Rattle.directives.specs.Meaning.{lex_kind}
 -- it stops where reading stops, unless memory is wanting
 abbrev pub StopsAt : {A : Type 0} → Stop → List PlacedWord → Read A → Type 0
 StopsAt NoMemory rest read = Unit {0}
-StopsAt Unexpected rest read = read ≡ Err (stop refusal.Unexpected rest)
+StopsAt Unexpected rest read = read ≡ taken None rest
 
 -- it answers what was read, and leaves what is left
 abbrev pub Gives : {A : Type 0} → Result A Stop → List PlacedWord → Read A → Type 0

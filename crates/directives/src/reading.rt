@@ -11,7 +11,7 @@ use crate::directive::{Directive, DirectiveAct};
 use crate::fault::DirectiveFault;
 use crate::stop::Stop;
 use crate::words::Words;
-use pn_types::Text;
+use pn_types::{Seq, Text};
 use std::alloc::Global;
 
 impl<'a> Words<'a> {
@@ -90,7 +90,7 @@ impl<'a> Words<'a> {
 
     /// Passes all directives, up to the end.
     #[tactic(auto, using(mdl_parse::proofs::Loops::loop_shorter, mdl_parse::proofs::Loops::loop_more, mdl_parse::proofs::Loops::loop_all, crate::proofs::Rules::loop_stops, crate::proofs::Rules::directives_loop))]
-    fn directives(&mut self, alloc: Global) -> Result<Vec<Directive>, Stop>
+    fn directives(&mut self, alloc: Global) -> Result<Seq<Directive>, Stop>
         ensures read { Gives result self.new.words_ahead (directives_at self.old.words_ahead) }
         ensures ending { self.new.ending ≡ self.old.ending }
     {
@@ -99,7 +99,7 @@ impl<'a> Words<'a> {
             let directive = self.directive(alloc)?;
             directives.push(directive)?;
         }
-        Ok(directives)
+        Ok(Seq::from_vec(directives))
     }
 }
 
@@ -114,9 +114,9 @@ impl<'a> Words<'a> {
 /// # Errors
 /// `Unexpected` at the first word with which the words so far begin no directives, or at the text's end, if it comes too
 /// early; another kind at the first bytes that are no word, if the words before them begin directives; `NoMemory`.
-pub fn read_directives(alloc: Global, text: &[u8]) -> Result<Vec<Directive>, DirectiveFault>
+pub fn read_directives(alloc: Global, text: &[u8]) -> Result<Seq<Directive>, DirectiveFault>
     requires { length text.now ≤ 1048576 }
-    ensures read { IfOk result (λ directives. IsDirectives text.now directives.items) }
+    ensures read { IfOk result (λ directives. IsDirectives text.now directives) }
     ensures fault { IfErr result (λ fault. Faults text.now fault) }
 {
     let mut words = Words::new(text);

@@ -1,4 +1,3 @@
-use Rattle.directives.proofs.Exact.{always_means}
 use Rattle.directives.proofs.OneMeaning.{one_directives, one_fault, directives_or_fault}
 use Rattle.directives.proofs.laws.directives_or_fault.Goals as goal
 
@@ -11,5 +10,3 @@ returns-clause-fault c = one_fault
 pub returns-clause-either : goal.returns-clause-either
 returns-clause-either c = directives_or_fault
 
-pub returns-clause-always : goal.returns-clause-always
-returns-clause-always c = always_means
