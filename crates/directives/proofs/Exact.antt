@@ -1,5 +1,5 @@
 -- What the reader answers is what the text means.
-use Rattle.std.proofs.Common.{◌≡◌, ℕ, List, [], ◌∷◌, ◌++◌, flat_map, Some, None, Ok, refl, sym, ap, subst, ◌∙◌, arith}
+use Rattle.std.proofs.Common.{◌≡◌, ℕ, List, [], ◌∷◌, ◌++◌, flat_map, Option, Some, None, Ok, refl, sym, ap, subst, ◌∙◌, arith}
 use Rattle.std.proofs.lemmas.List.{append_assoc, append-nil}
 use Rattle.pn_text.specs.Scans.{Ending, AtEnd, AtFault, tokens_of}
 use Rattle.mdl_parse.specs.Picks.{is_any}
@@ -14,7 +14,8 @@ use Rattle.directives.specs.declared.fault.DirectiveFault.{DirectiveFault}
 use Rattle.directives.specs.Spelling.{directive_words}
 use Rattle.directives.specs.Reading.{directives_at}
 use Rattle.directives.specs.Meaning.{AreOf, Begin, IsDirectives, AtWord, AtBytes, AtLast, Faults}
-use Rattle.directives.specs.Ahead.{lex_fault, fault_in, unread_in}
+use Rattle.directives.specs.Ahead.{Ahead, ahead, StopsAt, fault_in, unread_in}
+use Rattle.directives.specs.declared.stop.Stop.TheVariants.{Unexpected}
 use Rattle.directives.proofs.Rules.{directives_reads}
 
 none_left : (rest : List PlacedWord) → Misses is_any rest → rest ≡ []
@@ -53,8 +54,8 @@ not_begun used x bad b =
     let e = sym again ∙ ap directives_at (append_assoc used (x ∷ []) b.tail) ∙ bad b.tail in
     absurd cc
 
--- reading stops: that is the first fault
-pub stopped : (text : List ℕ) (left : List PlacedWord) (ending : Ending) → (tokens_of text).ending ≡ ending → directives_at (placed_words text) ≡ stops left → Faults text (fault_in left ending)
+-- reading stops before these words, which end so
+stopped : (text : List ℕ) (left : List PlacedWord) (ending : Ending) → (tokens_of text).ending ≡ ending → directives_at (placed_words text) ≡ stops left → Faults text (fault_in left ending)
 stopped text (x ∷ after) ending d e =
     let f = directives_reads.fails 0 (placed_words text) _ e in
     AtWord f.used x after f.split (begins f.used f.begun) (not_begun f.used x (f.bad x after refl 0 (omega arith)))
@@ -65,22 +66,35 @@ stopped text [] (AtEnd last) d e =
     let f = directives_reads.fails 0 (placed_words text) _ e in
     AtLast last d (subst Begin (sym (f.split ∙ append-nil f.used)) (begins f.used f.begun)) (λ ds a. (let e2 = sym (read_again (placed_words text) ds a) ∙ e in absurd cc))
 
--- all is read, and no fault stands behind it
-pub directives_read : (text : List ℕ) (ds : List Directive) (rest : List PlacedWord) (ending : Ending) → (tokens_of text).ending ≡ ending → directives_at (placed_words text) ≡ Ok (ds, rest) → None ≡ unread_in rest ending → IsDirectives text ds
-directives_read text ds rest ending d e u =
-    let a = all_read (placed_words text) ds rest e in
-    go ending d (u ∙ ap (λ (t : List PlacedWord). unread_in t ending) a.0) a.1
-  where
-    go : (ending : Ending) → (tokens_of text).ending ≡ ending → None ≡ unread_in [] ending → AreOf (placed_words text) ds → IsDirectives text ds
-    go (AtEnd last) d u a = record { last = last; end = d; spelled = a }
-    go (AtFault fault) d u a = absurd cc
+-- all words are read, and this stands behind them
+abbrev Ended : List ℕ → List Directive → Option DirectiveFault → Type 0
+Ended text ds None = IsDirectives text ds
+Ended text ds (Some fault) = Faults text fault
 
--- all is read, and a fault stands behind it
-pub fault_read : (text : List ℕ) (ds : List Directive) (rest : List PlacedWord) (ending : Ending) (fault : DirectiveFault) → (tokens_of text).ending ≡ ending → directives_at (placed_words text) ≡ Ok (ds, rest) → Some fault ≡ unread_in rest ending → Faults text fault
-fault_read text ds rest ending fault d e u =
-    let a = all_read (placed_words text) ds rest e in
-    go ending d (u ∙ ap (λ (t : List PlacedWord). unread_in t ending) a.0) a.1
-  where
-    go : (ending : Ending) → (tokens_of text).ending ≡ ending → Some fault ≡ unread_in [] ending → AreOf (placed_words text) ds → Faults text fault
-    go (AtEnd last) d u a = absurd cc
-    go (AtFault lex) d u a = let same : lex_fault lex ≡ fault = cc in subst (Faults text) same (AtBytes lex d (whole_begins (placed_words text) ds a))
+ended : (text : List ℕ) (ds : List Directive) (ending : Ending) → (tokens_of text).ending ≡ ending → AreOf (placed_words text) ds → Ended text ds (unread_in [] ending)
+ended text ds (AtEnd last) d a = record { last = last; end = d; spelled = a }
+ended text ds (AtFault fault) d a = AtBytes fault d (whole_begins (placed_words text) ds a)
+
+-- ---- the call
+
+-- what was read of all words of a text
+module _ (text : List ℕ) (before after : Ahead) (is : before ≡ ahead text) (on : after.ending ≡ before.ending) where
+  ending_is : (tokens_of text).ending ≡ after.ending
+  ending_is = ap (λ (a : Ahead). a.ending) (sym is) ∙ sym on
+
+  as_text : (r : Read (List Directive)) → directives_at before.words_ahead ≡ r → directives_at (placed_words text) ≡ r
+  as_text r e = ap (λ (a : Ahead). directives_at a.words_ahead) (sym is) ∙ e
+
+  pub fault_stops : (fault : DirectiveFault) → StopsAt Unexpected after.words_ahead (directives_at before.words_ahead) → fault ≡ fault_in after.words_ahead after.ending → Faults text fault
+  fault_stops fault e f = subst (Faults text) (sym f) (stopped text after.words_ahead after.ending ending_is (as_text (stops after.words_ahead) e))
+
+  all_ended : (ds : List Directive) (o : Option DirectiveFault) → directives_at before.words_ahead ≡ Ok (ds, after.words_ahead) → o ≡ unread_in after.words_ahead after.ending → Ended text ds o
+  all_ended ds o e u =
+      let a = all_read (placed_words text) ds after.words_ahead (as_text (Ok (ds, after.words_ahead)) e) in
+      subst (Ended text ds) (sym (u ∙ ap (λ (t : List PlacedWord). unread_in t after.ending) a.0)) (ended text ds after.ending ending_is a.1)
+
+  pub directives_end : (ds : List Directive) (o : Option DirectiveFault) → directives_at before.words_ahead ≡ Ok (ds, after.words_ahead) → o ≡ unread_in after.words_ahead after.ending → o ≡ None → IsDirectives text ds
+  directives_end ds o e u n = subst (Ended text ds) n (all_ended ds o e u)
+
+  pub fault_ends : (ds : List Directive) (o : Option DirectiveFault) (fault : DirectiveFault) → directives_at before.words_ahead ≡ Ok (ds, after.words_ahead) → o ≡ unread_in after.words_ahead after.ending → o ≡ Some fault → Faults text fault
+  fault_ends ds o fault e u n = subst (Ended text ds) n (all_ended ds o e u)

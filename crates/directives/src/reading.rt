@@ -114,6 +114,7 @@ impl<'a> Words<'a> {
 /// # Errors
 /// `Unexpected` at the first word with which the words so far begin no directives, or at the text's end, if it comes too
 /// early; another kind at the first bytes that are no word, if the words before them begin directives; `NoMemory`.
+#[tactic(auto, using(crate::proofs::Exact::directives_end, crate::proofs::Exact::fault_ends, crate::proofs::Exact::fault_stops))]
 pub fn read_directives(alloc: Global, text: &[u8]) -> Result<Seq<Directive>, DirectiveFault>
     requires { length text.now ≤ 1048576 }
     ensures read { IfOk result (λ directives. IsDirectives text.now directives) }

@@ -9,4 +9,3 @@ returns-clause-fault c = one_fault
 
 pub returns-clause-either : goal.returns-clause-either
 returns-clause-either c = directives_or_fault
-
