@@ -23,7 +23,7 @@ none_left [] h = refl
 none_left (placed ∷ rest) h = absurd cc
 
 -- all words are read: they are those of the directives
-all_read : (words_ahead : List PlacedWord) (ds : List Directive) (rest : List PlacedWord) → directives_at words_ahead ≡ Ok (ds, rest) → (rest ≡ []) × AreOf words_ahead ds
+pub all_read : (words_ahead : List PlacedWord) (ds : List Directive) (rest : List PlacedWord) → directives_at words_ahead ≡ Ok (ds, rest) → (rest ≡ []) × AreOf words_ahead ds
 all_read words_ahead ds rest e =
     let s = directives_reads.sound 0 words_ahead ds rest e in
     let none = none_left rest s.ends in
@@ -44,7 +44,7 @@ whole_begins words_ahead ds a = record { whole = ds; tail = []; words = tt; spel
 -- ---- answers
 
 -- reading stops before these words
-abbrev stops : List PlacedWord → Read (List Directive)
+abbrev pub stops : List PlacedWord → Read (List Directive)
 stops left = taken None left
 
 -- where nothing is read, nothing begins
@@ -55,7 +55,7 @@ not_begun used x bad b =
     absurd cc
 
 -- reading stops before these words, which end so
-stopped : (text : List ℕ) (left : List PlacedWord) (ending : Ending) → (tokens_of text).ending ≡ ending → directives_at (placed_words text) ≡ stops left → Faults text (fault_in left ending)
+pub stopped : (text : List ℕ) (left : List PlacedWord) (ending : Ending) → (tokens_of text).ending ≡ ending → directives_at (placed_words text) ≡ stops left → Faults text (fault_in left ending)
 stopped text (x ∷ after) ending d e =
     let f = directives_reads.fails 0 (placed_words text) _ e in
     AtWord f.used x after f.split (begins f.used f.begun) (not_begun f.used x (f.bad x after refl 0 (omega arith)))

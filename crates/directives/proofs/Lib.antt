@@ -2,6 +2,7 @@ pub mod InView
 pub mod Rules
 pub mod Exact
 pub mod OneMeaning
+pub mod AlwaysMeans
 pub mod Settling
 pub mod Loops
 pub mod Fronting

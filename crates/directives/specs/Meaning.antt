@@ -69,6 +69,7 @@ abbrev pub DirectivesOrFault : Type 0
 DirectivesOrFault = (text : List ℕ) (directives : List Directive) (line col : ℕ) (kind : DirectiveKind) →
     IsDirectives text directives → IsFault text line col kind → ⊥
 
--- one of the two it has
+-- each text spells directives or has a fault
 abbrev pub AlwaysMeans : Type 0
-AlwaysMeans = (text : List ℕ) → ((directives : List Directive) × IsDirectives text directives) ⊎ ((line : ℕ) × (col : ℕ) × (kind : DirectiveKind) × IsFault text line col kind)
+AlwaysMeans = (text : List ℕ) →
+    ((directives : List Directive) × IsDirectives text directives) ⊎ ((line : ℕ) × (col : ℕ) × (kind : DirectiveKind) × IsFault text line col kind)

@@ -10,6 +10,7 @@ pub fn directives_or_fault()
     ensures directives { OneDirectives }
     ensures fault { OneFault }
     ensures either { DirectivesOrFault }
+    ensures always { AlwaysMeans }
 {}
 
 /// No hypothesis that was pruned stands any more, and none that had it as an ancestor.
