@@ -5,4 +5,5 @@ pub mod Lines
 pub mod Lowering
 pub mod Pieces
 pub mod Reading
+pub mod Seams
 pub mod Words
