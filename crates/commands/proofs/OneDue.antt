@@ -4,7 +4,9 @@ use Rattle.std.specs.Prelude.{codes}
 use Rattle.command_words.specs.Requests.{Request, RunRequest, LiveRequest, ReplayRequest, PlanRequest, StressRequest, VisiRequest, DirectRequest, run, live, replay, make_plan, assemble, list_points, relog, stress, count_blocks, visi, advise, direct, request_of}
 use Rattle.advice.specs.Reading.{verdicts_of}
 use Rattle.directives.specs.Acts.{applied}
-use Rattle.directives.specs.Reading.{directives_of}
+use Rattle.directives.specs.Meaning.{OneDirectives, OneFault as OneDirectivesFault, DirectivesOrFault}
+use Rattle.directives.specs.declared.directive.Directive.{Directive}
+use Rattle.directives.specs.declared.fault.DirectiveKind.{DirectiveKind}
 use Rattle.elf_form.specs.declared.limits.TheConstants.{MAX_PROGRAM_LEN}
 use Rattle.live_run.specs.ByWorkers.{IsShared}
 use Rattle.mdl_ast.specs.declared.items.Conf.{Conf}
@@ -27,7 +29,7 @@ use Rattle.pn_types.specs.declared.code.Point.{Point}
 use Rattle.quanta_log.specs.Meaning.{meaning_of}
 use Rattle.pn_types.specs.declared.quantum.Quantum.{Quantum}
 use Rattle.refusals.proofs.Steps.{IsOne, one_then, related_then}
-use Rattle.refusals.specs.Kinds.{fault_at, syntax_kind, check_kind}
+use Rattle.refusals.specs.Kinds.{fault_at, syntax_kind, check_kind, directive_kind}
 use Rattle.refusals.specs.Refusals.{Step, Then}
 use Rattle.refusals.specs.declared.configuration.ConfKind.TheVariants.{TooLong as TooLongConf}
 use Rattle.refusals.specs.declared.log.LogCause.TheVariants.{TooLong as TooLongLog}
@@ -44,7 +46,7 @@ use Rattle.whole_run.specs.Seeded.{IsSeeded, OneSeeded}
 use Rattle.commands.specs.Advising.{advised, IsAdviceDue, IsReportContent}
 use Rattle.commands.specs.Output.{output}
 use Rattle.commands.specs.Blocks.{AreCounted}
-use Rattle.commands.specs.Directing.{AreDirectives, IsDirected, IsDirectDue, IsDirection, IsDirectivesContent, IsDirectRun, IsDirectWith, conf_with, directed_texts, or_bad_directives}
+use Rattle.commands.specs.Directing.{MeansDirectives, AreDirectives, IsDirected, IsDirectDue, IsDirection, IsDirectivesContent, IsDirectRun, IsDirectWith, conf_with, directed_texts, or_bad_directives}
 use Rattle.commands.specs.Found.{resources_of, IsCheck, IsFound}
 use Rattle.commands.specs.Given.{inputs_with}
 use Rattle.commands.specs.Inputs.{image_of, file_of, MeansConf, IsProgramContent, IsProgram, IsElfFile, IsConfContent, IsConfiguration, AreInputs}
@@ -69,6 +71,9 @@ pub record Laws : Type 0 where
   pub conf : OneConf
   pub wrong : OneFault
   pub either : ConfOrFault
+  pub directives : OneDirectives
+  pub wrong_directives : OneDirectivesFault
+  pub either_directives : DirectivesOrFault
   pub answer : OneAnswer
   pub selection : OneSelection
   pub seeded : OneSeeded
@@ -98,6 +103,9 @@ live_alike r i = opened_alike (bad_pick i) i (IsShared i r.workers r.quantum) (t
 abbrev conf_fault : ℕ → ℕ → SyntaxKind → Fault
 conf_fault line col kind = BadConf (fault_at line col (syntax_kind kind))
 
+abbrev directives_wrong : ℕ → ℕ → DirectiveKind → Fault
+directives_wrong line col kind = BadDirectives (fault_at line col (directive_kind kind))
+
 module _ (laws : Laws) where
   conf_once : (text : List ℕ) → IsOne (MeansConf text)
   conf_once text (Ok c) (Ok d) a b = ap (λ (x : Conf). Ok x) (laws.conf text c d a b)
@@ -107,6 +115,17 @@ module _ (laws : Laws) where
       let same = laws.wrong text line col line' col' kind kind' a b in
       ap (λ (x : Fault). Err x)
       (e ∙ ap (λ (n : ℕ). conf_fault n col kind) same.0 ∙ ap (λ (n : ℕ). conf_fault line' n kind) same.1 ∙ ap (conf_fault line' col') same.2 ∙ sym e')
+
+  -- ---- directives
+
+  directives_once : (text : List ℕ) → IsOne (MeansDirectives text)
+  directives_once text (Ok ds) (Ok es) a b = ap (λ (x : List Directive). Ok x) (laws.directives text ds es a b)
+  directives_once text (Ok ds) (Err f) a (line, col, kind, b, e) = absurd (laws.either_directives text ds line col kind a b)
+  directives_once text (Err f) (Ok ds) (line, col, kind, a, e) b = absurd (laws.either_directives text ds line col kind b a)
+  directives_once text (Err f) (Err g) (line, col, kind, a, e) (line', col', kind', b, e') =
+      let same = laws.wrong_directives text line col line' col' kind kind' a b in
+      ap (λ (x : Fault). Err x) (e ∙ ap (λ (n : ℕ). directives_wrong n col kind) same.0 ∙ ap (λ (n : ℕ). directives_wrong line' n kind) same.1
+      ∙ ap (directives_wrong line' col') same.2 ∙ sym e')
 
   -- ---- what is found
 
@@ -263,14 +282,13 @@ module _ (laws : Laws) where
         one_then (IsReportContent sees name) (λ bytes texts. texts ≡ advised (verdicts_of bytes)) (content_once sees once REPORT_LIMIT (BadReport REPORT_LIMIT) name)
         (λ bytes. equal_once (advised (verdicts_of bytes)))
 
-    directives_once : (name : List ℕ) → IsOne (AreDirectives sees name)
-    directives_once name =
-        one_then (IsDirectivesContent sees name) (λ bytes directives. directives ≡ or_bad_directives (directives_of bytes))
-        (content_once sees once DIRECTIVES_LIMIT (BadDirectives (fault_at 0 0 TooLongConf)) name) (λ bytes. equal_once (or_bad_directives (directives_of bytes)))
+    directions_once : (name : List ℕ) → IsOne (AreDirectives sees name)
+    directions_once name =
+        one_then (IsDirectivesContent sees name) MeansDirectives (content_once sees once DIRECTIVES_LIMIT (BadDirectives (fault_at 0 0 TooLongConf)) name) directives_once
 
     direction_once : (r : DirectRequest) (i : Inputs) → IsOne (IsDirection r sees i)
     direction_once r i =
-        one_then (AreDirectives sees r.directives) (λ directives. Then (IsDirected i.conf directives) (IsDirectRun r i.image)) (directives_once r.directives)
+        one_then (AreDirectives sees r.directives) (λ directives. Then (IsDirected i.conf directives) (IsDirectRun r i.image)) (directions_once r.directives)
         (λ directives. one_then (IsDirected i.conf directives) (IsDirectRun r i.image) (equal_once (conf_with (or_bad_directives (applied shipped_conf.items i.conf.items directives))))
         (direct_run_once r i.image))
 

@@ -7,7 +7,6 @@ use Rattle.advice.specs.declared.fault.ReportFault.{ReportFault}
 use Rattle.advice.specs.declared.fault.ReportFault.TheVariants as report_fault
 use Rattle.advice.specs.declared.verdict.Verdict.{Verdict}
 use Rattle.directives.specs.Acts.{applied}
-use Rattle.directives.specs.Reading.{directives_of}
 use Rattle.directives.specs.declared.fault.DirectiveFault.{DirectiveFault}
 use Rattle.directives.specs.declared.fault.DirectiveFault.TheVariants as directive_fault
 use Rattle.mdl_ast.specs.declared.items.Item.{Item}
@@ -55,7 +54,7 @@ use Rattle.commands.specs.Given.{inputs_with}
 use Rattle.commands.specs.Advising.{advised, IsAdviceDue, IsReportContent}
 use Rattle.commands.specs.Output.{output}
 use Rattle.commands.specs.Blocks.{AreCounted}
-use Rattle.commands.specs.Directing.{AreDirectives, IsDirected, IsDirectDue, IsDirection, IsDirectivesContent, IsDirectRun, IsDirectWith, conf_with, directed_texts, or_bad_directives}
+use Rattle.commands.specs.Directing.{MeansDirectives, AreDirectives, IsDirected, IsDirectDue, IsDirection, IsDirectivesContent, IsDirectRun, IsDirectWith, conf_with, directed_texts, or_bad_directives}
 use Rattle.commands.specs.Due.{IsDueFor, IsDue}
 use Rattle.commands.specs.Runs.{texts_of_run, IsPrepared, IsOpened, IsRunWith, IsRunDue, IsLiveWith, IsLiveDue, IsVisiWith, IsVisiDue, views_of, IsStressWith, IsStressDue, stress_settings, stress_sight, summary_of}
 use Rattle.commands.specs.Found.{resources_of, IsCheck, IsFound}
@@ -160,10 +159,13 @@ advice_spared (Ok verdicts) = tt
 advice_spared (Err (report_fault.BadReport place)) = tt
 advice_spared (Err report_fault.NoMemory) = tt
 
-directives_spared : {A : Type 0} (r : Result A DirectiveFault) → Spares (or_bad_directives r)
-directives_spared (Ok a) = tt
-directives_spared (Err (directive_fault.At line col kind)) = tt
-directives_spared (Err directive_fault.NoMemory) = tt
+directives_spared : (text : List ℕ) (name : List ℕ) → MeansDirectives text (Err (FileFault name)) → ⊥
+directives_spared text name (line, col, kind, wrong, e) = cc
+
+directed_spared : (r : Result (List Item) DirectiveFault) → Spares (or_bad_directives r)
+directed_spared (Ok items) = tt
+directed_spared (Err (directive_fault.At line col kind)) = tt
+directed_spared (Err directive_fault.NoMemory) = tt
 
 conf_with_spared : (r : Result (List Item) Fault) → Spares r → Spares (conf_with r)
 conf_with_spared (Ok items) h = tt
@@ -263,9 +265,8 @@ module _ (name : List ℕ) (P : Type 0) (sees : Sight) (at_file : (other : List 
 
   at_directives : (other : List ℕ) → AreDirectives sees other (Err (FileFault name)) → P
   at_directives other =
-      of_either P (IsDirectivesContent sees other) (λ bytes directives. directives ≡ or_bad_directives (directives_of bytes)) (FileFault name)
-      (at_content name P sees at_file DIRECTIVES_LIMIT (BadDirectives (fault_at 0 0 TooLongConf)) other tt)
-      (λ bytes e. absurd (spared (or_bad_directives (directives_of bytes)) name (directives_spared (directives_of bytes)) e))
+      of_either P (IsDirectivesContent sees other) MeansDirectives (FileFault name)
+      (at_content name P sees at_file DIRECTIVES_LIMIT (BadDirectives (fault_at 0 0 TooLongConf)) other tt) (λ bytes wrong. absurd (directives_spared bytes name wrong))
 
   at_direct_run : (r : DirectRequest) (image : Image) (conf : Conf) → IsDirectRun r image conf (Err (FileFault name)) → P
   at_direct_run r image conf =
@@ -278,7 +279,7 @@ module _ (name : List ℕ) (P : Type 0) (sees : Sight) (at_file : (other : List 
       of_either P (AreDirectives sees r.directives) (λ directives. Then (IsDirected i.conf directives) (IsDirectRun r i.image)) (FileFault name) (at_directives r.directives)
       (λ directives. let made = applied shipped_conf.items i.conf.items directives in
       of_either P (IsDirected i.conf directives) (IsDirectRun r i.image) (FileFault name)
-      (λ e. absurd (spared (conf_with (or_bad_directives made)) name (conf_with_spared (or_bad_directives made) (directives_spared made)) e)) (at_direct_run r i.image))
+      (λ e. absurd (spared (conf_with (or_bad_directives made)) name (conf_with_spared (or_bad_directives made) (directed_spared made)) e)) (at_direct_run r i.image))
 
   at_direct : (r : DirectRequest) → IsDirectDue r sees (Err (FileFault name)) → P
   at_direct r =

@@ -3,10 +3,11 @@ use Rattle.std.specs.Prelude.{◌≡◌, ℕ, List, Result, Ok, Err}
 use Rattle.code_points.specs.Procedures.{skipped_of}
 use Rattle.command_words.specs.Requests.{DirectRequest}
 use Rattle.directives.specs.Acts.{applied}
-use Rattle.directives.specs.Reading.{directives_of}
+use Rattle.directives.specs.Meaning.{IsDirectives, IsFault}
 use Rattle.directives.specs.declared.directive.Directive.{Directive}
 use Rattle.directives.specs.declared.fault.DirectiveFault.{DirectiveFault}
 use Rattle.directives.specs.declared.fault.DirectiveFault.TheVariants as fault
+use Rattle.directives.specs.declared.fault.DirectiveKind.{DirectiveKind}
 use Rattle.mdl_ast.specs.declared.items.Conf.{Conf}
 use Rattle.mdl_ast.specs.declared.items.Item.{Item}
 use Rattle.mdl_shipped.specs.Shipped.{shipped_conf}
@@ -32,14 +33,11 @@ use Rattle.commands.specs.declared.texts.Texts.{Texts}
 
 -- ---- directives
 
--- no line means want of memory
-abbrev pub directive_fault : DirectiveFault → Fault
-directive_fault (fault.At line col kind) = BadDirectives (fault_at line col (directive_kind kind))
-directive_fault fault.NoMemory = BadDirectives (fault_at 0 0 TooLong)
-
-abbrev pub or_bad_directives : {A : Type 0} → Result A DirectiveFault → Result A Fault
-or_bad_directives (Ok a) = Ok a
-or_bad_directives (Err fault) = Err (directive_fault fault)
+-- The text spells the directives, or has this first fault.
+abbrev pub MeansDirectives : List ℕ → Step (List Directive)
+MeansDirectives text (Ok directives) = IsDirectives text directives
+MeansDirectives text (Err fault) =
+    (line : ℕ) × (col : ℕ) × (kind : DirectiveKind) × IsFault text line col kind × (fault ≡ BadDirectives (fault_at line col (directive_kind kind)))
 
 -- what a file of directives has, at most 1,048,576 bytes
 abbrev pub IsDirectivesContent : Sight → List ℕ → Step (List ℕ)
@@ -47,7 +45,16 @@ IsDirectivesContent sees = IsContent sees 1048576 (BadDirectives (fault_at 0 0 T
 
 -- the directives of a name
 abbrev pub AreDirectives : Sight → List ℕ → Step (List Directive)
-AreDirectives sees name = Then (IsDirectivesContent sees name) (λ bytes directives. directives ≡ or_bad_directives (directives_of bytes))
+AreDirectives sees name = Then (IsDirectivesContent sees name) MeansDirectives
+
+-- what is refused; no line means want of memory
+abbrev pub directive_fault : DirectiveFault → Fault
+directive_fault (fault.At line col kind) = BadDirectives (fault_at line col (directive_kind kind))
+directive_fault fault.NoMemory = BadDirectives (fault_at 0 0 TooLong)
+
+abbrev pub or_bad_directives : Result (List Item) DirectiveFault → Result (List Item) Fault
+or_bad_directives (Ok items) = Ok items
+or_bad_directives (Err fault) = Err (directive_fault fault)
 
 -- a configuration of these items
 abbrev pub conf_with : Result (List Item) Fault → Result Conf Fault

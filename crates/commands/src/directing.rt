@@ -6,10 +6,9 @@ ghost use Rattle.code_points.specs.Procedures.{AreModulesGood};
 ghost use Rattle.command_words.specs.Asked.{asked_direct};
 ghost use Rattle.command_words.specs.Requests.{HasRanges, direct};
 ghost use Rattle.directives.specs.Applying.{IsAccepted};
-ghost use Rattle.directives.specs.Reading.{directives_of};
 ghost use Rattle.mdl_ast.specs.Small.{HasSmall};
 ghost use Rattle.mdl_shipped.specs.Shipped.{shipped_conf};
-ghost use Rattle.commands.specs.Directing.{or_bad_directives, AreDirectives, IsDirectDue, IsDirected, IsDirection, IsDirectRun, IsDirectWith};
+ghost use Rattle.commands.specs.Directing.{MeansDirectives, AreDirectives, IsDirectDue, IsDirected, IsDirection, IsDirectRun, IsDirectWith};
 ghost use Rattle.commands.specs.Given.{inputs_with, CanRun, IsUnscratched};
 ghost use Rattle.commands.specs.Sights.{seen, Looks};
 ghost use Rattle.pn_types.specs.Images.{IsImage};
@@ -50,10 +49,10 @@ fn bad_directives(line: u32, col: u32, kind: ConfKind) -> Refusal
 /// The directives of a text.
 fn directives_in(alloc: Global, text: &[u8]) -> Result<Seq<Directive>, Refusal>
     requires { length text.now ≤ DIRECTIVES_LIMIT }
-    ensures { Comes result (λ directives. directives ≡ or_bad_directives (directives_of text.now)) }
+    ensures { Comes result (MeansDirectives text.now) }
 {
     match read_directives(alloc, text) {
-        Ok(directives) => Ok(Seq::from_vec(directives)),
+        Ok(directives) => Ok(directives),
         Err(DirectiveFault::NoMemory) => Err(Refusal::NoMemory),
         Err(DirectiveFault::At { line, col, kind }) => {
             Err(bad_directives(line, col, directive_kind(kind)))

@@ -1,5 +1,7 @@
 pub mod InView
-pub mod ReadOn
+pub mod Rules
+pub mod Exact
+pub mod OneMeaning
 pub mod Settling
 pub mod Loops
 pub mod Fronting
@@ -14,6 +16,5 @@ pub mod Acting
 pub mod Accepting
 pub mod Runs
 pub mod Gone
-pub mod Spelled
 pub mod Staying
 pub mod Small

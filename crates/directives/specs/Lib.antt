@@ -1,6 +1,7 @@
-pub mod Words
-pub mod Reading
 pub mod Spelling
+pub mod Meaning
+pub mod Reading
+pub mod Ahead
 pub mod Gives
 pub mod Hypotheses
 pub mod Acts

@@ -1,84 +1,69 @@
--- The directives that a text spells, or its first fault.
---
---   directives = { "prune" NAME [ "axis" NAME ] ";" | "threshold" NAME NUMBER ";" | "first" NAME ";" } .
-use Rattle.std.specs.Prelude.{ℕ, zero, suc, List, [], ◌∷◌, length, is_none, codes, Option, Some, None, Result, Ok, Err, if◌then◌else◌}
-use Rattle.directives.specs.declared.fault.DirectiveFault.{DirectiveFault}
+-- For proofs alone: readers of directives.
+use Rattle.std.specs.Prelude.{ℕ, List, Option, Some, None, Ok, codes, if◌then◌else◌}
+use Rattle.pn_text.specs.Words.{Word}
+use Rattle.pn_text.specs.declared.token.Sign.TheVariants.{Semicolon}
+use Rattle.mdl_parse.specs.Picks.{is_any}
+use Rattle.mdl_parse.specs.Readers.{keyword_at, sign_at, start_at, name_at, number_at}
+use Rattle.mdl_parse.specs.Shapes.{is_keyword}
+use Rattle.mdl_parse.specs.Steps.{Read, ◌>>=◌, first_word, passes, option_at, many_at}
+use Rattle.mdl_parse.specs.WordsInText.{PlacedWord}
 use Rattle.directives.specs.declared.directive.Directive.{Directive}
 use Rattle.directives.specs.declared.directive.DirectiveAct.{DirectiveAct}
 use Rattle.directives.specs.declared.directive.DirectiveAct.TheVariants.{Prune, PruneAxis, Threshold, First}
-use Rattle.directives.specs.Words.{Ahead, Read, ◌>>=◌, ahead, first_word, line_at, is_next, is_keyword, fault_in, keyword_at, name_at, number_at, semicolon_at}
 
--- `axis NAME`, where it stands
-unfoldable pub axis_at : Ahead → Read (Option (List ℕ))
-axis_at a = if is_next (is_keyword (codes "axis")) a then (do
-  start ← keyword_at (codes "axis") a
-  axis ← name_at start.1
-  Ok (Some axis.0, axis.1))
-    else Ok (None, a)
+unfoldable pub axis_at : List PlacedWord → Read (List ℕ)
+axis_at words_ahead = do
+  word ← keyword_at (codes "axis") words_ahead
+  axis ← name_at word.1
+  Ok (axis.0, axis.1)
 
 abbrev pub prune_of : List ℕ → Option (List ℕ) → DirectiveAct
 prune_of name None = Prune name
 prune_of name (Some axis) = PruneAxis name axis
 
-unfoldable pub prune_at : Ahead → Read DirectiveAct
-prune_at a = do
-  start ← keyword_at (codes "prune") a
-  name ← name_at start.1
-  axis ← axis_at name.1
-  end ← semicolon_at axis.1
-  Ok (prune_of name.0 axis.0, end.1)
+unfoldable pub prune_at : List PlacedWord → Read Directive
+prune_at words_ahead = do
+  line ← start_at (codes "prune") words_ahead
+  name ← name_at line.1
+  axis ← option_at (is_keyword (codes "axis")) axis_at name.1
+  end ← sign_at Semicolon axis.1
+  Ok (record { line = line.0; act = prune_of name.0 axis.0 }, end.1)
 
-unfoldable pub threshold_at : Ahead → Read DirectiveAct
-threshold_at a = do
-  start ← keyword_at (codes "threshold") a
-  name ← name_at start.1
+unfoldable pub threshold_at : List PlacedWord → Read Directive
+threshold_at words_ahead = do
+  line ← start_at (codes "threshold") words_ahead
+  name ← name_at line.1
   number ← number_at name.1
-  end ← semicolon_at number.1
-  Ok (Threshold name.0 number.0, end.1)
+  end ← sign_at Semicolon number.1
+  Ok (record { line = line.0; act = Threshold name.0 number.0 }, end.1)
 
-unfoldable pub first_at : Ahead → Read DirectiveAct
-first_at a = do
-  start ← keyword_at (codes "first") a
-  name ← name_at start.1
-  end ← semicolon_at name.1
-  Ok (First name.0, end.1)
+unfoldable pub first_at : List PlacedWord → Read Directive
+first_at words_ahead = do
+  line ← start_at (codes "first") words_ahead
+  name ← name_at line.1
+  end ← sign_at Semicolon name.1
+  Ok (record { line = line.0; act = First name.0 }, end.1)
 
--- what the next directive does, by its first word
-unfoldable pub act_at : Ahead → Read DirectiveAct
-act_at a =
-    if is_next (is_keyword (codes "prune")) a then prune_at a
-    else if is_next (is_keyword (codes "threshold")) a then threshold_at a
-    else first_at a
+-- the forms of directives
+pub data Form : Type 0 where
+  Prunes : Form
+  Thresholds : Form
+  Firsts : Form
 
--- the next directive, with the line of its first word
-unfoldable pub directive_at : Ahead → Read Directive
-directive_at a = do
-  act ← act_at a
-  Ok (record { line = line_at a.words_ahead; act = act.0 }, act.1)
+-- the form that a word begins
+abbrev pub form_at : Option Word → Form
+form_at word =
+    if passes (is_keyword (codes "prune")) word then Prunes
+    else if passes (is_keyword (codes "threshold")) word then Thresholds
+    else Firsts
 
-abbrev pub onto : Directive → Result (List Directive) DirectiveFault → Result (List Directive) DirectiveFault
-onto directive (Ok directives) = Ok (directive ∷ directives)
-onto directive (Err fault) = Err fault
+abbrev pub form_read : Form → List PlacedWord → Read Directive
+form_read Prunes = prune_at
+form_read Thresholds = threshold_at
+form_read Firsts = first_at
 
--- a directive, and those behind it
-abbrev pub with_more : (Ahead → Result (List Directive) DirectiveFault) → Read Directive → Result (List Directive) DirectiveFault
-with_more more (Ok read) = onto read.0 (more read.1)
-with_more more (Err fault) = Err fault
+unfoldable pub directive_at : List PlacedWord → Read Directive
+directive_at words_ahead = form_read (form_at (first_word words_ahead)) words_ahead
 
--- no directives, where no word is left
-abbrev pub end_of : Option DirectiveFault → Result (List Directive) DirectiveFault
-end_of None = Ok []
-end_of (Some fault) = Err fault
-
--- up to so many directives, to the end
-abbrev pub directives_in : ℕ → Ahead → Result (List Directive) DirectiveFault
-directives_in zero a = end_of (fault_in a.ending)
-directives_in (suc n) a = if is_none (first_word a.words_ahead) then end_of (fault_in a.ending) else with_more (directives_in n) (directive_at a)
-
--- all directives, of which there are no more than words
-unfoldable pub directives_from : Ahead → Result (List Directive) DirectiveFault
-directives_from a = directives_in (length a.words_ahead) a
-
--- The directives of a text, or its first fault.
-abbrev pub directives_of : List ℕ → Result (List Directive) DirectiveFault
-directives_of text = directives_from (ahead text)
+abbrev pub directives_at : List PlacedWord → Read (List Directive)
+directives_at = many_at is_any directive_at

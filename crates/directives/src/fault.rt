@@ -1,7 +1,7 @@
 //! What is wrong with directives.
 
 ghost use Rattle.std.specs.Prelude.{◌≡◌};
-ghost use Rattle.directives.specs.Words.{lex_fault};
+ghost use Rattle.directives.specs.Ahead.{lex_fault};
 
 use pn_text::{LexFault, Place};
 use std::alloc::{AllocError, AllocFailed};

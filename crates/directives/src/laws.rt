@@ -1,13 +1,15 @@
 //! What holds of directives, and of a configuration after them. Laws.
 
-ghost use Rattle.directives.specs.Spelling.{ReadAsSpelled};
+ghost use Rattle.directives.specs.Meaning.{OneDirectives, OneFault, DirectivesOrFault, AlwaysMeans};
 ghost use Rattle.directives.specs.Laws.{PrunedIsGone, AxisIsGone, LastThresholdHolds, SameHypotheses, OthersStay};
 
 use mdl_check::one_answer;
 
-/// What is read of a text is what its words spell, all of them.
-pub fn read_as_spelled()
-    ensures { ReadAsSpelled }
+/// A text spells one list of directives, or it has one fault.
+pub fn directives_or_fault()
+    ensures directives { OneDirectives }
+    ensures fault { OneFault }
+    ensures either { DirectivesOrFault }
 {}
 
 /// No hypothesis that was pruned stands any more, and none that had it as an ancestor.

@@ -13,13 +13,14 @@ mod hypotheses;
 mod laws;
 mod prune;
 mod reading;
+mod stop;
 mod words;
 
 pub use applying::apply;
 pub use directive::{Directive, DirectiveAct};
 pub use fault::{DirectiveFault, DirectiveKind};
 pub use laws::{
-    axis_is_gone, last_threshold_holds, others_stay, pruned_is_gone, read_as_spelled,
+    axis_is_gone, directives_or_fault, last_threshold_holds, others_stay, pruned_is_gone,
     same_hypotheses,
 };
 pub use reading::read_directives;

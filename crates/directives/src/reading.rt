@@ -1,113 +1,132 @@
 //! From a text to its directives.
 
-ghost use Rattle.std.specs.Prelude.{◌≡◌, ◌≤◌, length, Ok, IfOk, IfErr};
-ghost use Rattle.directives.specs.Words.{Ahead};
-ghost use Rattle.directives.specs.Gives.{Gives, Stops};
-ghost use Rattle.directives.specs.Reading.{axis_at, prune_at, threshold_at, first_at, act_at, directive_at, directives_of};
+ghost use Rattle.std.specs.Prelude.{◌≡◌, ◌≤◌, length, codes, IfOk, IfErr};
+ghost use Rattle.mdl_parse.specs.Shapes.{is_keyword};
+ghost use Rattle.mdl_parse.specs.Steps.{option_at};
+ghost use Rattle.directives.specs.Ahead.{Gives};
+ghost use Rattle.directives.specs.Meaning.{IsDirectives, Faults};
+ghost use Rattle.directives.specs.Reading.{axis_at, prune_at, threshold_at, first_at, directive_at, directives_at};
 
 use crate::directive::{Directive, DirectiveAct};
 use crate::fault::DirectiveFault;
+use crate::stop::Stop;
 use crate::words::Words;
-use pn_types::Text;
+use pn_types::{Seq, Text};
 use std::alloc::Global;
 
 impl<'a> Words<'a> {
     /// Passes the axis of a prune, where it has one.
-    #[tactic(auto, unfolding(crate::specs::Reading::axis_at))]
-    fn axis(&mut self, alloc: Global) -> Result<Option<Text>, DirectiveFault>
-        ensures { Gives result self.new (axis_at self.old) }
+    #[tactic(auto, unfolding(crate::specs::Reading::axis_at, mdl_parse::specs::Steps::option_at))]
+    fn axis(&mut self, alloc: Global) -> Result<Option<Text>, Stop>
+        ensures read { Gives result self.new.words_ahead (option_at (is_keyword (codes "axis")) axis_at self.old.words_ahead) }
+        ensures ending { self.new.ending ≡ self.old.ending }
     {
-        if !self.is_keyword(b"axis") {
-            return Ok(None);
+        if self.is_keyword(b"axis") {
+            self.keyword(b"axis")?;
+            let axis = self.name(alloc)?;
+            return Ok(Some(axis));
         }
-        self.keyword(b"axis")?;
-        Ok(Some(self.name(alloc)?))
+        Ok(None)
     }
 
     /// Passes a prune.
     #[tactic(auto, unfolding(crate::specs::Reading::prune_at))]
-    fn prune(&mut self, alloc: Global) -> Result<DirectiveAct, DirectiveFault>
-        ensures { Gives result self.new (prune_at self.old) }
+    fn prune(&mut self, alloc: Global) -> Result<Directive, Stop>
+        ensures read { Gives result self.new.words_ahead (prune_at self.old.words_ahead) }
+        ensures ending { self.new.ending ≡ self.old.ending }
     {
-        self.keyword(b"prune")?;
+        let line = self.start(b"prune")?;
         let name = self.name(alloc)?;
         let axis = self.axis(alloc)?;
         self.semicolon()?;
-        Ok(match axis {
+        let act = match axis {
             Some(axis) => DirectiveAct::PruneAxis(name, axis),
             None => DirectiveAct::Prune(name),
-        })
+        };
+        Ok(Directive { line, act })
     }
 
     /// Passes a threshold.
     #[tactic(auto, unfolding(crate::specs::Reading::threshold_at))]
-    fn threshold(&mut self, alloc: Global) -> Result<DirectiveAct, DirectiveFault>
-        ensures { Gives result self.new (threshold_at self.old) }
+    fn threshold(&mut self, alloc: Global) -> Result<Directive, Stop>
+        ensures read { Gives result self.new.words_ahead (threshold_at self.old.words_ahead) }
+        ensures ending { self.new.ending ≡ self.old.ending }
     {
-        self.keyword(b"threshold")?;
+        let line = self.start(b"threshold")?;
         let name = self.name(alloc)?;
         let number = self.number()?;
         self.semicolon()?;
-        Ok(DirectiveAct::Threshold(name, number))
+        let act = DirectiveAct::Threshold(name, number);
+        Ok(Directive { line, act })
     }
 
     /// Passes a first.
     #[tactic(auto, unfolding(crate::specs::Reading::first_at))]
-    fn first(&mut self, alloc: Global) -> Result<DirectiveAct, DirectiveFault>
-        ensures { Gives result self.new (first_at self.old) }
+    fn first(&mut self, alloc: Global) -> Result<Directive, Stop>
+        ensures read { Gives result self.new.words_ahead (first_at self.old.words_ahead) }
+        ensures ending { self.new.ending ≡ self.old.ending }
     {
-        self.keyword(b"first")?;
+        let line = self.start(b"first")?;
         let name = self.name(alloc)?;
         self.semicolon()?;
-        Ok(DirectiveAct::First(name))
-    }
-
-    /// Passes what a directive does.
-    #[tactic(auto, unfolding(crate::specs::Reading::act_at))]
-    fn act(&mut self, alloc: Global) -> Result<DirectiveAct, DirectiveFault>
-        ensures { Gives result self.new (act_at self.old) }
-    {
-        if self.is_keyword(b"prune") {
-            self.prune(alloc)
-        } else if self.is_keyword(b"threshold") {
-            self.threshold(alloc)
-        } else {
-            self.first(alloc)
-        }
+        let act = DirectiveAct::First(name);
+        Ok(Directive { line, act })
     }
 
     /// Passes a directive.
     #[tactic(auto, unfolding(crate::specs::Reading::directive_at))]
-    fn directive(&mut self, alloc: Global) -> Result<Directive, DirectiveFault>
-        ensures { Gives result self.new (directive_at self.old) }
+    fn directive(&mut self, alloc: Global) -> Result<Directive, Stop>
+        ensures read { Gives result self.new.words_ahead (directive_at self.old.words_ahead) }
+        ensures ending { self.new.ending ≡ self.old.ending }
     {
-        let line = self.line();
-        let act = self.act(alloc)?;
-        Ok(Directive { line, act })
+        if self.is_keyword(b"prune") {
+            return self.prune(alloc);
+        }
+        if self.is_keyword(b"threshold") {
+            return self.threshold(alloc);
+        }
+        self.first(alloc)
+    }
+
+    /// Passes all directives, up to the end.
+    #[tactic(auto, using(mdl_parse::proofs::Loops::loop_shorter, mdl_parse::proofs::Loops::loop_more, mdl_parse::proofs::Loops::loop_all, crate::proofs::Rules::loop_stops, crate::proofs::Rules::directives_loop))]
+    fn directives(&mut self, alloc: Global) -> Result<Seq<Directive>, Stop>
+        ensures read { Gives result self.new.words_ahead (directives_at self.old.words_ahead) }
+        ensures ending { self.new.ending ≡ self.old.ending }
+    {
+        let mut directives = Vec::new(alloc);
+        'directives: while self.has_more() {
+            let directive = self.directive(alloc)?;
+            directives.push(directive)?;
+        }
+        Ok(Seq::from_vec(directives))
     }
 }
 
-/// The directives of a text, or its first fault. The text has at most 1,048,576 bytes.
+/// The directives that a text spells, or its first fault. The text has at most 1,048,576 bytes.
 ///
-/// The text is read in the words of configurations, with their white space and comments:
+/// Its words are those of configurations, with their white space and comments:
 ///
 /// ```text
 /// directives = { "prune" NAME [ "axis" NAME ] ";" | "threshold" NAME NUMBER ";" | "first" NAME ";" } .
 /// ```
 ///
-/// `Unexpected` stands at the first word with which no directives go on, or at the text's end.
-pub fn read_directives(alloc: Global, text: &[u8]) -> Result<Vec<Directive>, DirectiveFault>
+/// # Errors
+/// `Unexpected` at the first word with which the words so far begin no directives, or at the text's end, if it comes too
+/// early; another kind at the first bytes that are no word, if the words before them begin directives; `NoMemory`.
+#[tactic(auto, using(crate::proofs::Exact::directives_end, crate::proofs::Exact::fault_ends, crate::proofs::Exact::fault_stops))]
+pub fn read_directives(alloc: Global, text: &[u8]) -> Result<Seq<Directive>, DirectiveFault>
     requires { length text.now ≤ 1048576 }
-    ensures read { IfOk result (λ directives. directives_of text.now ≡ Ok directives.items) }
-    ensures fault { IfErr result (λ fault. Stops fault (directives_of text.now)) }
+    ensures read { IfOk result (λ directives. IsDirectives text.now directives) }
+    ensures fault { IfErr result (λ fault. Faults text.now fault) }
 {
     let mut words = Words::new(text);
-    let mut directives = Vec::new(alloc);
-    'directives: while !words.is_empty() {
-        directives.push(words.directive(alloc)?)?;
-    }
-    match words.fault_at_end() {
-        Some(fault) => Err(fault),
-        None => Ok(directives),
+    match words.directives(alloc) {
+        Ok(directives) => match words.unread() {
+            Some(fault) => Err(fault),
+            None => Ok(directives),
+        },
+        Err(Stop::NoMemory) => Err(DirectiveFault::NoMemory),
+        Err(Stop::Unexpected) => Err(words.fault()),
     }
 }

@@ -1,12 +1,20 @@
 //! The words of a text, one after another, the next one in view.
+//!
+//! A function that answers Unexpected leaves the word in view that doesn't fit.
 
-ghost use Rattle.std.specs.Prelude.{◌≡◌, ◌+◌, ◌<◌, ◌^◌, length, is_none, None, IfOk, IfErr};
+ghost use Rattle.std.specs.Prelude.{◌≡◌, ◌+◌, ◌<◌, ◌^◌, length, IfOk, IfErr};
 ghost use Rattle.std.specs.Option.{option_map, option_and_then};
-ghost use Rattle.directives.specs.declared.fault.DirectiveFault.TheVariants.{NoMemory};
-ghost use Rattle.directives.specs.Words.{ahead, first_word, behind, line_at, stopped, fault_in, is_next, is_keyword, name_of, number_of, is_semicolon, keyword_at, name_at, number_at, semicolon_at};
-ghost use Rattle.directives.specs.Gives.{Gives, tokens_ahead, HasEnded};
+ghost use Rattle.pn_text.specs.declared.token.Sign.TheVariants.{Semicolon};
+ghost use Rattle.mdl_parse.specs.Lexing.{tokens_ahead, HasEnded};
+ghost use Rattle.mdl_parse.specs.Picks.{is_any, is_sign, name_of, number_of};
+ghost use Rattle.mdl_parse.specs.Readers.{keyword_at, sign_at, start_at, name_at, number_at};
+ghost use Rattle.mdl_parse.specs.Shapes.{is_keyword};
+ghost use Rattle.mdl_parse.specs.Steps.{first_word, is_first, line_at};
+ghost use Rattle.directives.specs.declared.stop.Stop.TheVariants.{NoMemory};
+ghost use Rattle.directives.specs.Ahead.{Gives, ahead, passed, fault_in, unread_in};
 
 use crate::fault::{DirectiveFault, DirectiveKind, lex_fault};
+use crate::stop::Stop;
 use pn_text::{Scanner, Sign, Token, TokenKind};
 use pn_types::Text;
 use std::alloc::Global;
@@ -21,8 +29,7 @@ pub(crate) struct Words<'a> {
 }
 
 impl<'a> Model for Words<'a> {
-    ghost use Rattle.directives.specs.Words.{Ahead};
-    ghost use Rattle.directives.specs.Gives.{in_view, StandIn};
+    ghost use Rattle.directives.specs.Ahead.{Ahead, in_view, StandIn};
 
     ghost Value = { Ahead };
 
@@ -44,7 +51,7 @@ fn next_token(scanner: &mut Scanner) -> Option<Token>
 }
 
 /// The text of these bytes.
-fn copied(alloc: Global, bytes: &[u8]) -> Result<Text, DirectiveFault>
+fn copied(alloc: Global, bytes: &[u8]) -> Result<Text, Stop>
     ensures text { IfOk result (λ text. text ≡ bytes.now) }
     ensures memory { IfErr result (λ fault. fault ≡ NoMemory) }
 {
@@ -66,15 +73,15 @@ impl<'a> Words<'a> {
         }
     }
 
-    /// Whether no word is left.
-    pub(crate) fn is_empty(&self) -> bool
-        ensures { result ≡ is_none (first_word self.now.words_ahead) }
+    /// Whether a word is in view.
+    pub(crate) fn has_more(&self) -> bool
+        ensures { result ≡ is_first is_any self.now.words_ahead }
     {
-        self.token.is_none()
+        self.token.is_some()
     }
 
     /// The line of the word in view, and 0 at the end.
-    pub(crate) fn line(&self) -> u32
+    fn line(&self) -> u32
         ensures { result ≡ line_at self.now.words_ahead }
     {
         match self.token {
@@ -106,7 +113,7 @@ impl<'a> Words<'a> {
 
     /// Whether a semicolon is in view.
     fn is_semicolon(&self) -> bool
-        ensures { result ≡ is_next is_semicolon self.now }
+        ensures { result ≡ is_first (is_sign Semicolon) self.now.words_ahead }
     {
         match self.token {
             Some(token) => token.kind == TokenKind::Sign(Sign::Semicolon),
@@ -116,7 +123,7 @@ impl<'a> Words<'a> {
 
     /// Whether this keyword is in view.
     pub(crate) fn is_keyword(&self, text: &[u8]) -> bool
-        ensures { result ≡ is_next (is_keyword text.now) self.now }
+        ensures { result ≡ is_first (is_keyword text.now) self.now.words_ahead }
     {
         match self.name_in_view() {
             Some(name) => name == text,
@@ -126,14 +133,91 @@ impl<'a> Words<'a> {
 
     /// Passes the word in view.
     fn advance(&mut self)
-        ensures { self.new ≡ behind self.old }
+        ensures { self.new ≡ passed self.old }
     {
         self.token = next_token(&mut self.scanner);
     }
 
+    /// Passes the keyword.
+    #[tactic(auto, unfolding(mdl_parse::specs::Steps::leaf_at))]
+    pub(crate) fn keyword(&mut self, text: &[u8]) -> Result<(), Stop>
+        ensures read { Gives result self.new.words_ahead (keyword_at text.now self.old.words_ahead) }
+        ensures ending { self.new.ending ≡ self.old.ending }
+    {
+        if !self.is_keyword(text) {
+            return Err(Stop::Unexpected);
+        }
+        self.advance();
+        Ok(())
+    }
+
+    /// Passes the keyword with which a directive begins, and gives its line.
+    #[tactic(auto, unfolding(mdl_parse::specs::Readers::start_at))]
+    pub(crate) fn start(&mut self, text: &[u8]) -> Result<u32, Stop>
+        ensures read { Gives result self.new.words_ahead (start_at text.now self.old.words_ahead) }
+        ensures ending { self.new.ending ≡ self.old.ending }
+    {
+        let line = self.line();
+        self.keyword(text)?;
+        Ok(line)
+    }
+
+    /// Passes a semicolon.
+    #[tactic(auto, unfolding(mdl_parse::specs::Steps::leaf_at))]
+    pub(crate) fn semicolon(&mut self) -> Result<(), Stop>
+        ensures read { Gives result self.new.words_ahead (sign_at Semicolon self.old.words_ahead) }
+        ensures ending { self.new.ending ≡ self.old.ending }
+    {
+        if !self.is_semicolon() {
+            return Err(Stop::Unexpected);
+        }
+        self.advance();
+        Ok(())
+    }
+
+    /// Passes a name.
+    #[tactic(auto, unfolding(mdl_parse::specs::Steps::leaf_at))]
+    pub(crate) fn name(&mut self, alloc: Global) -> Result<Text, Stop>
+        ensures read { Gives result self.new.words_ahead (name_at self.old.words_ahead) }
+        ensures ending { self.new.ending ≡ self.old.ending }
+    {
+        let Some(name) = self.name_in_view() else {
+            return Err(Stop::Unexpected);
+        };
+        let name = copied(alloc, name)?;
+        self.advance();
+        Ok(name)
+    }
+
+    /// Passes a number.
+    #[tactic(auto, unfolding(mdl_parse::specs::Steps::leaf_at))]
+    pub(crate) fn number(&mut self) -> Result<u32, Stop>
+        ensures read { Gives result self.new.words_ahead (number_at self.old.words_ahead) }
+        ensures ending { self.new.ending ≡ self.old.ending }
+    {
+        let Some(number) = self.number_in_view() else {
+            return Err(Stop::Unexpected);
+        };
+        self.advance();
+        Ok(number)
+    }
+
+    /// The fault that stands behind all words, if they are passed and there is one.
+    pub(crate) fn unread(&mut self) -> Option<DirectiveFault>
+        ensures { result ≡ unread_in self.old.words_ahead self.old.ending }
+    {
+        if self.token.is_some() {
+            return None;
+        }
+        match self.scanner.next() {
+            Ok(_) => None,
+            Err(fault) => Some(lex_fault(fault)),
+        }
+    }
+
     /// The fault of the words: the one in view can't stand there, or none is.
-    fn stopped(&mut self) -> DirectiveFault
-        ensures { result ≡ stopped self.old }
+    pub(crate) fn fault(&mut self) -> DirectiveFault
+        ensures { result ≡ fault_in self.old.words_ahead self.old.ending }
     {
         if let Some(token) = self.token {
             return DirectiveFault::At {
@@ -152,66 +236,6 @@ impl<'a> Words<'a> {
                 }
             }
             Err(fault) => lex_fault(fault),
-        }
-    }
-
-    /// Passes the keyword.
-    #[tactic(auto, unfolding(crate::specs::Words::keyword_at))]
-    pub(crate) fn keyword(&mut self, text: &[u8]) -> Result<(), DirectiveFault>
-        ensures { Gives result self.new (keyword_at text.now self.old) }
-    {
-        if !self.is_keyword(text) {
-            return Err(self.stopped());
-        }
-        self.advance();
-        Ok(())
-    }
-
-    /// Passes a semicolon.
-    #[tactic(auto, unfolding(crate::specs::Words::semicolon_at))]
-    pub(crate) fn semicolon(&mut self) -> Result<(), DirectiveFault>
-        ensures { Gives result self.new (semicolon_at self.old) }
-    {
-        if !self.is_semicolon() {
-            return Err(self.stopped());
-        }
-        self.advance();
-        Ok(())
-    }
-
-    /// Passes a name.
-    #[tactic(auto, unfolding(crate::specs::Words::name_at))]
-    pub(crate) fn name(&mut self, alloc: Global) -> Result<Text, DirectiveFault>
-        ensures { Gives result self.new (name_at self.old) }
-    {
-        let Some(name) = self.name_in_view() else {
-            return Err(self.stopped());
-        };
-        let name = copied(alloc, name)?;
-        self.advance();
-        Ok(name)
-    }
-
-    /// Passes a number.
-    #[tactic(auto, unfolding(crate::specs::Words::number_at))]
-    pub(crate) fn number(&mut self) -> Result<u32, DirectiveFault>
-        ensures { Gives result self.new (number_at self.old) }
-    {
-        let Some(number) = self.number_in_view() else {
-            return Err(self.stopped());
-        };
-        self.advance();
-        Ok(number)
-    }
-
-    /// The fault that stands where no word is left, if there is one.
-    pub(crate) fn fault_at_end(&mut self) -> Option<DirectiveFault>
-        requires { first_word self.old.words_ahead ≡ None }
-        ensures { result ≡ fault_in self.old.ending }
-    {
-        match self.scanner.next() {
-            Ok(_) => None,
-            Err(fault) => Some(lex_fault(fault)),
         }
     }
 }

@@ -2,6 +2,7 @@
 
 ghost use Rattle.paradyn_top.specs.Serving.{OneOwed};
 
+use directives::directives_or_fault;
 use mdl_check::one_answer;
 use mdl_parse::one_meaning;
 use outside::Files;
@@ -13,6 +14,7 @@ pub fn one_owed<F: Files>()
     ensures { OneOwed F.holds F.faults }
 {
     one_meaning();
+    directives_or_fault();
     one_answer();
     one_reading();
     one_seeded();

@@ -1,0 +1,65 @@
+-- For proofs alone: the words that are to come, and what a function of the reader answers.
+use Rattle.std.specs.Prelude.{◌≡◌, ℕ, Option, Some, None, Result, Ok, Err, List, [], ◌∷◌, map, length}
+use Rattle.pn_text.specs.Scans.{Scan, Ending, AtEnd, AtFault, AreSpans, tokens_of, fault_place}
+use Rattle.pn_text.specs.declared.token.Token.{Token}
+use Rattle.pn_text.specs.declared.token.LexFault.{LexFault}
+use Rattle.mdl_parse.specs.Lexing.{tokens_ahead, HasEnded}
+use Rattle.mdl_parse.specs.Steps.{Read, behind, taken}
+use Rattle.mdl_parse.specs.WordsInText.{PlacedWord, placed_word, placed_words}
+use Rattle.directives.specs.declared.fault.DirectiveFault.{DirectiveFault}
+use Rattle.directives.specs.declared.fault.DirectiveFault.TheVariants.{At}
+use Rattle.directives.specs.declared.fault.DirectiveKind.TheVariants as kind
+use Rattle.directives.specs.declared.stop.Stop.{Stop}
+use Rattle.directives.specs.declared.stop.Stop.TheVariants.{NoMemory, Unexpected}
+use Rattle.directives.specs.Meaning.{lex_kind}
+
+-- it stops where reading stops, unless memory is wanting
+abbrev pub StopsAt : {A : Type 0} → Stop → List PlacedWord → Read A → Type 0
+StopsAt NoMemory rest read = Unit {0}
+StopsAt Unexpected rest read = read ≡ taken None rest
+
+-- it answers what was read, and leaves what is left
+abbrev pub Gives : {A : Type 0} → Result A Stop → List PlacedWord → Read A → Type 0
+Gives (Ok a) rest read = read ≡ Ok (a, rest)
+Gives (Err why) rest read = StopsAt why rest read
+
+-- ---- the words in view
+
+-- the words that are to come, and how they end
+pub record Ahead : Type 0 where
+  pub words_ahead : List PlacedWord
+  pub ending : Ending
+
+-- all words of a text
+abbrev pub ahead : List ℕ → Ahead
+ahead text = record { words_ahead = placed_words text; ending = (tokens_of text).ending }
+
+-- what stands behind the first
+abbrev pub passed : Ahead → Ahead
+passed a = record { words_ahead = behind a.words_ahead; ending = a.ending }
+
+-- a token in view, and those behind it
+abbrev pub in_view : List ℕ → Option Token → Scan → Ahead
+in_view text token scan = record { words_ahead = map (placed_word text) (tokens_ahead token scan); ending = scan.ending }
+
+-- the tokens stand in the text
+pub record StandIn (text : List ℕ) (token : Option Token) (scan : Scan) : Type 0 where
+  pub spans : AreSpans 0 (tokens_ahead token scan) (length text)
+  pub ended : HasEnded token scan
+
+-- ---- faults
+
+abbrev pub lex_fault : LexFault → DirectiveFault
+lex_fault fault = At (fault_place fault).line (fault_place fault).col (lex_kind fault)
+
+-- the fault of words that can't go on as they do
+abbrev pub fault_in : List PlacedWord → Ending → DirectiveFault
+fault_in [] (AtEnd last) = At last.line last.col kind.Unexpected
+fault_in [] (AtFault fault) = lex_fault fault
+fault_in (placed ∷ words_ahead) ending = At placed.line placed.col kind.Unexpected
+
+-- the fault that stands behind all words, if there is one
+abbrev pub unread_in : List PlacedWord → Ending → Option DirectiveFault
+unread_in [] (AtEnd last) = None
+unread_in [] (AtFault fault) = Some (lex_fault fault)
+unread_in (placed ∷ words_ahead) ending = None
