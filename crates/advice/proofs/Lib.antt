@@ -1,3 +1,4 @@
+pub mod AdviceRead
 pub mod Answers
 pub mod CanonicalFoci
 pub mod Fits
@@ -7,6 +8,7 @@ pub mod NodeForms
 pub mod NodeLines
 pub mod Parts
 pub mod Passing
+pub mod Placed
 pub mod PlainLines
 pub mod ReadLines
 pub mod ReportRead

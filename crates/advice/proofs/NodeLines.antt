@@ -9,7 +9,7 @@ use Rattle.report.specs.SearchTexts.{node_line, parent_text, pick_of, state_text
 use Rattle.w3_search.specs.declared.node.Node.{Node}
 use Rattle.w3_search.specs.declared.node.NodeState.{NodeState}
 use Rattle.w3_search.specs.declared.node.NodeState.TheVariants.{Waiting, Active, Confirmed, Rejected, Barred, Unfinished}
-use Rattle.advice.specs.Seams.{HasSums, IsNodeLine, IsSmall, is_one_line, verdict_in, verdict_on}
+use Rattle.advice.specs.Seams.{HasNumbers, IsNodeLine, IsSmall, is_one_line, verdict_in, verdict_on}
 use Rattle.advice.specs.Words.{is_number, words}
 use Rattle.advice.proofs.Fits.{head_words, head_fits, number_read, number_fits}
 use Rattle.advice.proofs.NodeForms.{IsHeaded, Tells, tells_barred, tells_false, tells_true, tells_waiting}
@@ -83,7 +83,7 @@ module _ (window i : ℕ) (p : NodePart) (h : IsNodeLine p) (small : IsSmall i) 
       tells_waiting (body (waiting_text seen window)) (decimal i) p.phase (parent_text p.node.parent) p.hypothesis p.focus (decimal seen) (decimal window) (number_fits seen s) (number_fits window sized)
       (headed (waiting_text seen window) (waiting_front seen ++ decimal window ∷ []) (numbered (waiting_front seen) window (waiting_above seen)))
 
-  tells : (state : NodeState) → HasSums p.node state → Tells (body (state_text window p.node state)) (verdict_in p state)
+  tells : (state : NodeState) → HasNumbers p.node state → Tells (body (state_text window p.node state)) (verdict_in p state)
   tells Waiting s = tells_seen p.node.seen s
   tells Active s = tells_seen p.node.seen s
   tells (Unfinished seen) s = tells_seen seen s
@@ -119,5 +119,5 @@ module _ (window i : ℕ) (p : NodePart) (h : IsNodeLine p) (small : IsSmall i) 
     body = body (state_text window p.node p.node.state);
     is = regroup (decimal i) p.phase (parent_text p.node.parent) p.hypothesis p.focus (state_text window p.node p.node.state);
     one = line_before (heads i p) (state_text window p.node p.node.state) (heads_above i p h) (one p.node.state);
-    tells = tells p.node.state h.sums;
+    tells = tells p.node.state h.numbers;
   }

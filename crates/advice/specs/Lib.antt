@@ -1,4 +1,5 @@
 pub mod Advice
+pub mod AdvisedDirectives
 pub mod Directives
 pub mod Laws
 pub mod Lines

@@ -22,9 +22,9 @@ use Rattle.advice.specs.Reading.{verdicts_of}
 use Rattle.advice.specs.Words.{is_focus}
 use Rattle.advice.specs.declared.verdict.Verdict.{Verdict}
 
--- ---- what stands in the lines
+-- ---- what can be read
 
--- a number that 64 bits hold
+-- a number that 64 bits hold, as all that the code holds are
 abbrev pub IsSmall : ℕ → Type 0
 IsSmall n = n < 2 ^ 64
 
@@ -32,44 +32,47 @@ IsSmall n = n < 2 ^ 64
 abbrev pub is_one_line : List ℕ → Bool
 is_one_line text = list_all (λ byte. not (is_lf byte)) text
 
+-- the texts of a refused wish
 pub record IsRefusedLine (r : RefusedPart) : Type 0 where
   pub metric : is_one_line r.metric ≡ true
   pub focus : is_one_line r.focus ≡ true
 
+-- the texts of what was shown
 pub record IsHistogramLine (s : ShownPart) : Type 0 where
   pub metric : is_one_line s.metric ≡ true
   pub focus : is_one_line s.focus ≡ true
   pub units : is_one_line s.units ≡ true
 
+-- the sums over the samples of a node, and their interval
 pub record AreSums (n : Node) : Type 0 where
   pub value : IsSmall n.value
   pub ticks : IsSmall n.ticks
   pub from : IsSmall n.from
   pub to : IsSmall n.to
 
--- the numbers that are printed of a node in this state; a test that was true was of some ticks
-abbrev pub HasSums : Node → NodeState → Type 0
-HasSums n Waiting = IsSmall n.seen
-HasSums n Active = IsSmall n.seen
-HasSums n Confirmed = AreSums n × (0 < n.ticks)
-HasSums n Rejected = AreSums n
-HasSums n (Barred cause) = Unit {0}
-HasSums n (Unfinished seen) = IsSmall seen
+-- the numbers that are printed of a node in this state; a test that was true had ticks
+abbrev pub HasNumbers : Node → NodeState → Type 0
+HasNumbers n Waiting = IsSmall n.seen
+HasNumbers n Active = IsSmall n.seen
+HasNumbers n Confirmed = AreSums n × (0 < n.ticks)
+HasNumbers n Rejected = AreSums n
+HasNumbers n (Barred cause) = Unit {0}
+HasNumbers n (Unfinished seen) = IsSmall seen
 
--- the names of the phase and of the hypothesis, the focus, and the numbers
+-- the names of a phase and of a hypothesis, a focus in its canonical form, and numbers
 pub record IsNodeLine (p : NodePart) : Type 0 where
   pub phase : is_name p.phase ≡ true
   pub parent : IfSome p.node.parent IsSmall
   pub hypothesis : is_name p.hypothesis ≡ true
   pub focus : is_focus p.focus ≡ true
-  pub sums : HasSums p.node p.node.state
+  pub numbers : HasNumbers p.node p.node.state
 
 pub record AreSearchLines (s : SearchPart) : Type 0 where
   pub window : IsSmall s.window
   pub count : IsSmall (length s.nodes)
   pub nodes : All IsNodeLine s.nodes
 
--- What a report may be of; the output may be any bytes.
+-- What a report can be of. The output may be any bytes.
 pub record IsReadable (parts : ReportParts) (skipped : ℕ) : Type 0 where
   pub harts : IsSmall (length parts.harts)
   pub ticks : IsSmall (sum_by (λ part. part.ticks) parts.harts)
@@ -98,7 +101,7 @@ verdict_on p = verdict_in p p.node.state
 abbrev pub verdicts_in : ReportParts → List Verdict
 verdicts_in parts = option_map_or (λ s. flat_map (λ p. option_to_list (verdict_on p)) s.nodes) parts.search []
 
--- The verdicts of a report are those on its nodes.
+-- From the text of a report the verdicts on its nodes are read.
 abbrev pub ReportIsRead : Type 0
 ReportIsRead = (parts : ReportParts) (skipped : ℕ) → IsReadable parts skipped →
     verdicts_of (report_text parts skipped) ≡ Ok (verdicts_in parts)

@@ -1,5 +1,6 @@
 //! What holds of the definitions of advice.
 
+ghost use Rattle.advice.specs.AdvisedDirectives.{AdviceIsRead, ReportIsAdvised};
 ghost use Rattle.advice.specs.Laws.{AnswersStay};
 ghost use Rattle.advice.specs.Seams.{CanonicalIsFocus, ReportIsRead};
 
@@ -17,4 +18,14 @@ pub fn report_is_read()
 /// The foci of a report, which are printed in their canonical form, are read, where the names of the tree are good.
 pub fn canonical_is_focus()
     ensures { CanonicalIsFocus }
+{}
+
+/// The text of an advice is read as what is advised, each directive on its line, where names are names in a configuration.
+pub fn advice_is_read()
+    ensures { AdviceIsRead }
+{}
+
+/// What a report advises is read as that.
+pub fn report_is_advised()
+    ensures { ReportIsAdvised }
 {}
