@@ -45,10 +45,10 @@ true_below v n h some =
 -- ---- the least rate of a name
 
 module _ (name : List ℕ) where
-  abbrev least : ℕ → List Verdict → ℕ
+  abbrev pub least : ℕ → List Verdict → ℕ
   least a vs = fold min a (map rate (filter (is_true_of name) vs))
 
-  least_below : (a : ℕ) (ns : List ℕ) → fold min a ns ≤ a
+  pub least_below : (a : ℕ) (ns : List ℕ) → fold min a ns ≤ a
   least_below a [] = omega arith
   least_below a (n ∷ ns) = let more = least_below (min a n) ns in omega (arith, more)
 
@@ -56,7 +56,7 @@ module _ (name : List ℕ) where
   capped n ns h = ap (λ (m : ℕ). fold min m ns) (omega arith)
 
   -- the threshold is the least of the rates and of the greatest threshold
-  is_least : (vs : List Verdict) (n : ℕ) → threshold_of vs name ≡ Some n → n ≡ least most_threshold vs
+  pub is_least : (vs : List Verdict) (n : ℕ) → threshold_of vs name ≡ Some n → n ≡ least most_threshold vs
   is_least [] n e = cc
   is_least (v ∷ vs) n e = by (is_true_of name v) (is_least vs n) e
     where

@@ -1,7 +1,17 @@
+pub mod AdviceRead
 pub mod Answers
+pub mod CanonicalFoci
+pub mod Fits
 pub mod Lowered
 pub mod Mentioned
+pub mod NodeForms
+pub mod NodeLines
 pub mod Parts
 pub mod Passing
+pub mod Placed
+pub mod PlainLines
 pub mod ReadLines
+pub mod ReportRead
 pub mod Rows
+pub mod Spaced
+pub mod Steps

@@ -1,9 +1,10 @@
--- The first part of a text.
-use Rattle.std.proofs.Common.{◌≡◌, ℕ, ◌+◌, cond, Bool, true, false, Some, None, List, [], ◌∷◌, length, take, drop, position, nat_lt, refl, arith, ◌≤◌, not, subst}
-use Rattle.std.specs.List.{position_or_len, slice_split}
-use Rattle.std.proofs.lemmas.Bool.{ltb-true, ltb-false}
+-- The parts of a text.
+use Rattle.std.proofs.Common.{◌≡◌, ℕ, ◌+◌, ◌==◌, cond, Bool, true, false, Some, None, List, [], ◌∷◌, ◌++◌, length, take, drop, position, nat_lt, refl, arith, ◌≤◌, not, subst}
+use Rattle.std.specs.List.{list_all, position_or_len, slice_split}
+use Rattle.std.proofs.lemmas.Bool.{and_parts, eq-eqb, ltb-true, ltb-false, not-true}
 use Rattle.std.proofs.lemmas.List.Splits.{slice_split_first}
 use Rattle.std.proofs.lemmas.List.Sums.{prefix_len-le-length}
+use Rattle.advice.specs.Words.{parts}
 
 some_only : (b : Bool) (m k : ℕ) → cond b (Some m) None ≡ Some k → (b ≡ true) × (m ≡ k)
 some_only true m k e = (refl, cc)
@@ -36,3 +37,23 @@ module _ (p : ℕ → Bool) where
       let f = none_only (nat_lt (position_or_len p xs) (length xs)) (position_or_len p xs) e in
       let least : position_or_len p xs ≤ length xs = prefix_len-le-length (λ x. not (p x)) xs in
       whole xs (omega (arith, least, ltb-false (position_or_len p xs) (length xs) f))
+
+-- ---- bytes without a separator
+
+-- the byte doesn't stand in the text
+abbrev pub lacks : ℕ → List ℕ → Bool
+lacks c text = list_all (λ byte. not (byte == c)) text
+
+-- they are a part, up to a separator
+pub part_at : (c : ℕ) (w text : List ℕ) → lacks c w ≡ true → parts c (w ++ c ∷ text) ≡ w ∷ parts c text
+part_at c [] text h = rw (eq-eqb c c refl) refl
+part_at c (byte ∷ w) text h =
+    let each = and_parts (not (byte == c)) (lacks c w) h in
+    rw (not-true (byte == c) each.0, part_at c w text each.1) refl
+
+-- and the only one, up to the end
+pub one_part : (c : ℕ) (w : List ℕ) → lacks c w ≡ true → parts c w ≡ w ∷ []
+one_part c [] h = refl
+one_part c (byte ∷ w) h =
+    let each = and_parts (not (byte == c)) (lacks c w) h in
+    rw (not-true (byte == c) each.0, one_part c w each.1) refl

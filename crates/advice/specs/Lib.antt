@@ -1,8 +1,10 @@
 pub mod Advice
+pub mod AdvisedDirectives
 pub mod Directives
 pub mod Laws
 pub mod Lines
 pub mod Lowering
 pub mod Pieces
 pub mod Reading
+pub mod Seams
 pub mod Words

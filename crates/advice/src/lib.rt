@@ -14,6 +14,8 @@ mod words;
 pub use directive_lines::advise;
 pub use fault::ReportFault;
 pub use hypothesis::MAX_THRESHOLD;
-pub use laws::answers_stay;
+pub use laws::{
+    advice_is_read, answers_stay, canonical_is_focus, report_is_advised, report_is_read,
+};
 pub use reading::read_verdicts;
 pub use verdict::Verdict;
