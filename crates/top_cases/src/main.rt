@@ -11,8 +11,9 @@
 //!   words that aren't text are served.
 //! - `begin COUNT WORDS`: these words are served, and only so many bytes of what the output gained are printed.
 //! - `keep NAME WORDS`: these words are served, and the log that they leave isn't printed, but is the file NAME from then on.
-//! - `meet NAME WORDS`: the same, and two workers meet before the second quantum of each; of what is left only the status is printed,
-//!   and whether they met. `compare WORDS`: these words are served, and it is printed whether the output gains the same as then.
+//! - `meet NAME WORDS`: the same, and two workers meet before the second quantum of each, or under `visi` the run before its second quantum
+//!   and a view behind its second sample; of what is left only the status is printed, and whether they met. `compare WORDS`: these words
+//!   are served, and it is printed whether the output gains the same as then.
 //! - `count WORDS`: these words are served by two workers, and it is printed whether each asked for a quantum as often as the log that is
 //!   left says, with the numbers from 0 on.
 //! - `deliver LOG OUTPUT`: these two texts are delivered, and what the log and the output gained is printed.
