@@ -130,7 +130,7 @@ module _ (i : Inputs) (workers turns : ℕ) (team : 1 ≤ workers) (few : worker
       by false stops rest = rest (passes number hart quanta waits w stops)
 
   goes_on : (left : ℕ) → GoesOn left
-  goes_on zero number quanta waits sum w = (quanta, shared number quanta waits w (λ h lt. full i quanta h (let many = w.many in omega (arith, sum))))
+  goes_on zero = λ number quanta waits sum w. (quanta, shared number quanta waits w (λ h lt. full i quanta h (let many = w.many in omega (arith, sum))))
   goes_on (suc left) = one_more left (goes_on left)
 
 pub some_shared : SomeShared

@@ -27,20 +27,29 @@ allowed_more i quanta q before few one = record {
 -- ---- from any list on
 
 module _ (i : Inputs) (seed turns : ℕ) (some : 1 ≤ turns) (most : turns ≤ MAX_QUANTUM) where
-  -- there is a whole list that goes on where no more than so many quanta can follow
-  whole_after : (left count : ℕ) (quanta : List Quantum) (order : Order) → count + left ≡ MAX_QUANTA → Running i seed turns count quanta order → AreAllowed i quanta → (whole : List Quantum) × IsSeeded i seed turns whole
-  whole_after zero count quanta order sum r a = (quanta, fills i seed turns quanta order (subst (λ n. Running i seed turns n quanta order) (let s = sum in omega arith) r) a)
-  whole_after (suc left) count quanta order sum r a = by (picked order (may_go i quanta) i.settings.harts) refl
+  abbrev HasWhole : Type 0
+  HasWhole = (whole : List Quantum) × IsSeeded i seed turns whole
+
+  -- there is a whole list that goes on where so many quanta can follow
+  abbrev GoesOn : ℕ → Type 0
+  GoesOn left = (count : ℕ) (quanta : List Quantum) (order : Order) → count + left ≡ MAX_QUANTA → Running i seed turns count quanta order → AreAllowed i quanta → HasWhole
+
+  one_more : (left : ℕ) → GoesOn left → GoesOn (suc left)
+  one_more left more count quanta order sum r a = by (picked order (may_go i quanta) i.settings.harts) refl
     where
-      by : (o : Option ℕ) → picked order (may_go i quanta) i.settings.harts ≡ o → (whole : List Quantum) × IsSeeded i seed turns whole
+      by : (o : Option ℕ) → picked order (may_go i quanta) i.settings.harts ≡ o → HasWhole
       by None e = (quanta, ends i seed turns count quanta order r a e)
       by (Some h) e =
           let q : Quantum = quantum_of i 0 h turns (work i quanta).kept in
           let may = picked_may order (may_go i quanta) i.settings.harts h e in
           let one : IsAllowed i (work i quanta).kept q = record { worker = omega arith; hart = may.1; some = some; few = most; runnable = may.0; owns = refl } in
           let number = r.number in
-          whole_after left (count + 1) (quanta ++ q ∷ []) (order_after order h) (omega (arith, sum))
-          (goes_on i seed turns count h quanta order q r e refl) (allowed_more i quanta q a (omega (arith, sum)) one)
+          more (count + 1) (quanta ++ q ∷ []) (order_after order h) (omega (arith, sum)) (goes_on i seed turns count h quanta order q r e refl)
+          (allowed_more i quanta q a (omega (arith, sum)) one)
+
+  whole_after : (left : ℕ) → GoesOn left
+  whole_after zero = λ count quanta order sum r a. (quanta, fills i seed turns quanta order (subst (λ n. Running i seed turns n quanta order) (omega (arith, sum)) r) a)
+  whole_after (suc left) = one_more left (whole_after left)
 
 pub some_seeded : SomeSeeded
 some_seeded i seed turns some most =
