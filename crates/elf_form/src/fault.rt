@@ -36,28 +36,46 @@ pub enum ElfFault {
     BadEntry(u64),
     /// The symbol table or its string table is malformed.
     BadSymbols,
-    /// Want of memory.
-    NoMemory,
 }
 
-impl From<AllocError> for ElfFault {
+/// Why a file was not loaded.
+#[derive(Clone, Copy, Debug, PartialEq, Eq, Drop)]
+pub enum ElfError {
+    /// Memory was wanting.
+    NoMemory,
+    /// The first fault of the file.
+    Fault(ElfFault),
+}
+
+impl From<ElfFault> for ElfError {
     ghost use Rattle.std.specs.Prelude.{◌≡◌};
-    ghost use Rattle.elf_form.specs.declared.fault.ElfFault.TheVariants.{NoMemory};
+    ghost use Rattle.elf_form.specs.declared.fault.ElfError.TheVariants.{Fault};
 
-    ghost from_gives = { λ _ e. e ≡ NoMemory };
+    ghost from_gives = { λ fault e. e ≡ Fault fault };
 
-    fn from(_error: AllocError) -> ElfFault {
-        ElfFault::NoMemory
+    fn from(fault: ElfFault) -> ElfError {
+        ElfError::Fault(fault)
     }
 }
 
-impl<T: Drop> From<AllocFailed<T>> for ElfFault {
+impl From<AllocError> for ElfError {
     ghost use Rattle.std.specs.Prelude.{◌≡◌};
-    ghost use Rattle.elf_form.specs.declared.fault.ElfFault.TheVariants.{NoMemory};
+    ghost use Rattle.elf_form.specs.declared.fault.ElfError.TheVariants.{NoMemory};
 
     ghost from_gives = { λ _ e. e ≡ NoMemory };
 
-    fn from(_error: AllocFailed<T>) -> ElfFault {
-        ElfFault::NoMemory
+    fn from(_error: AllocError) -> ElfError {
+        ElfError::NoMemory
+    }
+}
+
+impl<T: Drop> From<AllocFailed<T>> for ElfError {
+    ghost use Rattle.std.specs.Prelude.{◌≡◌};
+    ghost use Rattle.elf_form.specs.declared.fault.ElfError.TheVariants.{NoMemory};
+
+    ghost from_gives = { λ _ e. e ≡ NoMemory };
+
+    fn from(_error: AllocFailed<T>) -> ElfError {
+        ElfError::NoMemory
     }
 }

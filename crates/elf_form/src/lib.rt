@@ -12,7 +12,7 @@ mod section;
 mod segment;
 mod symbol;
 
-pub use fault::ElfFault;
+pub use fault::{ElfError, ElfFault};
 pub use header::{Header, begins_as_elf, header_of};
 pub use laws::limits_are;
 pub use limits::MAX_PROGRAM_LEN;

@@ -1,6 +1,6 @@
 -- What the stages' faults say of a file's meaning.
-use Rattle.std.proofs.Common.{◌≡◌, ◌≢◌, ℕ, ◌-◌, Option, Some, None, List, ◌∷◌, length, Result, Ok, Err, ap, sym, ◌∙◌}
-use Rattle.std.specs.Prelude.{MatchResult, IsErrAnd}
+use Rattle.std.proofs.Common.{◌≡◌, ℕ, ◌-◌, Option, Some, None, List, ◌∷◌, length, Result, Ok, Err, ap, sym, subst, ◌∙◌}
+use Rattle.std.specs.Prelude.{IsErrAnd}
 use Rattle.elf_form.specs.Faults.{first_fault}
 use Rattle.elf_form.specs.Fields.{header_of, program_headers_of, section_headers_of}
 use Rattle.elf_form.specs.Headers.{header_fault}
@@ -9,7 +9,9 @@ use Rattle.elf_form.specs.Texts.{text_fault, text_range}
 use Rattle.elf_form.specs.Symbols.{symbols_fault, symbols_of}
 use Rattle.elf_form.specs.Meaning.{meaning_of, meaning_with, Tables, tables_of, fault_with, image_with, unless_fault, segments_of, start_of, length_of}
 use Rattle.elf_form.specs.declared.fault.ElfFault.{ElfFault}
-use Rattle.elf_form.specs.declared.fault.ElfFault.TheVariants.{NoMemory}
+use Rattle.elf_form.specs.declared.fault.ElfError.{ElfError}
+use Rattle.elf_form.specs.declared.fault.ElfError.TheVariants.{Fault, NoMemory}
+use Rattle.elf_load.specs.Means.{Means, Refuses}
 use Rattle.elf_form.specs.declared.section.SectionHeader.{SectionHeader}
 use Rattle.elf_form.specs.declared.section.TextRange.{TextRange}
 use Rattle.elf_form.specs.declared.header.Header.{Header}
@@ -19,10 +21,15 @@ use Rattle.pn_types.specs.declared.image.Segment.{Segment}
 use Rattle.pn_types.specs.declared.image.Symbol.{Symbol}
 use Rattle.elf_form.proofs.FaultLemmas.{behind}
 
--- a fault that is passed on
-pub passed : (meaning : Result Image ElfFault) (result : Result Image ElfFault) (fault : ElfFault) → IsErrAnd result (λ e. e ≡ fault) → (fault ≢ NoMemory → meaning ≡ Err fault) → MatchResult result (λ image. meaning ≡ Ok image) (λ e. e ≢ NoMemory → meaning ≡ Err e)
-passed meaning (Ok image) fault is m = absurd is
-passed meaning (Err e) fault is m = λ other. m (λ none. other (is ∙ none)) ∙ ap Err (sym is)
+-- a refusal that is passed on
+pub passed : (meaning : Result Image ElfFault) (result : Result Image ElfError) (error : ElfError) → IsErrAnd result (λ e. e ≡ error) → Refuses error (λ fault. meaning ≡ Err fault) → Means result meaning
+passed meaning (Ok image) error is m = absurd is
+passed meaning (Err e) error is m = subst (λ e. Refuses e (λ fault. meaning ≡ Err fault)) (sym is) m
+
+-- a refusal says as much as its reason
+pub refuses_more : {why also : ElfFault → Type 0} (error : ElfError) → ((fault : ElfFault) → why fault → also fault) → Refuses error why → Refuses error also
+refuses_more (Fault fault) more refused = more fault refused
+refuses_more NoMemory more refused = tt
 
 -- the first check counts where it gives a fault
 at_once : (check : Option ElfFault) (checks : List (Option ElfFault)) (fault : ElfFault) → check ≡ Some fault → first_fault (check ∷ checks) ≡ Some fault

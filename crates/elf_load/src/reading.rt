@@ -11,7 +11,7 @@ use crate::segments::{check_segments, loads_of, segments_of};
 use crate::symbols::checked_symbols;
 use crate::tables::{checked_header, program_headers, section_headers};
 use crate::text::checked_text;
-use elf_form::{ElfFault, Load, MAX_NAMES_LEN, SectionHeader};
+use elf_form::{ElfError, Load, MAX_NAMES_LEN, SectionHeader};
 use pn_types::{Image, Seq};
 use std::alloc::Global;
 
@@ -22,7 +22,7 @@ fn image_of(
     entry: u64,
     loads: &[Load],
     sections: &[SectionHeader],
-) -> Result<Image, ElfFault>
+) -> Result<Image, ElfError>
     requires { header_fault bytes.now ≡ None }
     ensures meaning { MeansWith bytes.now (record { entry = entry; loads = loads.now; sections = sections.now }) result }
     ensures few { IfOk result (λ image. length image.symbols < 2 ^ 32) }
@@ -43,7 +43,7 @@ fn image_of(
 
 /// The image of an ELF file, or its first fault. Want of memory is the answer also where the names of its symbols have
 /// more than [`MAX_NAMES_LEN`] bytes together, or its symbol table has 2^32 entries or more.
-pub fn load(alloc: Global, bytes: &[u8]) -> Result<Image, ElfFault>
+pub fn load(alloc: Global, bytes: &[u8]) -> Result<Image, ElfError>
     ensures meaning { Means result (meaning_of bytes.now) }
     ensures accepted { IfOk result IsAccepted }
     ensures modules { IfOk result (λ image. All (λ s. is_good_name s.«module» ≡ true) image.symbols) }

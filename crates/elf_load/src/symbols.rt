@@ -9,7 +9,7 @@ ghost use Rattle.elf_load.specs.Checks.{ChecksOrWants};
 
 use crate::names::{ended_len, is_program, module_at, name_at};
 use crate::tables::{part, symbol_entries};
-use elf_form::{ElfFault, MAX_NAMES_LEN, SectionHeader, SymbolEntry};
+use elf_form::{ElfError, ElfFault, MAX_NAMES_LEN, SectionHeader, SymbolEntry};
 use pn_types::{NoMemory, PROGRAM_MODULE, SymKind, Symbol, Text};
 use std::alloc::Global;
 
@@ -120,29 +120,29 @@ fn table_symbols(
     bytes: &[u8],
     symbols: &SectionHeader,
     strings: &SectionHeader,
-) -> Result<Vec<Symbol>, ElfFault>
+) -> Result<Vec<Symbol>, ElfError>
     ensures fault { ChecksOrWants result (table_fault bytes.now symbols.now (Some strings.now)) }
     ensures symbols { IfOk result (λ found. found.items ≡ table_symbols bytes.now symbols.now (Some strings.now)) }
     ensures few { IfOk result (λ found. length found.items < 2 ^ 32) }
     ensures named { IfOk result (λ found. names_len found.items ≤ MAX_NAMES_LEN) }
 {
     if symbols.entry_size != 24 || symbols.size % 24 != 0 {
-        return Err(ElfFault::BadSymbols);
+        return Err(ElfFault::BadSymbols.into());
     }
     let len = bytes.len() as u64;
     if symbols.reaches_past(len) || strings.reaches_past(len) {
-        return Err(ElfFault::Short(len));
+        return Err(ElfFault::Short(len).into());
     }
     let names = part(bytes, strings.offset, strings.size);
     let entries = symbol_entries(alloc, bytes, symbols)?;
     if !are_ended(names, &entries) {
-        return Err(ElfFault::BadSymbols);
+        return Err(ElfFault::BadSymbols.into());
     }
     if entries.len() > MAX_ENTRIES {
-        return Err(ElfFault::NoMemory);
+        return Err(ElfError::NoMemory);
     }
     if !are_names_short(names, &entries) {
-        return Err(ElfFault::NoMemory);
+        return Err(ElfError::NoMemory);
     }
     Ok(gather(alloc, names, &entries)?)
 }
@@ -153,7 +153,7 @@ pub fn checked_symbols(
     alloc: Global,
     bytes: &[u8],
     sections: &[SectionHeader],
-) -> Result<Vec<Symbol>, ElfFault>
+) -> Result<Vec<Symbol>, ElfError>
     ensures fault { ChecksOrWants result (symbols_fault bytes.now sections.now) }
     ensures symbols { IfOk result (λ symbols. symbols.items ≡ symbols_of bytes.now sections.now) }
     ensures few { IfOk result (λ symbols. length symbols.items < 2 ^ 32) }
@@ -163,7 +163,7 @@ pub fn checked_symbols(
         return Ok(Vec::new(alloc));
     };
     let Some(strings) = strings_of(sections, &symbols) else {
-        return Err(ElfFault::BadSymbols);
+        return Err(ElfFault::BadSymbols.into());
     };
     table_symbols(alloc, bytes, &symbols, &strings)
 }

@@ -1,5 +1,5 @@
 -- What bytes mean as a log: its settings and quanta, or their first fault.
-use Rattle.std.specs.Prelude.{◌≡◌, ◌≢◌, ℕ, zero, suc, ◌+◌, ◌==◌, nat_lt, nat_eq, not, if◌then◌else◌, Bool, true, false, Option, Some, None, List, [], ◌∷◌, Result, Ok, Err, MatchResult, length, map, take}
+use Rattle.std.specs.Prelude.{◌≡◌, ⊤, ℕ, zero, suc, ◌+◌, ◌==◌, nat_lt, nat_eq, not, if◌then◌else◌, Bool, true, false, Option, Some, None, List, [], ◌∷◌, Result, Ok, Err, MatchResult, length, map, take}
 use Rattle.std.specs.List.{starts_with}
 use Rattle.std.specs.Global.{Vec}
 use Rattle.pn_types.specs.declared.limits.TheConstants.{USUAL_INSTRUMENTS}
@@ -10,7 +10,9 @@ use Rattle.quanta_log.specs.declared.version.Version.{Version}
 use Rattle.quanta_log.specs.declared.version.Version.TheVariants.{One, Two}
 use Rattle.pn_types.specs.declared.quantum.Quantum.{Quantum}
 use Rattle.quanta_log.specs.declared.fault.LogFault.{LogFault}
-use Rattle.quanta_log.specs.declared.fault.LogFault.TheVariants.{BadHead, Short, BadField, Trailing, NoMemory}
+use Rattle.quanta_log.specs.declared.fault.LogFault.TheVariants.{BadHead, Short, BadField, Trailing}
+use Rattle.quanta_log.specs.declared.fault.LogError.{LogError}
+use Rattle.quanta_log.specs.declared.fault.LogError.TheVariants as error
 use Rattle.quanta_log.specs.Fields.{Field, magic, head_len, entry_len, log_len, head_fields, entry_fields, number, is_within}
 
 -- the first bytes, up to 8, are those of a version's magic
@@ -109,6 +111,11 @@ meaning_as (Some v) b = unless_fault (log_fault v b) (settings_of v b, quanta_at
 unfoldable pub meaning_of : List ℕ → Result (Settings × List Quantum) LogFault
 meaning_of b = meaning_as (version_of b) b
 
+-- why a call was refused; want of memory is free
+abbrev pub Refuses : LogError → (LogFault → Type 0) → Type 0
+Refuses (error.Fault fault) why = why fault
+Refuses error.NoMemory why = ⊤
+
 -- the answer is what bytes mean, unless memory is wanting
-abbrev pub Means : Result (Settings × Vec Quantum) LogFault → Result (Settings × List Quantum) LogFault → Type 0
-Means result meaning = MatchResult result (λ log. meaning ≡ Ok (log.0, log.1.items)) (λ e. e ≢ NoMemory → meaning ≡ Err e)
+abbrev pub Means : Result (Settings × Vec Quantum) LogError → Result (Settings × List Quantum) LogFault → Type 0
+Means result meaning = MatchResult result (λ log. meaning ≡ Ok (log.0, log.1.items)) (λ e. Refuses e (λ fault. meaning ≡ Err fault))

@@ -1,11 +1,10 @@
 //! Reading the entries of a log.
 
-ghost use Rattle.std.specs.Prelude.{◌≡◌, ◌≢◌, ◌+◌, ◌≤◌, ◌<◌, length, None, Some, MatchResult};
-ghost use Rattle.quanta_log.specs.declared.fault.LogFault.TheVariants.{NoMemory};
+ghost use Rattle.std.specs.Prelude.{◌≡◌, ◌+◌, ◌≤◌, ◌<◌, length, None, Some, MatchResult};
 ghost use Rattle.quanta_log.specs.Fields.{head_len, entry_len, log_len};
-ghost use Rattle.quanta_log.specs.Meaning.{harts_of, count_of, quantum_at, quanta_at, entry_fault, entries_fault};
+ghost use Rattle.quanta_log.specs.Meaning.{harts_of, count_of, quantum_at, quanta_at, entry_fault, entries_fault, Refuses};
 
-use crate::fault::LogFault;
+use crate::fault::{LogError, LogFault};
 use crate::numbers::{byte, doubleword, half, is_within, word};
 use crate::version::Version;
 use pn_types::{MAX_QUANTUM, MAX_WORKERS, Quantum};
@@ -97,13 +96,13 @@ fn quantum_at(version: Version, bytes: &[u8], at: usize) -> Quantum
 }
 
 /// The quanta of all entries, or the first fault of one.
-pub fn quanta_of(alloc: Global, version: Version, bytes: &[u8]) -> Result<Vec<Quantum>, LogFault>
+pub fn quanta_of(alloc: Global, version: Version, bytes: &[u8]) -> Result<Vec<Quantum>, LogError>
     requires harts { 1 ≤ harts_of bytes.now }
     requires whole { log_len version (count_of bytes.now) ≤ length bytes.now }
     ensures { MatchResult result
         (λ quanta. (entries_fault version (harts_of bytes.now) bytes.now (count_of bytes.now) (head_len version) ≡ None)
         × (quanta.items ≡ quanta_at version bytes.now (count_of bytes.now) (head_len version)))
-        (λ e. e ≢ NoMemory → entries_fault version (harts_of bytes.now) bytes.now (count_of bytes.now) (head_len version) ≡ Some e) }
+        (λ e. Refuses e (λ fault. entries_fault version (harts_of bytes.now) bytes.now (count_of bytes.now) (head_len version) ≡ Some fault)) }
 {
     let harts = word(bytes, 8);
     let count = doubleword(bytes, 32);
@@ -111,7 +110,7 @@ pub fn quanta_of(alloc: Global, version: Version, bytes: &[u8]) -> Result<Vec<Qu
     let mut at = version.head_len();
     for _ in 0..count {
         if let Some(fault) = entry_fault(version, harts, bytes, at) {
-            return Err(fault);
+            return Err(LogError::Fault(fault));
         }
         quanta.push(quantum_at(version, bytes, at))?;
         at += version.entry_len();

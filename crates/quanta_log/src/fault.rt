@@ -11,28 +11,46 @@ pub enum LogFault {
     BadField(u64),
     /// The log ends here, and there are more bytes.
     Trailing(u64),
-    /// Want of memory.
-    NoMemory,
 }
 
-impl From<AllocError> for LogFault {
+/// Why a log was not read.
+#[derive(Clone, Copy, Debug, PartialEq, Eq, Drop)]
+pub enum LogError {
+    /// Memory was wanting.
+    NoMemory,
+    /// The first fault of the bytes.
+    Fault(LogFault),
+}
+
+impl From<LogFault> for LogError {
     ghost use Rattle.std.specs.Prelude.{◌≡◌};
-    ghost use Rattle.quanta_log.specs.declared.fault.LogFault.TheVariants.{NoMemory};
+    ghost use Rattle.quanta_log.specs.declared.fault.LogError.TheVariants.{Fault};
 
-    ghost from_gives = { λ _ e. e ≡ NoMemory };
+    ghost from_gives = { λ fault e. e ≡ Fault fault };
 
-    fn from(_error: AllocError) -> LogFault {
-        LogFault::NoMemory
+    fn from(fault: LogFault) -> LogError {
+        LogError::Fault(fault)
     }
 }
 
-impl<T: Drop> From<AllocFailed<T>> for LogFault {
+impl From<AllocError> for LogError {
     ghost use Rattle.std.specs.Prelude.{◌≡◌};
-    ghost use Rattle.quanta_log.specs.declared.fault.LogFault.TheVariants.{NoMemory};
+    ghost use Rattle.quanta_log.specs.declared.fault.LogError.TheVariants.{NoMemory};
 
     ghost from_gives = { λ _ e. e ≡ NoMemory };
 
-    fn from(_error: AllocFailed<T>) -> LogFault {
-        LogFault::NoMemory
+    fn from(_error: AllocError) -> LogError {
+        LogError::NoMemory
+    }
+}
+
+impl<T: Drop> From<AllocFailed<T>> for LogError {
+    ghost use Rattle.std.specs.Prelude.{◌≡◌};
+    ghost use Rattle.quanta_log.specs.declared.fault.LogError.TheVariants.{NoMemory};
+
+    ghost from_gives = { λ _ e. e ≡ NoMemory };
+
+    fn from(_error: AllocFailed<T>) -> LogError {
+        LogError::NoMemory
     }
 }

@@ -9,7 +9,7 @@ mod reading;
 mod version;
 mod writing;
 
-pub use fault::LogFault;
+pub use fault::{LogError, LogFault};
 pub use laws::{bytes_are_spelled, spelled_is_read};
 pub use reading::read;
 pub use version::Version;

@@ -6,7 +6,7 @@ ghost use Rattle.quanta_log.specs.Meaning.{begins_as, version_of, harts_of, coun
 ghost use Rattle.quanta_log.specs.Spelling.{CanSpell};
 
 use crate::entries::quanta_of;
-use crate::fault::LogFault;
+use crate::fault::{LogError, LogFault};
 use crate::numbers::{doubleword, is_within, word};
 use crate::version::Version;
 use pn_types::{
@@ -111,27 +111,27 @@ fn settings_of(version: Version, bytes: &[u8]) -> Settings
 /// The settings and quanta of a log of either version, or the first fault of the bytes: how they begin, whether the head
 /// is whole, its fields, whether the entries are whole, their fields, and whether there are bytes behind them.
 #[tactic(auto, unfolding(crate::specs::Meaning::meaning_of, crate::specs::Meaning::log_fault))]
-pub fn read(alloc: Global, bytes: &[u8]) -> Result<(Settings, Vec<Quantum>), LogFault>
+pub fn read(alloc: Global, bytes: &[u8]) -> Result<(Settings, Vec<Quantum>), LogError>
     ensures meaning { Means result (meaning_of bytes.now) }
     ensures writable { IfOk result (λ log. CanSpell Version.Two log.0 log.1.items) }
 {
     let Some(version) = version_of(bytes) else {
-        return Err(LogFault::BadHead);
+        return Err(LogFault::BadHead.into());
     };
     let len = bytes.len() as u64;
     if len < version.head_len() as u64 {
-        return Err(LogFault::Short(len));
+        return Err(LogFault::Short(len).into());
     }
     if let Some(fault) = head_fault(version, bytes) {
-        return Err(fault);
+        return Err(fault.into());
     }
     let end = version.log_len(doubleword(bytes, 32));
     if len < end {
-        return Err(LogFault::Short(len));
+        return Err(LogFault::Short(len).into());
     }
     let quanta = quanta_of(alloc, version, bytes)?;
     if len > end {
-        return Err(LogFault::Trailing(end));
+        return Err(LogFault::Trailing(end).into());
     }
     Ok((settings_of(version, bytes), quanta))
 }

@@ -1,8 +1,16 @@
 -- The bytes of the text, statement by statement.
 use Rattle.std.proofs.Common.{◌≡◌, ℕ, suc, ◌+◌, ◌<◌, Result, Ok, Err, List, ◌∷◌, ◌++◌, length, map, drop, get_or, drop-cons, append_assoc, refl, ap, sym, ◌∙◌, arith}
 use Rattle.rv_asm.specs.declared.fault.AsmFault.{AsmFault}
+use Rattle.rv_asm.specs.declared.fault.AsmError.{AsmError}
+use Rattle.rv_asm.specs.declared.fault.AsmError.TheVariants as error
 use Rattle.rv_asm.specs.FirstPass.{◌>>=◌, Placed}
+use Rattle.rv_asm.specs.Means.{Refuses}
 use Rattle.rv_asm.specs.SecondPass.{code, code_of, joined}
+
+-- a refusal says as much as its reason
+pub refuses_more : {why also : AsmFault → Type 0} (e : AsmError) → ((fault : AsmFault) → why fault → also fault) → Refuses e why → Refuses e also
+refuses_more (error.Fault fault) more refused = more fault refused
+refuses_more error.NoMemory more refused = tt
 
 joins : (out next : List ℕ) (first others : Result (List ℕ) AsmFault) → joined out first ≡ Ok next → joined next others ≡ joined out (first >>= (λ a. others >>= (λ b. Ok (a ++ b))))
 joins out next (Err fault) others e = cc

@@ -7,6 +7,7 @@ pub mod Operands
 pub mod Statements
 pub mod FormsSeen
 pub mod Parsing
+pub mod Means
 pub mod Seen
 pub mod Checks
 pub mod Layout

@@ -1,16 +1,16 @@
 //! The assembler.
 
-ghost use Rattle.std.specs.Prelude.{◌≡◌, ◌≢◌, ◌+◌, ◌*◌, ◌<◌, ◌≤◌, ◌^◌, true, None, Ok, Err, MatchResult, IfOk, length};
+ghost use Rattle.std.specs.Prelude.{◌≡◌, ◌+◌, ◌*◌, ◌<◌, ◌≤◌, ◌^◌, true, None, IfOk, length};
 ghost use Rattle.rv_word.specs.Names.{words_of, scratch_in};
 ghost use Rattle.pn_types.specs.Images.{IsImage, text_of};
 ghost use Rattle.pn_types.specs.GoodNames.{is_good_name};
 ghost use Rattle.std.specs.List.{All};
 ghost use Rattle.rv_asm.specs.Assembly.{sized, completed, assembled, names_room};
 ghost use Rattle.rv_asm.specs.Seen.{Gives};
-ghost use Rattle.rv_asm.specs.declared.fault.AsmFault.TheVariants.{NoMemory};
+ghost use Rattle.rv_asm.specs.Means.{Means};
 
 use crate::draft::{DATA_START, Draft};
-use crate::fault::AsmFault;
+use crate::fault::{AsmError, AsmFault};
 use crate::first_pass::pass;
 use crate::image::image;
 use crate::second_pass::code;
@@ -22,28 +22,28 @@ const MAX_DATA_LEN: u128 = 16_777_216;
 
 /// The image of the draft, whose text has these bytes, if the text is there, and neither it nor the data is too long.
 #[tactic(auto, unfolding(crate::specs::Assembly::sized))]
-fn sized(alloc: Global, draft: &Draft, text: Vec<u8>) -> Result<Image, AsmFault>
+fn sized(alloc: Global, draft: &Draft, text: Vec<u8>) -> Result<Image, AsmError>
     ensures { Gives (λ image. image) result (sized draft.now text.items) }
 {
     if text.is_empty() {
-        return Err(AsmFault::NoText);
+        return Err(AsmFault::NoText.into());
     }
     if text.len() as u64 > MAX_TEXT_LEN {
-        return Err(AsmFault::TextTooLong(text.len() as u64));
+        return Err(AsmFault::TextTooLong(text.len() as u64).into());
     }
     let data_len = draft.data_end.saturating_sub(DATA_START as u128);
     if data_len > MAX_DATA_LEN {
-        return Err(AsmFault::DataTooLong(data_len));
+        return Err(AsmFault::DataTooLong(data_len).into());
     }
     Ok(image(alloc, draft, text)?)
 }
 
 /// The program of what the lines make, if no procedure is open.
-fn completed(alloc: Global, draft: &Draft) -> Result<Image, AsmFault>
+fn completed(alloc: Global, draft: &Draft) -> Result<Image, AsmError>
     ensures { Gives (λ image. image) result (completed draft.now) }
 {
     if let Some(line) = draft.opened {
-        return Err(AsmFault::BadLine(line));
+        return Err(AsmFault::BadLine(line).into());
     }
     let bytes = code(alloc, &draft.labels, draft.text_part.as_slice())?;
     sized(alloc, draft, bytes)
@@ -52,9 +52,9 @@ fn completed(alloc: Global, draft: &Draft) -> Result<Image, AsmFault>
 /// The program that the text stands for, or why it is none: the fault of the first line that is faulty in itself, else
 /// that of the first that leads nowhere or too far, else what is wrong with the whole.
 #[tactic(auto, unfolding(crate::specs::Assembly::assembled))]
-pub fn assemble(alloc: Global, text: &[u8]) -> Result<Image, AsmFault>
+pub fn assemble(alloc: Global, text: &[u8]) -> Result<Image, AsmError>
     requires { length text.now < 2 ^ 31 }
-    ensures meaning { MatchResult result (λ image. assembled text.now ≡ Ok image) (λ fault. fault ≢ NoMemory → assembled text.now ≡ Err fault) }
+    ensures meaning { Means result (assembled text.now) }
     ensures image { IfOk result IsImage }
     // No word of the text names x31.
     ensures unscratched { IfOk result (λ image. scratch_in (words_of (text_of image)) image.text_at ≡ None) }

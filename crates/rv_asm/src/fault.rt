@@ -23,17 +23,35 @@ pub enum AsmFault {
     TextTooLong(u64),
     /// The data has this many bytes, too many.
     DataTooLong(u128),
-    /// Memory ran out.
-    NoMemory,
 }
 
-impl From<AllocError> for AsmFault {
+/// Why a text was not assembled.
+#[derive(Clone, Copy, PartialEq, Eq, Drop)]
+pub enum AsmError {
+    /// Memory was wanting.
+    NoMemory,
+    /// The first fault of the text.
+    Fault(AsmFault),
+}
+
+impl From<AsmFault> for AsmError {
     ghost use Rattle.std.specs.Prelude.{◌≡◌};
-    ghost use Rattle.rv_asm.specs.declared.fault.AsmFault.TheVariants.{NoMemory};
+    ghost use Rattle.rv_asm.specs.declared.fault.AsmError.TheVariants.{Fault};
 
-    ghost from_gives = { λ _ fault. fault ≡ NoMemory };
+    ghost from_gives = { λ fault error. error ≡ Fault fault };
 
-    fn from(_fault: AllocError) -> AsmFault {
-        AsmFault::NoMemory
+    fn from(fault: AsmFault) -> AsmError {
+        AsmError::Fault(fault)
+    }
+}
+
+impl From<AllocError> for AsmError {
+    ghost use Rattle.std.specs.Prelude.{◌≡◌};
+    ghost use Rattle.rv_asm.specs.declared.fault.AsmError.TheVariants.{NoMemory};
+
+    ghost from_gives = { λ _ error. error ≡ NoMemory };
+
+    fn from(_error: AllocError) -> AsmError {
+        AsmError::NoMemory
     }
 }

@@ -9,7 +9,7 @@ ghost use Rattle.rv_asm.specs.Seen.{Gives, Leaves, line_seen};
 use crate::addresses::Labels;
 use crate::checks::{has_x31, numbers_fit, stands};
 use crate::draft::Draft;
-use crate::fault::AsmFault;
+use crate::fault::{AsmError, AsmFault};
 use crate::line::{ParsedLine, parse};
 use crate::statement::{Section, Statement};
 use pn_text::next_line;
@@ -23,21 +23,21 @@ fn judged<'a>(
     section: Section,
     inside: bool,
     bytes: &'a [u8],
-) -> Result<ParsedLine<'a>, AsmFault>
+) -> Result<ParsedLine<'a>, AsmError>
     ensures value { Gives line_seen result (judged line section inside bytes.now) }
     ensures fits { IfOk result (λ parsed. numbers_fit parsed.statement ≡ true) }
 {
     let Some(parsed) = parse(alloc, bytes)? else {
-        return Err(AsmFault::BadLine(line));
+        return Err(AsmFault::BadLine(line).into());
     };
     if !stands(section, inside, &parsed.statement) {
-        return Err(AsmFault::BadLine(line));
+        return Err(AsmFault::BadLine(line).into());
     }
     if !numbers_fit(&parsed.statement) {
-        return Err(AsmFault::BadNumber(line));
+        return Err(AsmFault::BadNumber(line).into());
     }
     if has_x31(section, &parsed.statement) {
-        return Err(AsmFault::UsesScratch(line));
+        return Err(AsmFault::UsesScratch(line).into());
     }
     Ok(parsed)
 }
@@ -49,11 +49,11 @@ fn define(
     line: u32,
     at: u128,
     name: &[u8],
-) -> Result<(), AsmFault>
+) -> Result<(), AsmError>
     ensures { Leaves labels.new result (define line at name.now labels.old) }
 {
     if labels.define(alloc, name, at)? {
-        return Err(AsmFault::TwiceNamed(line));
+        return Err(AsmFault::TwiceNamed(line).into());
     }
     Ok(())
 }
@@ -65,7 +65,7 @@ fn define_all(
     line: u32,
     at: u128,
     names: &[&[u8]],
-) -> Result<(), AsmFault>
+) -> Result<(), AsmError>
     ensures { Leaves labels.new result (define_all line at (map (λ name. name.now) names.now) labels.old) }
 {
     for name in names {
@@ -82,7 +82,7 @@ fn define_own(
     at: u128,
     statement: &Statement,
     name: &[u8],
-) -> Result<(), AsmFault>
+) -> Result<(), AsmError>
     ensures { Leaves labels.new result (define_own line at statement.now name.now labels.old) }
 {
     match *statement {
@@ -94,7 +94,7 @@ fn define_own(
 impl<'a> Draft<'a> {
     /// Adds the line with this number.
     #[tactic(auto, unfolding(crate::specs::FirstPass::stepped))]
-    fn step(&mut self, alloc: Global, line: u32, bytes: &'a [u8]) -> Result<(), AsmFault>
+    fn step(&mut self, alloc: Global, line: u32, bytes: &'a [u8]) -> Result<(), AsmError>
         requires text_room { text_end self.old < 2 ^ 100 }
         requires data_room { data_end self.old < 2 ^ 100 }
         ensures value { Leaves self.new result (stepped line self.old bytes.now) }
@@ -118,7 +118,7 @@ impl<'a> Draft<'a> {
 }
 
 /// What the lines of the text make, or the fault of the first that is faulty.
-pub(crate) fn pass<'a>(alloc: Global, text: &'a [u8]) -> Result<Draft<'a>, AsmFault>
+pub(crate) fn pass<'a>(alloc: Global, text: &'a [u8]) -> Result<Draft<'a>, AsmError>
     requires { length text.now < 2 ^ 31 }
     ensures { Gives (λ draft. draft) result (passed 1 blank_draft (lines text.now)) }
 {

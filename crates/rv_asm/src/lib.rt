@@ -29,4 +29,4 @@ mod statement;
 mod token;
 
 pub use assembling::assemble;
-pub use fault::AsmFault;
+pub use fault::{AsmError, AsmFault};

@@ -8,7 +8,7 @@ ghost use Rattle.rv_asm.specs.Seen.{Gives, Leaves};
 
 use crate::addresses::Labels;
 use crate::draft::Placed;
-use crate::fault::AsmFault;
+use crate::fault::{AsmError, AsmFault};
 use crate::number::Number;
 use crate::statement::Statement;
 use rv_word::{ImmOp, Instr, encode};
@@ -177,28 +177,28 @@ fn add_jump(
     at: u128,
     instr: Instr,
     target: Option<u128>,
-) -> Result<(), AsmFault>
+) -> Result<(), AsmError>
     ensures { Leaves out.new.items result (joined out.old.items (jump_bytes line at instr target)) }
 {
     let Some(target) = target else {
-        return Err(AsmFault::UnknownName(line));
+        return Err(AsmFault::UnknownName(line).into());
     };
     if !reaches(&instr, at, target) {
-        return Err(AsmFault::OutOfReach(line));
+        return Err(AsmFault::OutOfReach(line).into());
     }
     add_instr(out, with_number(instr, distance(at, target)))?;
     Ok(())
 }
 
 /// Adds `la` of the address of a name.
-fn add_address(out: &mut Vec<u8>, line: u32, rd: u32, target: Option<u128>) -> Result<(), AsmFault>
+fn add_address(out: &mut Vec<u8>, line: u32, rd: u32, target: Option<u128>) -> Result<(), AsmError>
     ensures { Leaves out.new.items result (joined out.old.items (address_bytes line rd target)) }
 {
     let Some(target) = target else {
-        return Err(AsmFault::UnknownName(line));
+        return Err(AsmFault::UnknownName(line).into());
     };
     if target >= 0x8000_0000 {
-        return Err(AsmFault::OutOfReach(line));
+        return Err(AsmFault::OutOfReach(line).into());
     }
     add_pair(out, rd, target as u64)?;
     Ok(())
@@ -206,7 +206,7 @@ fn add_address(out: &mut Vec<u8>, line: u32, rd: u32, target: Option<u128>) -> R
 
 /// Adds the bytes of the statement of the text.
 #[tactic(auto, unfolding(crate::specs::SecondPass::code_of))]
-fn add_code(out: &mut Vec<u8>, labels: &Labels, placed: &Placed) -> Result<(), AsmFault>
+fn add_code(out: &mut Vec<u8>, labels: &Labels, placed: &Placed) -> Result<(), AsmError>
     ensures { Leaves out.new.items result (joined out.old.items (code_of labels.now (placed_seen placed.now))) }
 {
     match placed.statement {
@@ -232,7 +232,7 @@ pub(crate) fn code(
     alloc: Global,
     labels: &Labels,
     text_part: &[Placed],
-) -> Result<Vec<u8>, AsmFault>
+) -> Result<Vec<u8>, AsmError>
     ensures { Gives (λ bytes. bytes.items) result (code labels.now (map placed_seen text_part.now)) }
 {
     let mut out = Vec::new(alloc);

@@ -1,13 +1,13 @@
 use Rattle.std.proofs.Common.{◌≡◌, ℕ, ◌<◌, ◌^◌, List, length, ap, ◌∙◌, subst, arith}
 use Rattle.std.proofs.lemmas.Result.{MatchResult-weaker}
-use Rattle.std.specs.Prelude.{◌≢◌, IfOk, MatchResult, Result, Ok, Err}
+use Rattle.std.specs.Prelude.{IfOk, Result, Ok, Err}
 use Rattle.elf_form.proofs.AcceptedImages.{accepted, good_modules}
 use Rattle.outside.specs.Outside.{IsBytes}
 use Rattle.elf_form.specs.Accepted.{IsAccepted}
 use Rattle.elf_form.specs.Meaning.{meaning_of}
 use Rattle.elf_form.specs.Segments.{loads_from}
-use Rattle.elf_form.specs.declared.fault.ElfFault.{ElfFault}
-use Rattle.elf_form.specs.declared.fault.ElfFault.TheVariants.{NoMemory}
+use Rattle.elf_form.specs.declared.fault.ElfError.{ElfError}
+use Rattle.elf_form.specs.declared.fault.ElfError.TheVariants.{Fault}
 use Rattle.elf_load.proofs.MeaningLemmas.{passed, header_meant, tables_read}
 use Rattle.elf_load.specs.Means.{Means}
 use Rattle.pn_types.specs.declared.image.Image.{Image}
@@ -15,18 +15,18 @@ use Rattle.elf_load.proofs.reading.load.Goals as goal
 
 pub returns-in_err-header-clause-meaning : goal.returns-in_err-header-clause-meaning
 returns-in_err-header-clause-meaning c =
-    passed _ _ c.in_err-header.field-0.0 c.from_residual.ensures.1 (λ _. header_meant c.args.bytes.now _ c.in_err-header.ensures.fault)
+    passed _ _ (Fault c.in_err-header.field-0.0) c.from_residual.ensures.1 (header_meant c.args.bytes.now _ c.in_err-header.ensures.fault)
 
 pub returns-clause-meaning : goal.returns-clause-meaning
 returns-clause-meaning c =
     let loads = c.deref-2.ensures.value ∙ c.in_ok-loads.ensures ∙ ap (loads_from 0) (c.deref.ensures.value ∙ c.in_ok-program_headers.ensures.headers) in
     let sections = c.deref-3.ensures.value ∙ c.in_ok-sections.ensures in
-    subst (λ meaning. MatchResult c.image_of.result (λ image. meaning ≡ Ok image) (λ fault. fault ≢ NoMemory → meaning ≡ Err fault))
+    subst (Means c.image_of.result)
     (tables_read c.args.bytes.now c.in_ok-header.header _ _ c.in_ok-header.ensures.header loads sections) c.image_of.ensures.meaning
 
-accepted_by : (b : List ℕ) (r : Result Image ElfFault) → IsBytes b → Means r (meaning_of b) → IfOk r (λ image. length image.symbols < 2 ^ 32) → IfOk r IsAccepted
+accepted_by : (b : List ℕ) (r : Result Image ElfError) → IsBytes b → Means r (meaning_of b) → IfOk r (λ image. length image.symbols < 2 ^ 32) → IfOk r IsAccepted
 accepted_by b (Ok image) bytes meant few = accepted b image bytes meant few
-accepted_by b (Err fault) bytes meant few = tt
+accepted_by b (Err e) bytes meant few = tt
 
 pub returns-clause-accepted : goal.returns-clause-accepted
 returns-clause-accepted c =

@@ -5,7 +5,7 @@ use Rattle.quanta_log.proofs.EntryLemmas.{fault_here, fault_later, quantum_more}
 use Rattle.quanta_log.proofs.entries.quanta_of.Goals as goal
 
 pub returns-in-Some : goal.returns-in-Some
-returns-in-Some c = λ _.
+returns-in-Some c =
     let v = c.args.version in
     let b = c.args.bytes.now in
     let harts = c.word-harts.result in
