@@ -1,8 +1,11 @@
 pub mod InView
 pub mod ReadOn
+pub mod Slots
+pub mod Ancestors
+pub mod Pruning
+pub mod Moving
 pub mod Settling
 pub mod Loops
-pub mod Fronting
 pub mod Stripped
 pub mod Faultless
 pub mod Cycles

@@ -1,30 +1,37 @@
 //! Hypotheses that are changed.
 
-ghost use Rattle.std.specs.Prelude.{◌≡◌, not, map, filter, IfOk, OnOk};
+ghost use Rattle.std.specs.Prelude.{◌≡◌, not, filter, IfOk, OnErr, OnOk};
+ghost use Rattle.std.specs.Option.{option_map};
 ghost use Rattle.std.specs.Str.{bytes_eq};
 ghost use Rattle.directives.specs.Acts.{changed, without_axis, with_threshold};
+ghost use Rattle.directives.specs.Standing.{with_change};
 
-use mdl_ast::{Hypothesis, Item};
+use mdl_ast::Item;
 use pn_types::{NoMemory, Seq, Text};
 use std::alloc::Global;
 
-/// Sets the threshold of the item, if it is the hypothesis of this name.
-fn set_threshold_of(item: &mut Item, name: &[u8], threshold: u32)
-    ensures { item.new ≡ changed name.now (with_threshold threshold) item.old }
+/// Sets the threshold of what stands there, if it is the hypothesis of this name.
+fn set_threshold_of(slot: &mut Option<Item>, name: &[u8], threshold: u32)
+    ensures { slot.new ≡ option_map (changed name.now (with_threshold threshold)) slot.old }
 {
-    if let Item::Hypothesis(hypothesis) = item
+    if let Some(Item::Hypothesis(hypothesis)) = slot
         && name == hypothesis.name.bytes()
     {
         hypothesis.threshold = threshold;
     }
 }
 
-/// Sets the threshold of the hypothesis of this name.
-pub(crate) fn set_threshold(items: &mut [Item], name: &[u8], threshold: u32)
-    ensures { items.new ≡ map (changed name.now (with_threshold threshold)) items.old }
+/// Sets the threshold of the hypothesis of this name, if it stands at this place.
+pub(crate) fn set_threshold(
+    slots: &mut [Option<Item>],
+    place: usize,
+    name: &[u8],
+    threshold: u32,
+)
+    ensures { slots.new ≡ with_change slots.old place (changed name.now (with_threshold threshold)) }
 {
-    for item in items.iter_mut() {
-        set_threshold_of(item, name, threshold);
+    if place < slots.len() {
+        set_threshold_of(&mut slots[place], name, threshold);
     }
 }
 
@@ -41,11 +48,17 @@ fn other_axes(alloc: Global, axes: &[Text], axis: &[u8]) -> Result<Seq<Text>, No
     Ok(Seq::from_vec(others))
 }
 
-/// Takes the axis from those of the item, if it is the hypothesis of this name.
-fn drop_axis_of(alloc: Global, item: &mut Item, name: &[u8], axis: &[u8]) -> Result<(), NoMemory>
-    ensures { OnOk result (item.new ≡ changed name.now (without_axis axis.now) item.old) }
+/// Takes the axis from those of what stands there, if it is the hypothesis of this name.
+fn drop_axis_of(
+    alloc: Global,
+    slot: &mut Option<Item>,
+    name: &[u8],
+    axis: &[u8],
+) -> Result<(), NoMemory>
+    ensures ok { OnOk result (slot.new ≡ option_map (changed name.now (without_axis axis.now)) slot.old) }
+    ensures err { OnErr result (slot.new ≡ slot.old) }
 {
-    if let Item::Hypothesis(hypothesis) = item
+    if let Some(Item::Hypothesis(hypothesis)) = slot
         && name == hypothesis.name.bytes()
     {
         hypothesis.axes = other_axes(alloc, hypothesis.axes.as_slice(), axis)?;
@@ -53,17 +66,19 @@ fn drop_axis_of(alloc: Global, item: &mut Item, name: &[u8], axis: &[u8]) -> Res
     Ok(())
 }
 
-/// Takes the axis from those of the hypothesis of this name.
+/// Takes the axis from those of the hypothesis of this name, if it stands at this place.
 pub(crate) fn drop_axis(
     alloc: Global,
-    items: &mut [Item],
+    slots: &mut [Option<Item>],
+    place: usize,
     name: &[u8],
     axis: &[u8],
 ) -> Result<(), NoMemory>
-    ensures { OnOk result (items.new ≡ map (changed name.now (without_axis axis.now)) items.old) }
+    ensures ok { OnOk result (slots.new ≡ with_change slots.old place (changed name.now (without_axis axis.now))) }
+    ensures err { OnErr result (slots.new ≡ slots.old) }
 {
-    for item in items.iter_mut() {
-        drop_axis_of(alloc, item, name, axis)?;
+    if place < slots.len() {
+        drop_axis_of(alloc, &mut slots[place], name, axis)?;
     }
     Ok(())
 }

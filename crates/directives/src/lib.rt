@@ -8,11 +8,12 @@ mod change;
 mod directive;
 mod expansion;
 mod fault;
-mod front;
 mod hypotheses;
 mod laws;
-mod prune;
+mod name_places;
 mod reading;
+mod standing;
+mod taking;
 mod words;
 
 pub use applying::apply;
