@@ -16,7 +16,7 @@ use Rattle.directives.proofs.Ancestors.{IsHypothesis, under_is, Agrees, parent_f
 
 -- ---- lists
 
-one_place : (ks : List ℕ) (j k : ℕ) → length ks ≤ 1 → is_place ks j ≡ true → is_place ks k ≡ true → j ≡ k
+pub one_place : (ks : List ℕ) (j k : ℕ) → length ks ≤ 1 → is_place ks j ≡ true → is_place ks k ≡ true → j ≡ k
 one_place [] j k l p q = absurd cc
 one_place (i ∷ []) j k l p q = sym (eqb-true i j (one (i == j) p)) ∙ eqb-true i k (one (i == k) q)
   where

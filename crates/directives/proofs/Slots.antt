@@ -6,7 +6,7 @@ use Rattle.std.specs.Option.{option_map, option_map_or}
 use Rattle.std.proofs.lemmas.Bool.{eqb-false}
 use Rattle.std.proofs.Math.Seq.{take-suc}
 use Rattle.std.proofs.Math.Dec.{eqb-zero-suc, eqb-suc-zero, eqb-suc-suc}
-use Rattle.std.proofs.lemmas.List.{append_assoc, append-nil}
+use Rattle.std.proofs.lemmas.List.{append_assoc, append-nil, length-set}
 use Rattle.mdl_ast.specs.declared.items.Item.{Item}
 use Rattle.directives.specs.Standing.{slot, without, with_change, taken, left, IsLeftOf, count, order, standing, is_place}
 
@@ -220,15 +220,41 @@ read_at [] k d h e = absurd (omega arith)
 read_at (s ∷ slots) zero d h e = e
 read_at (s ∷ slots) (suc k) d h e = read_at slots k d (omega arith) e
 
+set_same : (slots : Slots) (k : ℕ) → slice_set slots k (slot slots k) ≡ slots
+set_same [] k = refl
+set_same (s ∷ slots) zero = refl
+set_same (s ∷ slots) (suc k) = ap (λ (l : Slots). s ∷ l) (set_same slots k)
+
+-- where nothing stands nothing changes
+pub none_there_changed : (slots : Slots) (k : ℕ) (f : Item → Item) → slot slots k ≡ None → slots ≡ with_change slots k f
+none_there_changed slots k f e = sym (ap (λ (o : Option Item). slice_set slots k (option_map f o)) e ∙ ap (slice_set slots k) (sym e) ∙ set_same slots k)
+
+pub there_changed : (slots : Slots) (k : ℕ) (f : Item → Item) (old new : Option Item) → old ≡ slot slots k → new ≡ option_map f old → slice_set slots k new ≡ with_change slots k f
+there_changed slots k f old new e h = ap (slice_set slots k) (h ∙ ap (option_map f) e)
+
 -- ---- one place more
 
-pub left_more : (slots : Slots) (ks : List ℕ) (k : ℕ) → left (ks ++ k ∷ []) slots ≡ without (left ks slots) k
-left_more slots [] k = refl
-left_more slots (j ∷ ks) k = left_more (without slots j) ks k
+pub left_both : (slots : Slots) (ks js : List ℕ) → left (ks ++ js) slots ≡ left js (left ks slots)
+left_both slots [] js = refl
+left_both slots (k ∷ ks) js = left_both (without slots k) ks js
+
+pub taken_both : (slots : Slots) (ks js : List ℕ) → taken (ks ++ js) slots ≡ taken ks slots ++ taken js (left ks slots)
+taken_both slots [] js = refl
+taken_both slots (k ∷ ks) js = ap (λ (l : List Item). at slots k ++ l) (taken_both (without slots k) ks js) ∙ sym (append_assoc (at slots k) (taken ks (without slots k)) (taken js (left ks (without slots k))))
 
 pub taken_more : (slots : Slots) (ks : List ℕ) (k : ℕ) → taken (ks ++ k ∷ []) slots ≡ taken ks slots ++ at (left ks slots) k
-taken_more slots [] k = append-nil (at slots k)
-taken_more slots (j ∷ ks) k = ap (λ (l : List Item). at slots j ++ l) (taken_more (without slots j) ks k) ∙ sym (append_assoc (at slots j) (taken ks (without slots j)) (at (left ks (without slots j)) k))
+taken_more slots ks k = taken_both slots ks (k ∷ []) ∙ ap (λ (l : List Item). taken ks slots ++ l) (append-nil (at (left ks slots) k))
+
+pub length_left : (ks : List ℕ) (slots : Slots) → length (left ks slots) ≡ length slots
+length_left [] slots = refl
+length_left (k ∷ ks) slots = length_left ks (without slots k) ∙ length-set slots k None
+
+range_next : (a n : ℕ) → range_with_len a (suc n) ≡ range_with_len a n ++ (a + n) ∷ []
+range_next a zero = ap (λ (k : ℕ). k ∷ []) (omega arith)
+range_next a (suc n) = let same : a + 1 + n ≡ a + suc n = omega arith in ap (λ (l : List ℕ). a ∷ l) (range_next (a + 1) n) ∙ ap (λ (k : ℕ). a ∷ (range_with_len (a + 1) n ++ k ∷ [])) same
+
+pub range_more : (n : ℕ) → range_with_len 0 (n + 1) ≡ range_with_len 0 n ++ n ∷ []
+range_more n = let same : 0 + n ≡ n = omega arith in rw add-one (range_next 0 n) ∙ ap (λ (k : ℕ). range_with_len 0 n ++ k ∷ []) same
 
 pub take_more : (ks : List ℕ) (i : ℕ) → i < length ks → take (i + 1) ks ≡ take i ks ++ get_or ks i 0 ∷ []
 take_more ks i h = rw add-one (take-suc ks i 0 h)
@@ -269,3 +295,7 @@ pub standing_alike : (g : List Item → List Item) → g [] ≡ [] → ((xs ys :
     standing new moved ≡ g (standing old moved)
 unfolding standing
 standing_alike g none both old new moved len f = ap (λ (n : ℕ). taken (reverse moved ++ range_with_len 0 n) new) len ∙ taken_alike g none both (order old moved) old new f
+
+pub standing_by_parts : (slots : Slots) (moved : List ℕ) → taken (reverse moved) slots ++ taken (range_with_len 0 (length (left (reverse moved) slots))) (left (reverse moved) slots) ≡ standing slots moved
+unfolding standing
+standing_by_parts slots moved = ap (λ (n : ℕ). taken (reverse moved) slots ++ taken (range_with_len 0 n) (left (reverse moved) slots)) (length_left (reverse moved) slots) ∙ sym (taken_both slots (reverse moved) (range_with_len 0 (length slots)))

@@ -1,7 +1,7 @@
 -- For proofs alone: items at places, of which some no longer stand.
-use Rattle.std.specs.Prelude.{◌≡◌, ◌⊎◌, ◌≤◌, if◌then◌else◌, ℕ, zero, suc, ◌+◌, ◌==◌, Bool, false, Option, Some, None, List, [], ◌∷◌, ◌++◌, length, reverse, filter, slice_set, option_to_list}
+use Rattle.std.specs.Prelude.{◌≡◌, ◌⊎◌, ◌≤◌, if◌then◌else◌, ℕ, zero, suc, ◌+◌, ◌==◌, Bool, false, Option, Some, None, List, [], ◌∷◌, ◌++◌, length, reverse, filter, slice_get, slice_set, option_to_list}
 use Rattle.std.specs.List.{list_any, range_with_len}
-use Rattle.std.specs.Option.{option_map, option_map_or}
+use Rattle.std.specs.Option.{option_and_then, option_map, option_map_or}
 use Rattle.std.specs.Str.{bytes_eq}
 use Rattle.mdl_ast.specs.declared.items.Item.{Item}
 use Rattle.mdl_ast.specs.declared.items.Item.TheVariants.{Hypothesis}
@@ -81,8 +81,7 @@ children_of children item = []
 
 -- what stands at the first of these places
 abbrev pub first_at : List (Option Item) → List ℕ → Option Item
-first_at slots [] = None
-first_at slots (k ∷ ks) = slot slots k
+first_at slots ks = option_and_then (slot slots) (slice_get ks 0)
 
 -- the places of the items that pass a test, from the k-th
 abbrev pub places_where : (Item → Bool) → ℕ → List Item → List ℕ

@@ -10,14 +10,23 @@ use mdl_ast::Item;
 use pn_types::{NoMemory, Seq, Text};
 use std::alloc::Global;
 
-/// Sets the threshold of what stands there, if it is the hypothesis of this name.
-fn set_threshold_of(slot: &mut Option<Item>, name: &[u8], threshold: u32)
-    ensures { slot.new ≡ option_map (changed name.now (with_threshold threshold)) slot.old }
+/// Sets the threshold of the item, if it is the hypothesis of this name.
+fn set_threshold_of(item: &mut Item, name: &[u8], threshold: u32)
+    ensures { item.new ≡ changed name.now (with_threshold threshold) item.old }
 {
-    if let Some(Item::Hypothesis(hypothesis)) = slot
+    if let Item::Hypothesis(hypothesis) = item
         && name == hypothesis.name.bytes()
     {
         hypothesis.threshold = threshold;
+    }
+}
+
+/// Sets the threshold of what stands there, if it is the hypothesis of this name.
+fn set_threshold_in(slot: &mut Option<Item>, name: &[u8], threshold: u32)
+    ensures { slot.new ≡ option_map (changed name.now (with_threshold threshold)) slot.old }
+{
+    if let Some(item) = slot {
+        set_threshold_of(item, name, threshold);
     }
 }
 
@@ -31,7 +40,7 @@ pub(crate) fn set_threshold(
     ensures { slots.new ≡ with_change slots.old place (changed name.now (with_threshold threshold)) }
 {
     if place < slots.len() {
-        set_threshold_of(&mut slots[place], name, threshold);
+        set_threshold_in(&mut slots[place], name, threshold);
     }
 }
 
@@ -48,8 +57,21 @@ fn other_axes(alloc: Global, axes: &[Text], axis: &[u8]) -> Result<Seq<Text>, No
     Ok(Seq::from_vec(others))
 }
 
+/// Takes the axis from those of the item, if it is the hypothesis of this name.
+fn drop_axis_of(alloc: Global, item: &mut Item, name: &[u8], axis: &[u8]) -> Result<(), NoMemory>
+    ensures ok { OnOk result (item.new ≡ changed name.now (without_axis axis.now) item.old) }
+    ensures err { OnErr result (item.new ≡ item.old) }
+{
+    if let Item::Hypothesis(hypothesis) = item
+        && name == hypothesis.name.bytes()
+    {
+        hypothesis.axes = other_axes(alloc, hypothesis.axes.as_slice(), axis)?;
+    }
+    Ok(())
+}
+
 /// Takes the axis from those of what stands there, if it is the hypothesis of this name.
-fn drop_axis_of(
+fn drop_axis_in(
     alloc: Global,
     slot: &mut Option<Item>,
     name: &[u8],
@@ -58,10 +80,8 @@ fn drop_axis_of(
     ensures ok { OnOk result (slot.new ≡ option_map (changed name.now (without_axis axis.now)) slot.old) }
     ensures err { OnErr result (slot.new ≡ slot.old) }
 {
-    if let Some(Item::Hypothesis(hypothesis)) = slot
-        && name == hypothesis.name.bytes()
-    {
-        hypothesis.axes = other_axes(alloc, hypothesis.axes.as_slice(), axis)?;
+    if let Some(item) = slot {
+        drop_axis_of(alloc, item, name, axis)?;
     }
     Ok(())
 }
@@ -78,7 +98,7 @@ pub(crate) fn drop_axis(
     ensures err { OnErr result (slots.new ≡ slots.old) }
 {
     if place < slots.len() {
-        drop_axis_of(alloc, &mut slots[place], name, axis)?;
+        drop_axis_in(alloc, &mut slots[place], name, axis)?;
     }
     Ok(())
 }

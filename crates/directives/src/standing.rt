@@ -80,7 +80,10 @@ fn first_at<'a>(slots: &'a [Option<Item>], places: &[usize]) -> Option<&'a Item>
     ensures { option_map (λ item. item.now) result ≡ first_at slots.now places.now }
 {
     let place = *places.first()?;
-    slots.get(place)?.as_ref()
+    if place >= slots.len() {
+        return None;
+    }
+    slots[place].as_ref()
 }
 
 /// Takes all that still stand, in the order of their places, and puts them last.

@@ -2,7 +2,7 @@ use Rattle.std.proofs.Common.{◌≡◌, ℕ, ◌++◌, ◌∷◌, [], List, tak
 use Rattle.std.proofs.lemmas.List.{append_assoc}
 use Rattle.mdl_ast.specs.declared.items.Item.{Item}
 use Rattle.directives.specs.Standing.{taken, left, without, IsLeftOf}
-use Rattle.directives.proofs.Slots.{Slots, at, left_of, left_again, left_more, taken_more, take_more}
+use Rattle.directives.proofs.Slots.{Slots, at, left_of, left_again, left_both, taken_more, take_more}
 use Rattle.directives.proofs.taking.take_items.Goals as goal
 
 pub returns-in_err-take_item-clause-left : goal.returns-in_err-take_item-clause-left
@@ -21,7 +21,7 @@ loop-place-preserved c =
     let before = c.args.out.now.items in
     let more = take_more c.args.places.now c.loop-place.place-index (omega arith) in
     record {
-      slots = c.take_item.ensures.slots ∙ ap (λ (s : Slots). without s k) c.loop-place.invariant.slots ∙ sym (left_more start ks k) ∙ ap (λ (l : List ℕ). left l start) (sym more);
+      slots = c.take_item.ensures.slots ∙ ap (λ (s : Slots). without s k) c.loop-place.invariant.slots ∙ sym (left_both start ks (k ∷ [])) ∙ ap (λ (l : List ℕ). left l start) (sym more);
       out = c.in_ok-take_item.ensures.out ∙ ap (λ (s : Slots). c.loop-place.out.items ++ at s k) c.loop-place.invariant.slots ∙ ap (λ (l : List Item). l ++ at (left ks start) k) c.loop-place.invariant.out
           ∙ append_assoc before (taken ks start) (at (left ks start) k) ∙ ap (λ (l : List Item). before ++ l) (sym (taken_more start ks k)) ∙ ap (λ (l : List ℕ). before ++ taken l start) (sym more);
     }
