@@ -7,7 +7,7 @@ use Rattle.mdl_ast.specs.declared.items.Item.TheVariants.{Include, Sync, Metric,
 use Rattle.mdl_ast.specs.declared.items.Hypothesis.{Hypothesis as TheHypothesis}
 use Rattle.resource_tree.specs.Resources.{Resources}
 use Rattle.directives.specs.Hypotheses.{is_named, stands}
-use Rattle.directives.specs.Acts.{leads_up, is_under, pruned, without_axis, with_threshold, acted, directed, expanded, applied}
+use Rattle.directives.specs.Acts.{is_under, pruned, without_axis, with_threshold, acted, directed, expanded, applied}
 use Rattle.directives.specs.Applying.{IsAccepted}
 use Rattle.directives.specs.Laws.{is_prune, is_parent, is_child, IsAncestor, Parent, Higher, PrunedIsGone}
 use Rattle.directives.specs.declared.directive.Directive.{Directive}

@@ -1,6 +1,6 @@
 -- Items of which one is changed or moved, and those at the start.
-use Rattle.std.proofs.Common.{◌≡◌, ℕ, zero, suc, ◌+◌, ◌<◌, ◌≤◌, ◌==◌, ◌||◌, ◌&&◌, ◌⊎◌, inl, inr, not, cond, Bool, true, false, Option, Some, None, List, [], ◌∷◌, ◌++◌, length, map, slice_get, bytes_eq, eqb-true, eq-eqb, refl, sym, ap, ap₂, ◌∙◌, subst, arith}
-use Rattle.std.specs.Prelude.{option_to_list, reverse}
+use Rattle.std.proofs.Common.{◌≡◌, ℕ, zero, suc, ◌+◌, ◌<◌, ◌≤◌, ◌==◌, ◌||◌, ◌&&◌, inl, not, cond, Bool, true, false, Option, Some, None, List, [], ◌∷◌, ◌++◌, length, map, take, drop, slice_get, Result, Ok, Err, OnOk, OnErr, bytes_eq, eqb-true, eq-eqb, refl, sym, ap, ap₂, ◌∙◌, subst, arith}
+use Rattle.std.specs.Prelude.{option_to_list}
 use Rattle.std.specs.List.{list_any, filter, range_with_len}
 use Rattle.std.specs.Option.{option_map, option_map_or}
 use Rattle.std.proofs.lemmas.Bool.{ne_eqb}
@@ -319,7 +319,7 @@ taken_whole before (x ∷ xs) a e =
     ∙ ap (λ (s : Slots). x ∷ taken (range_with_len (a + 1) (length xs)) s) rest
     ∙ ap (λ (l : List Item). x ∷ l) (taken_whole (before ++ None ∷ []) xs (a + 1) (omega (arith, e, length-append before (None ∷ []))))
 
-length_some : (xs : List Item) → length (map Some xs) ≡ length xs
+pub length_some : (xs : List Item) → length (map Some xs) ≡ length xs
 length_some [] = refl
 length_some (x ∷ xs) = ap suc (length_some xs)
 
@@ -340,3 +340,19 @@ along_named name axis (Hypothesis h) e = by (bytes_eq name h.name) e
 along_named name axis (Search s) e = absurd cc
 along_named name axis (Phase p) e = absurd cc
 along_named name axis (Wish w) e = absurd cc
+
+-- ---- what is written through a slice of a whole list
+
+pub whole_written : {A : Type 0} (xs ys : List A) (n : ℕ) → n ≡ length ys → length xs ≡ length ys → take n (xs ++ drop (length xs) ys) ≡ xs
+whole_written [] [] n e l = ap (λ (k : ℕ). take k []) e
+whole_written [] (y ∷ ys) n e l = absurd (omega arith)
+whole_written (x ∷ xs) [] n e l = absurd (omega arith)
+whole_written (x ∷ xs) (y ∷ ys) n e l = ap (λ (k : ℕ). take k (x ∷ (xs ++ drop (length xs) ys))) e ∙ ap (λ (zs : List _). x ∷ zs) (whole_written xs ys (length ys) refl (omega arith))
+
+pub either : {T E A B C : Type 0} (r : Result T E) → OnOk r A → OnErr r B → (A → C) → (B → C) → C
+either (Ok x) a b f g = f a
+either (Err y) a b f g = g b
+
+pub ok_more : {T E A B : Type 0} (r : Result T E) → OnOk r A → (A → B) → OnOk r B
+ok_more (Ok x) a f = f a
+ok_more (Err y) a f = tt

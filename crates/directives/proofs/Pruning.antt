@@ -1,5 +1,5 @@
 -- Taking away a hypothesis, then its children, then theirs, takes away all that have it as an ancestor.
-use Rattle.std.proofs.Common.{◌≡◌, ℕ, zero, suc, ◌+◌, ◌≤◌, ◌==◌, ◌||◌, ◌⊎◌, inl, inr, not, cond, Bool, true, false, Option, Some, None, List, [], ◌∷◌, ◌++◌, length, bytes_eq, eqb-true, refl, sym, ap, ◌∙◌, subst, arith}
+use Rattle.std.proofs.Common.{◌≡◌, ℕ, zero, suc, ◌+◌, ◌≤◌, ◌==◌, ◌||◌, ◌⊎◌, inl, inr, not, cond, Bool, true, false, Option, Some, None, List, [], ◌∷◌, ◌++◌, length, bytes_eq, eqb-true, refl, sym, ap, ◌∙◌, arith}
 use Rattle.std.specs.Prelude.{option_to_list}
 use Rattle.std.specs.Cmp.Lexicographic.{bytes_decides}
 use Rattle.std.specs.List.{list_any, filter, AllByRecursion}
@@ -12,7 +12,7 @@ use Rattle.directives.specs.Hypotheses.{is_named, stands}
 use Rattle.directives.specs.Acts.{parent_in, parent_of, leads_up, is_under, pruned}
 use Rattle.directives.specs.Standing.{slot, taken, left, IsLeftOf, count, standing, is_child, is_place, ArePlaces, children_of}
 use Rattle.directives.proofs.Slots.{Slots, at, left_at, left_of, nothing_there, stood_there, left_again, emptied_at, any_taken, all_taken, count_left, standing_count, any_standing, some_standing, all_standing, standing_alike}
-use Rattle.directives.proofs.Ancestors.{IsHypothesis, under_is, Agrees, parent_found, no_parent, under_more, under_named, under_itself, under_child}
+use Rattle.directives.proofs.Ancestors.{under_is, Agrees, parent_found, no_parent, under_more, under_named, under_itself, under_child}
 
 -- ---- lists
 

@@ -61,7 +61,11 @@ fn act_on(alloc: Global, standing: &mut Standing, act: &DirectiveAct) -> Result<
 {
     match act {
         DirectiveAct::Prune(name) => standing.prune(alloc, name.bytes()),
-        DirectiveAct::PruneAxis(name, axis) => standing.drop_axis(alloc, name.bytes(), axis.bytes()),
+        DirectiveAct::PruneAxis(name, axis) => standing.drop_axis(
+            alloc,
+            name.bytes(),
+            axis.bytes(),
+        ),
         DirectiveAct::Threshold(name, threshold) => {
             standing.set_threshold(name.bytes(), *threshold);
             Ok(())

@@ -31,12 +31,7 @@ fn set_threshold_in(slot: &mut Option<Item>, name: &[u8], threshold: u32)
 }
 
 /// Sets the threshold of the hypothesis of this name, if it stands at this place.
-pub(crate) fn set_threshold(
-    slots: &mut [Option<Item>],
-    place: usize,
-    name: &[u8],
-    threshold: u32,
-)
+pub(crate) fn set_threshold(slots: &mut [Option<Item>], place: usize, name: &[u8], threshold: u32)
     ensures { slots.new ≡ with_change slots.old place (changed name.now (with_threshold threshold)) }
 {
     if place < slots.len() {

@@ -142,11 +142,22 @@ impl Standing {
         requires { stands name.now self.old ≡ true }
         ensures { OnOk result (self.new ≡ pruned name.now self.old) }
     {
-        take_under(alloc, self.slots.as_mut_slice(), &self.named, &self.children, name)
+        take_under(
+            alloc,
+            self.slots.as_mut_slice(),
+            &self.named,
+            &self.children,
+            name,
+        )
     }
 
     /// Takes the axis from those of the hypothesis of this name.
-    pub(crate) fn drop_axis(&mut self, alloc: Global, name: &[u8], axis: &[u8]) -> Result<(), NoMemory>
+    pub(crate) fn drop_axis(
+        &mut self,
+        alloc: Global,
+        name: &[u8],
+        axis: &[u8],
+    ) -> Result<(), NoMemory>
         ensures { OnOk result (self.new ≡ map (changed name.now (without_axis axis.now)) self.old) }
     {
         let Some(place) = self.named.first(name) else {

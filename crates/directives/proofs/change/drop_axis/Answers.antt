@@ -1,7 +1,7 @@
-use Rattle.std.proofs.Common.{◌≡◌, sym, ap, ◌∙◌}
+use Rattle.std.proofs.Common.{sym, ap, ◌∙◌}
 use Rattle.std.specs.Option.{option_map}
 use Rattle.directives.specs.Acts.{changed, without_axis}
-use Rattle.directives.proofs.Slots.{nothing_past, read_at, none_there_changed, there_changed}
+use Rattle.directives.proofs.Slots.{read_at, there_changed}
 use Rattle.directives.proofs.change.drop_axis.Goals as goal
 
 pub returns-in_ok-drop_axis_in-clause-ok : goal.returns-in_ok-drop_axis_in-clause-ok

@@ -1,7 +1,7 @@
-use Rattle.std.proofs.Common.{◌≡◌, sym, ap, ◌∙◌}
+use Rattle.std.proofs.Common.{sym, ap, ◌∙◌}
 use Rattle.std.specs.Option.{option_map}
 use Rattle.directives.specs.Acts.{changed, with_threshold}
-use Rattle.directives.proofs.Slots.{nothing_past, read_at, none_there_changed, there_changed}
+use Rattle.directives.proofs.Slots.{read_at, there_changed}
 use Rattle.directives.proofs.change.set_threshold.Goals as goal
 
 pub returns-then-place-slots : goal.returns-then-place-slots

@@ -1,4 +1,4 @@
-use Rattle.std.proofs.Common.{◌≡◌, None, sym, ap, ◌∙◌, arith}
+use Rattle.std.proofs.Common.{None, sym, ◌∙◌}
 use Rattle.directives.proofs.Slots.{nothing_past, set_past, read_at}
 use Rattle.directives.proofs.taking.take_slot.Goals as goal
 

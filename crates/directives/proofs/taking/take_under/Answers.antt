@@ -1,7 +1,7 @@
-use Rattle.std.proofs.Common.{◌≡◌, ℕ, ◌++◌, ◌∷◌, [], ◌+◌, List, length, sym, ap, ◌∙◌, subst, arith}
+use Rattle.std.proofs.Common.{◌≡◌, ℕ, ◌++◌, ◌∷◌, [], List, length, sym, ap, ◌∙◌, subst, arith}
 use Rattle.std.proofs.lemmas.List.{length-append}
 use Rattle.mdl_ast.specs.declared.items.Item.{Item}
-use Rattle.directives.specs.Standing.{under, taken, left, count, children_of, IsLeftOf}
+use Rattle.directives.specs.Standing.{under, taken, left, count, children_of}
 use Rattle.directives.proofs.Slots.{Slots, none_there, left_again, count_left}
 use Rattle.directives.proofs.Pruning.{IsTaking, at_first, then_children, all_pruned}
 use Rattle.directives.proofs.taking.take_under.Goals as goal

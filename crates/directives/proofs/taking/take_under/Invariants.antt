@@ -1,4 +1,4 @@
-use Rattle.std.proofs.Common.{List, ℕ, ◌≡◌, ◌+◌, length}
+use Rattle.std.proofs.Common.{List, ℕ, ◌+◌, length}
 use Rattle.directives.specs.Standing.{count, IsLeftOf}
 use Rattle.directives.proofs.Pruning.{IsTaking}
 use Rattle.directives.proofs.taking.take_under.Given as goal

@@ -1,4 +1,4 @@
-use Rattle.std.proofs.Common.{◌≡◌, true, sym, ap, ◌∙◌, subst}
+use Rattle.std.proofs.Common.{sym, ap, ◌∙◌}
 use Rattle.directives.specs.Acts.{with_first}
 use Rattle.directives.specs.Hypotheses.{stands}
 use Rattle.directives.specs.Standing.{under, standing}
