@@ -1,6 +1,6 @@
 -- The check accepts what directives make of items that it accepts.
 use Rattle.std.proofs.Common.{◌≡◌, ℕ, suc, ◌+◌, ◌≤◌, not, cond, Bool, true, false, Option, Some, None, List, [], ◌∷◌, ◌++◌, length, map, flat_map, Ok, refl, sym, ap, ◌∙◌, subst, arith}
-use Rattle.std.specs.List.{list_any}
+use Rattle.std.specs.List.{list_any, filter}
 use Rattle.mdl_ast.specs.declared.items.Item.{Item}
 use Rattle.mdl_ast.specs.declared.items.Item.TheVariants.{Include, Sync, Metric, Constraint, Hypothesis, Search, Phase, Wish}
 use Rattle.mdl_ast.specs.declared.items.Hypothesis.{Hypothesis as TheHypothesis}
@@ -14,12 +14,14 @@ use Rattle.directives.specs.declared.directive.DirectiveAct.{DirectiveAct}
 use Rattle.directives.specs.declared.fault.DirectiveKind.{DirectiveKind}
 use Rattle.directives.specs.Acts.{expanded, kind_of, acted, go_on, directed, applied}
 use Rattle.directives.specs.Applying.{IsAccepted}
-use Rattle.directives.proofs.Stripped.{tally, strip, stripped, named, is_lost, Fine, hyps_of}
+use Rattle.directives.proofs.Stripped.{tally, strip, stripped, lift, named, is_lost, Fine, hyps_of, count_stripped}
 use Rattle.directives.proofs.Faultless.{Each, each_from, each_to, is_other, others, others_each}
 use Rattle.directives.proofs.FineItems.{takes, one_include, fine_from, each_again}
 use Rattle.directives.proofs.Spread.{by_item, placed_by_item, spread_same, bare_placed, placed_stripped, hyp_include, plain_same, expanded_plain, placed_include, fewer_includes, keep, count_placed, placed_sync}
-use Rattle.directives.proofs.Acting.{fine_acted, few_acted, hidden_acted, acted_alike}
-use Rattle.directives.specs.Rounds.{go_on_in_rounds, directed_in_rounds}
+use Rattle.directives.proofs.Acting.{fine_acted, few_acted, hidden_acted}
+use Rattle.directives.specs.Hypotheses.{is_named}
+use Rattle.directives.specs.Standing.{HaveOwnNames}
+use Rattle.directives.proofs.Kept.{named_lift}
 
 -- ---- entries and their places
 
@@ -164,15 +166,6 @@ ready_all shipped o n prefixes (d ∷ ds) items new r e = by (kind_of d.act item
     by None h f = f h
     by (Some kind) h f = absurd cc
 
-directed_alike : (shipped : List Item) (o : List Entry) (n : ℕ) (prefixes : List (List ℕ)) (ds : List Directive) (items : List Item) → Ready shipped o n prefixes items → directed ds items ≡ directed_in_rounds ds items
-unfolding directed directed_in_rounds
-directed_alike shipped o n prefixes [] items r = refl
-directed_alike shipped o n prefixes (d ∷ ds) items r = by (kind_of d.act items) (directed_alike shipped o n prefixes ds (acted d.act items) (ready_more shipped o n prefixes d.act items r))
-  where
-    by : (k : Option DirectiveKind) → directed ds (acted d.act items) ≡ directed_in_rounds ds (acted d.act items) → go_on (directed ds) d items k ≡ go_on_in_rounds (directed_in_rounds ds) d items k
-    by None h = h ∙ ap (directed_in_rounds ds) (sym (acted_alike o n d.act items r.fine))
-    by (Some kind) h = refl
-
 -- ---- what is made is accepted
 
 -- the entries of what is made: without a fault, with the same others
@@ -223,18 +216,26 @@ prefixes_after t shipped items ds new a e =
     let each = each_from es [] es a.1.2 in
     (ready_all shipped (others es) (length es) (prefixes_of shipped items) ds (expanded shipped items) new (ready_first t shipped items es a.1.1 each) e).begins
 
-pub rounds_applied : (t : Resources) (shipped items : List Item) (ds : List Directive) → IsAccepted t shipped items → applied shipped items ds ≡ directed_in_rounds ds (expanded shipped items)
-unfolding IsAccepted applied
-rounds_applied t shipped items ds a =
-    let es : List Entry = a.1.0 in
-    let each = each_from es [] es a.1.2 in
-    directed_alike shipped (others es) (length es) (prefixes_of shipped items) ds (expanded shipped items) (ready_first t shipped items es a.1.1 each)
-
 pub once_before : (t : Resources) (shipped items : List Item) → IsAccepted t shipped items → (name : List ℕ) → tally (named name) (stripped (expanded shipped items)) ≤ 1
 unfolding IsAccepted
 once_before t shipped items a =
     let es : List Entry = a.1.0 in
     (ready_first t shipped items es a.1.1 (each_from es [] es a.1.2)).fine.once
+
+tally_filter : {A : Type 0} (q : A → Bool) (xs : List A) → length (filter q xs) ≡ tally q xs
+tally_filter q [] = refl
+tally_filter q (x ∷ xs) = by (q x) (tally_filter q xs)
+  where
+    by : (b : Bool) → length (filter q xs) ≡ tally q xs → length (cond b (x ∷ filter q xs) (filter q xs)) ≡ cond b 1 0 + tally q xs
+    by true h = omega arith
+    by false h = omega arith
+
+-- names of hypotheses are unique where directives begin
+pub own_names : (t : Resources) (shipped items : List Item) → IsAccepted t shipped items → HaveOwnNames (expanded shipped items)
+own_names t shipped items a name =
+    let all : List Item = expanded shipped items in
+    let same : is_named name ≡ lift (named name) = λ i item. named_lift name item i in
+    omega (arith, once_before t shipped items a name, count_stripped (named name) all, ap (λ (q : Item → Bool). tally q all) same, tally_filter (is_named name) all)
 
 pub homes_after : (t : Resources) (shipped items : List Item) (ds : List Directive) (new : List Item) → IsAccepted t shipped items → applied shipped items ds ≡ Ok new → list_any (is_lost (stripped new)) (stripped new) ≡ false
 unfolding IsAccepted applied

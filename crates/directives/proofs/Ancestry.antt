@@ -7,17 +7,13 @@ use Rattle.mdl_ast.specs.declared.items.Item.{Item}
 use Rattle.mdl_ast.specs.declared.items.Item.TheVariants.{Include, Sync, Metric, Constraint, Hypothesis, Search, Phase, Wish}
 use Rattle.directives.specs.Hypotheses.{is_named, stands, lacks, is_orphan}
 use Rattle.directives.specs.Acts.{parent_in, parent_of, leads_up, is_under, pruned}
-use Rattle.directives.specs.Rounds.{settled, pruned_in_rounds}
 use Rattle.directives.proofs.Stripped.{tally, none_counted, stripped, lift, named, count_stripped}
 use Rattle.directives.proofs.FineItems.{tally_append}
-use Rattle.directives.proofs.Cycles.{same_name}
 use Rattle.directives.proofs.Kept.{named_lift, Homeless}
-use Rattle.directives.proofs.Settling.{same_filter}
+use Rattle.directives.proofs.Settling.{settled, pruned_in_rounds, same_filter}
+use Rattle.directives.proofs.Ancestors.{Agrees, under_higher, under_named}
 
 -- ---- the parent of a name is that of its hypothesis
-
-abbrev Agrees : List Item → Item → Type 0
-Agrees items x = (name : List ℕ) → is_named name x ≡ true → parent_of items name ≡ parent_in x
 
 abbrev Agree : List Item → List Item → Type 0
 Agree items [] = Unit {0}
@@ -49,42 +45,6 @@ module _ (items : List Item) (once : (name : List ℕ) → tally (named name) (s
           ap (λ (l : List Item). parent_of l name) h ∙ parent_behind name before (x ∷ xs) none ∙ ap (λ (b : Bool). cond b (parent_in x) (parent_of xs name)) e
 
 -- ---- one round
-
-leads_higher : (items : List Item) (n : ℕ) (name : List ℕ) (next : Option (List ℕ)) → leads_up items n name next ≡ true → leads_up items (suc n) name next ≡ true
-leads_higher items zero name next h = absurd cc
-leads_higher items (suc n) name None h = absurd cc
-leads_higher items (suc n) name (Some next) h = by (bytes_eq name next) h (λ k. leads_higher items n name (parent_of items next) k)
-  where
-    by : (b : Bool) → (b || leads_up items n name (parent_of items next)) ≡ true → (leads_up items n name (parent_of items next) ≡ true → leads_up items (suc n) name (parent_of items next) ≡ true) →
-        (b || leads_up items (suc n) name (parent_of items next)) ≡ true
-    by true h f = refl
-    by false h f = f h
-
-under_higher : (items : List Item) (n : ℕ) (name : List ℕ) (x : Item) → is_under items n name x ≡ true → is_under items (suc n) name x ≡ true
-under_higher items n name (Include i) h = h
-under_higher items n name (Sync s) h = h
-under_higher items n name (Metric m) h = h
-under_higher items n name (Constraint c) h = h
-under_higher items n name (Hypothesis x) h = by (bytes_eq name x.name) h
-  where
-    by : (b : Bool) → (b || leads_up items n name x.parent) ≡ true → (b || leads_up items (suc n) name x.parent) ≡ true
-    by true h = refl
-    by false h = leads_higher items n name x.parent h
-under_higher items n name (Search s) h = h
-under_higher items n name (Phase p) h = h
-under_higher items n name (Wish w) h = h
-
--- a hypothesis of a name is under another as the name is
-under_named : (items : List Item) (k : ℕ) (name p : List ℕ) (x : Item) → Agrees items x → is_named p x ≡ true → is_under items k name x ≡ leads_up items (suc k) name (Some p)
-under_named items k name p (Include i) a e = absurd cc
-under_named items k name p (Sync s) a e = absurd cc
-under_named items k name p (Metric m) a e = absurd cc
-under_named items k name p (Constraint c) a e = absurd cc
-under_named items k name p (Hypothesis x) a e =
-    ap (λ (n : List ℕ). bytes_eq name n || leads_up items k name x.parent) (sym (same_name p x.name e)) ∙ ap (λ (o : Option (List ℕ)). bytes_eq name p || leads_up items k name o) (sym (a p e))
-under_named items k name p (Search s) a e = absurd cc
-under_named items k name p (Phase f) a e = absurd cc
-under_named items k name p (Wish w) a e = absurd cc
 
 abbrev free : List Item → ℕ → List ℕ → List Item → List Item
 free items k name xs = filter (λ x. not (is_under items k name x)) xs

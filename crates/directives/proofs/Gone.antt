@@ -7,13 +7,14 @@ use Rattle.mdl_ast.specs.declared.items.Item.TheVariants.{Include, Sync, Metric,
 use Rattle.mdl_ast.specs.declared.items.Hypothesis.{Hypothesis as TheHypothesis}
 use Rattle.resource_tree.specs.Resources.{Resources}
 use Rattle.directives.specs.Hypotheses.{is_named, stands}
-use Rattle.directives.specs.Acts.{leads_up, is_under, pruned, without_axis, with_threshold, acted, directed, expanded, applied}
+use Rattle.directives.specs.Acts.{is_under, pruned, without_axis, with_threshold, acted, directed, expanded, applied}
 use Rattle.directives.specs.Applying.{IsAccepted}
 use Rattle.directives.specs.Laws.{is_prune, is_parent, is_child, IsAncestor, Parent, Higher, PrunedIsGone}
 use Rattle.directives.specs.declared.directive.Directive.{Directive}
 use Rattle.directives.specs.declared.directive.DirectiveAct.{DirectiveAct}
 use Rattle.directives.specs.declared.directive.DirectiveAct.TheVariants.{Prune, PruneAxis, Threshold, First}
 use Rattle.directives.proofs.Stripped.{or_none, none_counted, tally, stripped, lift, named, misses, is_lost, has_parent, is_pair, any_stripped}
+use Rattle.directives.proofs.Ancestors.{under_itself}
 use Rattle.directives.proofs.Cycles.{same_name, parent_of_pair}
 use Rattle.directives.proofs.Kept.{stands_named, change_none}
 use Rattle.directives.proofs.Runs.{none_pruned, none_first, stays, in_the_end}
@@ -23,16 +24,6 @@ abbrev Nobody : (TheHypothesis → Bool) → List Item → Type 0
 Nobody q items = list_any q (stripped items) ≡ false
 
 -- ---- a pruned name
-
-under_itself : (items : List Item) (n : ℕ) (name : List ℕ) (x : Item) → is_named name x ≡ true → is_under items n name x ≡ true
-under_itself items n name (Include i) e = absurd cc
-under_itself items n name (Sync s) e = absurd cc
-under_itself items n name (Metric m) e = absurd cc
-under_itself items n name (Constraint c) e = absurd cc
-under_itself items n name (Hypothesis h) e = ap (λ (b : Bool). b || leads_up items n name h.parent) e
-under_itself items n name (Search s) e = absurd cc
-under_itself items n name (Phase p) e = absurd cc
-under_itself items n name (Wish w) e = absurd cc
 
 none_named : (items : List Item) (n : ℕ) (name : List ℕ) (xs : List Item) → list_any (is_named name) (filter (λ x. not (is_under items n name x)) xs) ≡ false
 none_named items n name [] = refl

@@ -8,10 +8,9 @@ use Rattle.mdl_ast.specs.declared.items.Hypothesis.{Hypothesis as TheHypothesis}
 use Rattle.mdl_check.specs.Placed.{Entry}
 use Rattle.mdl_check.specs.Names.{metric_number}
 use Rattle.directives.specs.Hypotheses.{is_named, stands, lacks, is_orphan}
-use Rattle.directives.specs.Rounds.{settled, pruned_in_rounds}
 use Rattle.directives.specs.Acts.{leads_up, is_under, pruned, changed}
 use Rattle.directives.proofs.Stripped.{or_none, count_filter, count_none, none_counted, tally, strip, stripped, lift, bare, named, misses, is_lost, has_parent, is_pair, Leads, is_unmeasured, is_strange, Fine, any_stripped}
-use Rattle.directives.proofs.Settling.{filter_few, round, still}
+use Rattle.directives.proofs.Settling.{settled, pruned_in_rounds, filter_few, round, still}
 
 -- ---- fewer hypotheses
 

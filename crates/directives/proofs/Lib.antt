@@ -3,9 +3,12 @@ pub mod Rules
 pub mod Exact
 pub mod OneMeaning
 pub mod AlwaysMeans
+pub mod Slots
+pub mod Ancestors
+pub mod Pruning
+pub mod Moving
 pub mod Settling
 pub mod Loops
-pub mod Fronting
 pub mod Stripped
 pub mod Faultless
 pub mod Cycles

@@ -1,11 +1,9 @@
 -- What a directive does to the items of a configuration.
-use Rattle.std.specs.Prelude.{ℕ, zero, suc, ◌||◌, not, if◌then◌else◌, Bool, false, Option, Some, None, Result, Ok, Err, List, [], ◌∷◌, length, map, filter, flat_map, position, slice_get}
-use Rattle.std.specs.List.{insert, remove, position_or_len}
+use Rattle.std.specs.Prelude.{ℕ, zero, suc, ◌||◌, not, if◌then◌else◌, Bool, false, Option, Some, None, Result, Ok, Err, List, [], ◌∷◌, ◌++◌, length, map, filter, flat_map}
 use Rattle.std.specs.Str.{bytes_eq}
 use Rattle.mdl_ast.specs.declared.items.Item.{Item}
 use Rattle.mdl_ast.specs.declared.items.Item.TheVariants.{Include, Hypothesis}
 use Rattle.mdl_ast.specs.declared.items.Hypothesis.{Hypothesis as TheHypothesis}
-use Rattle.mdl_check.specs.Placed.{is_hypothesis}
 use Rattle.directives.specs.Hypotheses.{is_named, stands, has_axis}
 use Rattle.directives.specs.declared.directive.Directive.{Directive}
 use Rattle.directives.specs.declared.directive.DirectiveAct.{DirectiveAct}
@@ -71,17 +69,9 @@ with_threshold threshold h = record h { threshold = threshold }
 
 -- ---- first
 
--- the item is taken out of its place, and put before the first hypothesis
-abbrev pub put_first : List Item → ℕ → Option Item → List Item
-put_first items place None = items
-put_first items place (Some item) = insert (remove items place) (position_or_len is_hypothesis items) item
-
-abbrev pub moved : List Item → Option ℕ → List Item
-moved items None = items
-moved items (Some place) = put_first items place (slice_get items place)
-
+-- the hypothesis of this name, and behind it the others in their order
 unfoldable pub with_first : List ℕ → List Item → List Item
-with_first name items = moved items (position (is_named name) items)
+with_first name items = filter (is_named name) items ++ filter (λ item. not (is_named name item)) items
 
 -- ---- an act
 

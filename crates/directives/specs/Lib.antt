@@ -5,7 +5,6 @@ pub mod Ahead
 pub mod Gives
 pub mod Hypotheses
 pub mod Acts
-pub mod Rounds
+pub mod Standing
 pub mod Applying
-pub mod Names
 pub mod Laws

@@ -1,23 +1,20 @@
 //! From a configuration and directives to the configuration that they make of it.
 
-ghost use Rattle.std.specs.Prelude.{◌≡◌, ◌≤◌, length, Ok, IfOk, IfErr, OnOk};
+ghost use Rattle.std.specs.Prelude.{◌≡◌, ◌≤◌, true, length, Ok, IfOk, IfErr, OnOk};
 ghost use Rattle.std.specs.List.{AllByRecursion};
 ghost use Rattle.mdl_ast.specs.Small.{HasSmall};
 ghost use Rattle.mdl_check.specs.Placed.{placed_items};
 ghost use Rattle.mdl_check.specs.Checking.{prefixes_of};
-ghost use Rattle.directives.specs.Acts.{name_of, is_astray, kind_of, applied};
-ghost use Rattle.directives.specs.Rounds.{acted_in_rounds};
+ghost use Rattle.directives.specs.Hypotheses.{stands};
+ghost use Rattle.directives.specs.Acts.{name_of, is_astray, kind_of, acted, applied};
 ghost use Rattle.directives.specs.Applying.{IsAccepted};
 ghost use Rattle.directives.specs.Gives.{Stops};
 
-use crate::change::{drop_axis, set_threshold};
 use crate::directive::{Directive, DirectiveAct};
 use crate::expansion::expanded;
 use crate::fault::{DirectiveFault, DirectiveKind};
-use crate::front::put_first;
-use crate::hypotheses::{has_axis, stands};
-use crate::prune::prune;
-use mdl_ast::{Conf, Item};
+use crate::standing::Standing;
+use mdl_ast::Conf;
 use pn_types::{NoMemory, Seq, Text};
 use resource_tree::Tree;
 use std::alloc::Global;
@@ -35,22 +32,22 @@ fn name_of(act: &DirectiveAct) -> &Text
 }
 
 /// Whether the act is on an axis along which the hypothesis isn't refined.
-fn is_astray(act: &DirectiveAct, items: &[Item]) -> bool
-    ensures { result ≡ is_astray act.now items.now }
+fn is_astray(act: &DirectiveAct, standing: &Standing) -> bool
+    ensures { result ≡ is_astray act.now standing.now }
 {
     match act {
-        DirectiveAct::PruneAxis(name, axis) => !has_axis(name.bytes(), axis.bytes(), items),
+        DirectiveAct::PruneAxis(name, axis) => !standing.has_axis(name.bytes(), axis.bytes()),
         _ => false,
     }
 }
 
 /// What is wrong with an act on these items.
-fn kind_of(act: &DirectiveAct, items: &[Item]) -> Option<DirectiveKind>
-    ensures { result ≡ kind_of act.now items.now }
+fn kind_of(act: &DirectiveAct, standing: &Standing) -> Option<DirectiveKind>
+    ensures { result ≡ kind_of act.now standing.now }
 {
-    if !stands(name_of(act).bytes(), items) {
+    if !standing.stands(name_of(act).bytes()) {
         Some(DirectiveKind::UnknownName)
-    } else if is_astray(act, items) {
+    } else if is_astray(act, standing) {
         Some(DirectiveKind::WrongKind)
     } else {
         None
@@ -58,19 +55,22 @@ fn kind_of(act: &DirectiveAct, items: &[Item]) -> Option<DirectiveKind>
 }
 
 /// Does to the items what a directive says.
-fn act_on(alloc: Global, items: &mut Vec<Item>, act: &DirectiveAct) -> Result<(), NoMemory>
-    ensures { OnOk result (items.new.items ≡ acted_in_rounds act.now items.old.items) }
+fn act_on(alloc: Global, standing: &mut Standing, act: &DirectiveAct) -> Result<(), NoMemory>
+    requires { stands (name_of act.now) standing.old ≡ true }
+    ensures { OnOk result (standing.new ≡ acted act.now standing.old) }
 {
     match act {
-        DirectiveAct::Prune(name) => prune(alloc, items, name.bytes()),
-        DirectiveAct::PruneAxis(name, axis) => {
-            drop_axis(alloc, items.as_mut_slice(), name.bytes(), axis.bytes())
-        }
+        DirectiveAct::Prune(name) => standing.prune(alloc, name.bytes()),
+        DirectiveAct::PruneAxis(name, axis) => standing.drop_axis(
+            alloc,
+            name.bytes(),
+            axis.bytes(),
+        ),
         DirectiveAct::Threshold(name, threshold) => {
-            set_threshold(items.as_mut_slice(), name.bytes(), *threshold);
+            standing.set_threshold(name.bytes(), *threshold);
             Ok(())
         }
-        DirectiveAct::First(name) => put_first(items, name.bytes()),
+        DirectiveAct::First(name) => standing.put_first(name.bytes()),
     }
 }
 
@@ -81,7 +81,7 @@ fn act_on(alloc: Global, items: &mut Vec<Item>, act: &DirectiveAct) -> Result<()
 /// - `prune H` takes away the hypothesis, and all that have it as an ancestor;
 /// - `prune H axis A` takes the axis from those of the hypothesis;
 /// - `threshold H N` sets its threshold;
-/// - `first H` puts it before the first hypothesis; the other items keep their order.
+/// - `first H` puts it before all other items, which keep their order.
 ///
 /// The check accepts what is made, and the names of objects begin as they did. The tree is named for this alone.
 ///
@@ -105,18 +105,19 @@ pub fn apply(
     ensures few { IfOk result (λ made. length (placed_items shipped.now.items made.items) ≤ length (placed_items shipped.now.items conf.now.items)) }
     ensures small { AllByRecursion HasSmall conf.now.items → IfOk result (λ made. AllByRecursion HasSmall made.items) }
 {
-    let mut items = expanded(alloc, shipped.items.as_slice(), conf.items.as_slice())?;
+    let items = expanded(alloc, shipped.items.as_slice(), conf.items.as_slice())?;
+    let mut standing = Standing::of(alloc, items)?;
     for directive in directives {
-        if let Some(kind) = kind_of(&directive.act, items.as_slice()) {
+        if let Some(kind) = kind_of(&directive.act, &standing) {
             return Err(DirectiveFault::At {
                 line: directive.line,
                 col: 0,
                 kind,
             });
         }
-        act_on(alloc, &mut items, &directive.act)?;
+        act_on(alloc, &mut standing, &directive.act)?;
     }
     Ok(Conf {
-        items: Seq::from_vec(items),
+        items: Seq::from_vec(standing.into_items(alloc)?),
     })
 }

@@ -1,10 +1,12 @@
 //! Hypotheses that are changed.
 
-ghost use Rattle.std.specs.Prelude.{◌≡◌, not, map, filter, IfOk, OnOk};
+ghost use Rattle.std.specs.Prelude.{◌≡◌, not, filter, IfOk, OnErr, OnOk};
+ghost use Rattle.std.specs.Option.{option_map};
 ghost use Rattle.std.specs.Str.{bytes_eq};
 ghost use Rattle.directives.specs.Acts.{changed, without_axis, with_threshold};
+ghost use Rattle.directives.specs.Standing.{with_change};
 
-use mdl_ast::{Hypothesis, Item};
+use mdl_ast::Item;
 use pn_types::{NoMemory, Seq, Text};
 use std::alloc::Global;
 
@@ -19,12 +21,21 @@ fn set_threshold_of(item: &mut Item, name: &[u8], threshold: u32)
     }
 }
 
-/// Sets the threshold of the hypothesis of this name.
-pub(crate) fn set_threshold(items: &mut [Item], name: &[u8], threshold: u32)
-    ensures { items.new ≡ map (changed name.now (with_threshold threshold)) items.old }
+/// Sets the threshold of what stands there, if it is the hypothesis of this name.
+fn set_threshold_in(slot: &mut Option<Item>, name: &[u8], threshold: u32)
+    ensures { slot.new ≡ option_map (changed name.now (with_threshold threshold)) slot.old }
 {
-    for item in items.iter_mut() {
+    if let Some(item) = slot {
         set_threshold_of(item, name, threshold);
+    }
+}
+
+/// Sets the threshold of the hypothesis of this name, if it stands at this place.
+pub(crate) fn set_threshold(slots: &mut [Option<Item>], place: usize, name: &[u8], threshold: u32)
+    ensures { slots.new ≡ with_change slots.old place (changed name.now (with_threshold threshold)) }
+{
+    if place < slots.len() {
+        set_threshold_in(&mut slots[place], name, threshold);
     }
 }
 
@@ -43,7 +54,8 @@ fn other_axes(alloc: Global, axes: &[Text], axis: &[u8]) -> Result<Seq<Text>, No
 
 /// Takes the axis from those of the item, if it is the hypothesis of this name.
 fn drop_axis_of(alloc: Global, item: &mut Item, name: &[u8], axis: &[u8]) -> Result<(), NoMemory>
-    ensures { OnOk result (item.new ≡ changed name.now (without_axis axis.now) item.old) }
+    ensures ok { OnOk result (item.new ≡ changed name.now (without_axis axis.now) item.old) }
+    ensures err { OnErr result (item.new ≡ item.old) }
 {
     if let Item::Hypothesis(hypothesis) = item
         && name == hypothesis.name.bytes()
@@ -53,17 +65,35 @@ fn drop_axis_of(alloc: Global, item: &mut Item, name: &[u8], axis: &[u8]) -> Res
     Ok(())
 }
 
-/// Takes the axis from those of the hypothesis of this name.
-pub(crate) fn drop_axis(
+/// Takes the axis from those of what stands there, if it is the hypothesis of this name.
+fn drop_axis_in(
     alloc: Global,
-    items: &mut [Item],
+    slot: &mut Option<Item>,
     name: &[u8],
     axis: &[u8],
 ) -> Result<(), NoMemory>
-    ensures { OnOk result (items.new ≡ map (changed name.now (without_axis axis.now)) items.old) }
+    ensures ok { OnOk result (slot.new ≡ option_map (changed name.now (without_axis axis.now)) slot.old) }
+    ensures err { OnErr result (slot.new ≡ slot.old) }
 {
-    for item in items.iter_mut() {
+    if let Some(item) = slot {
         drop_axis_of(alloc, item, name, axis)?;
+    }
+    Ok(())
+}
+
+/// Takes the axis from those of the hypothesis of this name, if it stands at this place.
+pub(crate) fn drop_axis(
+    alloc: Global,
+    slots: &mut [Option<Item>],
+    place: usize,
+    name: &[u8],
+    axis: &[u8],
+) -> Result<(), NoMemory>
+    ensures ok { OnOk result (slots.new ≡ with_change slots.old place (changed name.now (without_axis axis.now))) }
+    ensures err { OnErr result (slots.new ≡ slots.old) }
+{
+    if place < slots.len() {
+        drop_axis_in(alloc, &mut slots[place], name, axis)?;
     }
     Ok(())
 }

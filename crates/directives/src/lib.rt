@@ -8,12 +8,13 @@ mod change;
 mod directive;
 mod expansion;
 mod fault;
-mod front;
 mod hypotheses;
 mod laws;
-mod prune;
+mod name_places;
 mod reading;
+mod standing;
 mod stop;
+mod taking;
 mod words;
 
 pub use applying::apply;

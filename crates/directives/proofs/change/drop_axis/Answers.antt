@@ -1,9 +1,10 @@
+use Rattle.std.proofs.Common.{sym, ap, ◌∙◌}
+use Rattle.std.specs.Option.{option_map}
 use Rattle.directives.specs.Acts.{changed, without_axis}
-use Rattle.directives.proofs.Loops.{changed_more}
-use Rattle.std.proofs.Common.{arith}
+use Rattle.directives.proofs.Slots.{read_at, there_changed}
 use Rattle.directives.proofs.change.drop_axis.Goals as goal
 
-pub loop-item-preserved : goal.loop-item-preserved
-loop-item-preserved c =
-    changed_more (changed c.args.name.now (without_axis c.args.axis.now)) c.args.items.now c.loop-item.items c.loop-item.item-index c.item-item.result c.drop_axis_of.new.item
-    c.loop-item.invariant (omega arith) c.item-item.is c.in_ok-drop_axis_of.ensures
+pub returns-in_ok-drop_axis_in-clause-ok : goal.returns-in_ok-drop_axis_in-clause-ok
+returns-in_ok-drop_axis_in-clause-ok c =
+    there_changed c.args.slots.now c.args.place (changed c.args.name.now (without_axis c.args.axis.now)) c.index-slots-place.result c.drop_axis_in.new.slot
+    (read_at c.args.slots.now c.args.place c.index-slots-place.result c.if-place-slots.true c.index-slots-place.is) (c.in_ok-drop_axis_in.ensures.ok ∙ ap (option_map (changed c.args.name.now (without_axis c.args.axis.now))) (sym c.index-slots-place.is))
