@@ -1,13 +1,12 @@
 //! The items of a configuration on which directives act.
 
-ghost use Rattle.std.specs.Prelude.{◌≡◌, ◌≤◌, List, ℕ, true, length, filter, map, slice_get, IfOk, OnErr, OnOk};
-ghost use Rattle.std.specs.Option.{option_map, option_map_or};
+ghost use Rattle.std.specs.Prelude.{◌≡◌, ◌++◌, List, ℕ, true, length, map, IfOk, OnOk};
 ghost use Rattle.std.specs.List.{range_with_len};
-ghost use Rattle.std.specs.Prelude.{◌++◌};
+ghost use Rattle.std.specs.Option.{option_map};
 ghost use Rattle.first_places.specs.Numbers.{with_number};
 ghost use Rattle.directives.specs.Hypotheses.{is_named, is_along, stands, has_axis};
 ghost use Rattle.directives.specs.Acts.{changed, without_axis, with_threshold, with_first, pruned};
-ghost use Rattle.directives.specs.Standing.{slot, taken, under, is_child, first_at, HaveOwnNames};
+ghost use Rattle.directives.specs.Standing.{taken, under, is_child, first_at, HaveOwnNames};
 
 use crate::change::{drop_axis, set_threshold};
 use crate::hypotheses::{is_along, is_named};

@@ -78,6 +78,7 @@ pub(crate) fn take_under(
     take_items(slots, named.under(name), &mut parents)?;
     while let Some(parent) = parents.pop() {
         let taken = take_items(slots, children_of(children, &parent), &mut parents);
+        // By a call, so that the loop need not prove the drops of all its parts.
         drop(parent);
         taken?;
     }
