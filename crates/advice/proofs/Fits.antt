@@ -1,11 +1,12 @@
 -- Words that are as a form says.
-use Rattle.std.proofs.Common.{◌≡◌, ℕ, ◌<◌, ◌≤◌, ◌^◌, ◌||◌, true, false, Some, List, [], ◌∷◌, length, codes, bytes_eq, is_some, refl, ap, arith}
+use Rattle.std.proofs.Common.{◌≡◌, ℕ, ◌<◌, ◌≤◌, ◌^◌, ◌||◌, true, Option, Some, List, [], ◌∷◌, length, slice_get, codes, bytes_eq, is_some, refl, ap, ◌∙◌, arith}
 use Rattle.std.specs.Fmt.{decimal}
+use Rattle.std.specs.Option.{unwrap_or}
 use Rattle.std.proofs.lemmas.Bool.{le-leb}
 use Rattle.std.proofs.lemmas.Fmt.{length-decimal-le}
 use Rattle.pn_text.specs.Words.{is_name}
 use Rattle.pn_text.proofs.Decimals.{decimal_spells}
-use Rattle.advice.specs.Words.{are_as, is_as, is_focus, is_number, number_of}
+use Rattle.advice.specs.Words.{are_as, is_focus, is_number, number_at, number_of, word_at, words}
 
 -- ---- numbers
 
@@ -20,11 +21,18 @@ number_read n h =
 pub number_fits : (n : ℕ) → n < 2 ^ 64 → is_number (decimal n) ≡ true
 number_fits n h = ap is_some (number_read n h)
 
--- ---- forms
+pub number_is : (n : ℕ) (text : List ℕ) → number_of text ≡ Some n → is_number text ≡ true
+number_is n text e = ap is_some e
 
--- the first word fits
-pub fit : (f w : List ℕ) (fs ws : List (List ℕ)) → bytes_eq f (codes "ANYTHING") ≡ false → is_as f w ≡ true → are_as (f ∷ fs) (w ∷ ws) ≡ are_as fs ws
-fit f w fs ws e h = rw (e, h) refl
+-- ---- words by their places
+
+pub word_there : (k : ℕ) (line : List ℕ) (ws : List (List ℕ)) → words line ≡ ws → word_at k line ≡ unwrap_or (slice_get ws k) []
+word_there k line ws is = ap (λ (all : List (List ℕ)). unwrap_or (slice_get all k) []) is
+
+pub number_there : (k n : ℕ) (text line : List ℕ) → word_at k line ≡ text → number_of text ≡ Some n → number_at k line ≡ n
+number_there k n text line is e = ap (λ (w : List ℕ). unwrap_or (number_of w) 0) is ∙ ap (λ (o : Option ℕ). unwrap_or o 0) e
+
+-- ---- forms
 
 -- the words of a node before what came of it
 abbrev pub head_forms : List (List ℕ) → List (List ℕ)

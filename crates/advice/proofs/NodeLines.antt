@@ -12,7 +12,7 @@ use Rattle.w3_search.specs.declared.node.NodeState.TheVariants.{Waiting, Active,
 use Rattle.advice.specs.Seams.{HasNumbers, IsNodeLine, IsSmall, is_one_line, verdict_in, verdict_on}
 use Rattle.advice.specs.Words.{is_number, words}
 use Rattle.advice.proofs.Fits.{head_words, head_fits, number_read, number_fits}
-use Rattle.advice.proofs.NodeForms.{IsHeaded, Tells, tells_barred, tells_false, tells_true, tells_waiting}
+use Rattle.advice.proofs.NodeForms.{IsHeaded, TellsVerdict, tells_barred, tells_false, tells_true, tells_waiting}
 use Rattle.advice.proofs.PlainLines.{cause_line, decimal_line}
 use Rattle.advice.proofs.Spaced.{before, digits_above, focus_above, is_word, line_before, name_above, one_word, words_before}
 
@@ -47,7 +47,7 @@ pub record NodeRead (text : List ℕ) (p : NodePart) : Type 0 where
   pub body : List ℕ
   pub is : text ≡ body ++ 10 ∷ []
   pub one : is_one_line body ≡ true
-  pub tells : Tells body (verdict_on p)
+  pub tells : TellsVerdict body (verdict_on p)
 
 module _ (window i : ℕ) (p : NodePart) (h : IsNodeLine p) (small : IsSmall i) (sized : IsSmall window) where
   abbrev body : List ℕ → List ℕ
@@ -78,12 +78,12 @@ module _ (window i : ℕ) (p : NodePart) (h : IsNodeLine p) (small : IsSmall i) 
   verdict_headed : (verdict : List ℕ) → is_word verdict ≡ true → IsHeaded (body (verdict_text verdict p.node)) (decimal i) p.phase (parent_text p.node.parent) p.hypothesis p.focus (verdict_front verdict p.node ++ decimal p.node.to ∷ [])
   verdict_headed verdict e = headed (verdict_text verdict p.node) (verdict_front verdict p.node ++ decimal p.node.to ∷ []) (numbered (verdict_front verdict p.node) p.node.to (front_above verdict p.node e))
 
-  tells_seen : (seen : ℕ) → IsSmall seen → Tells (body (waiting_text seen window)) None
+  tells_seen : (seen : ℕ) → IsSmall seen → TellsVerdict (body (waiting_text seen window)) None
   tells_seen seen s =
       tells_waiting (body (waiting_text seen window)) (decimal i) p.phase (parent_text p.node.parent) p.hypothesis p.focus (decimal seen) (decimal window) (number_fits seen s) (number_fits window sized)
       (headed (waiting_text seen window) (waiting_front seen ++ decimal window ∷ []) (numbered (waiting_front seen) window (waiting_above seen)))
 
-  tells : (state : NodeState) → HasNumbers p.node state → Tells (body (state_text window p.node state)) (verdict_in p state)
+  tells : (state : NodeState) → HasNumbers p.node state → TellsVerdict (body (state_text window p.node state)) (verdict_in p state)
   tells Waiting s = tells_seen p.node.seen s
   tells Active s = tells_seen p.node.seen s
   tells (Unfinished seen) s = tells_seen seen s

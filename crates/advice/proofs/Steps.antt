@@ -1,6 +1,6 @@
 -- Each line of a report, and what is due behind it.
-use Rattle.std.proofs.Common.{◌≡◌, ℕ, suc, ◌+◌, ◌-◌, ◌<◌, ◌==◌, ◌||◌, not, true, false, Option, Some, Ok, is_some, List, [], ◌∷◌, ◌++◌, length, slice_get, codes, refl, ap, ◌∙◌, arith, length-append}
-use Rattle.std.specs.Option.{option_to_list, unwrap_or}
+use Rattle.std.proofs.Common.{◌≡◌, ℕ, suc, ◌+◌, ◌-◌, ◌<◌, ◌==◌, ◌||◌, not, true, false, Some, Ok, List, [], ◌∷◌, ◌++◌, length, slice_get, codes, refl, ap, ◌∙◌, arith, length-append}
+use Rattle.std.specs.Option.{option_to_list}
 use Rattle.std.proofs.lemmas.Bool.{lt-ltb, ne_eqb}
 use Rattle.std.proofs.Math.Seq.{drop-append-add, take-append_seam}
 use Rattle.pn_text.specs.Bytes.{begins_with}
@@ -9,10 +9,11 @@ use Rattle.pn_text.proofs.WordLexemes.{prefix_len-append}
 use Rattle.advice.specs.Lines.{after, first_line, is_node, is_search, is_shown, to_lf, told_in, verdict_of}
 use Rattle.advice.specs.Reading.{onto, verdicts_from}
 use Rattle.advice.specs.Seams.{is_one_line}
-use Rattle.advice.specs.Words.{are_as, has_form, is_number, number_at, number_of, word_at, words}
+use Rattle.advice.specs.Words.{are_as, has_form, is_number, number_of, words}
 use Rattle.advice.specs.declared.due.Due.{Due}
 use Rattle.advice.specs.declared.due.Due.TheVariants.{Title, Counts, Harts, Output, Shown, Nodes}
 use Rattle.advice.specs.declared.verdict.Verdict.{Verdict}
+use Rattle.advice.proofs.Fits.{number_is, number_there, word_there}
 use Rattle.advice.proofs.ReadLines.{line_step}
 
 -- wherever these bytes stand, they tell these verdicts
@@ -63,27 +64,21 @@ node_step n line rest vs one said =
 
 -- ---- lines with numbers
 
-number_is : (k n : ℕ) (text line : List ℕ) → word_at k line ≡ text → number_of text ≡ Some n → number_at k line ≡ n
-number_is k n text line is e = ap (λ (w : List ℕ). unwrap_or (number_of w) 0) is ∙ ap (λ (o : Option ℕ). unwrap_or o 0) e
-
 pub counts_due : (harts ticks samples skipped line : List ℕ) (count : ℕ) → words line ≡ codes "harts" ∷ harts ∷ codes "ticks" ∷ ticks ∷ codes "samples" ∷ samples ∷ codes "skipped" ∷ skipped ∷ [] → number_of harts ≡ Some count → is_number ticks ≡ true → is_number samples ≡ true → is_number skipped ≡ true → after Counts line ≡ Some (Harts count)
 counts_due harts ticks samples skipped line count is a b c d =
     let form : has_form (codes "harts NUMBER ticks NUMBER samples NUMBER skipped NUMBER") line ≡ true =
-    ap (are_as (words (codes "harts NUMBER ticks NUMBER samples NUMBER skipped NUMBER"))) is ∙ rw (ap is_some a, b, c, d) refl in
-    let word = ap (λ (all : List (List ℕ)). unwrap_or (slice_get all 1) []) is in
-    rw (form, number_is 1 count harts line word a) refl
+    ap (are_as (words (codes "harts NUMBER ticks NUMBER samples NUMBER skipped NUMBER"))) is ∙ rw (number_is count harts a, b, c, d) refl in
+    rw (form, number_there 1 count harts line (word_there 1 line _ is) a) refl
 
 pub output_due : (number line : List ℕ) (count : ℕ) → words line ≡ codes "output" ∷ number ∷ [] → number_of number ≡ Some count → after (Harts 0) line ≡ Some (Output count)
 output_due number line count is a =
-    let form : has_form (codes "output NUMBER") line ≡ true = ap (are_as (words (codes "output NUMBER"))) is ∙ rw (ap is_some a) refl in
-    let word = ap (λ (all : List (List ℕ)). unwrap_or (slice_get all 1) []) is in
-    rw (form, number_is 1 count number line word a) refl
+    let form : has_form (codes "output NUMBER") line ≡ true = ap (are_as (words (codes "output NUMBER"))) is ∙ rw (number_is count number a) refl in
+    rw (form, number_there 1 count number line (word_there 1 line _ is) a) refl
 
 -- behind the number of nodes stands nothing, or that there are no more
 pub nodes_due : (number line : List ℕ) (tail : List (List ℕ)) (count : ℕ) → words line ≡ codes "search" ∷ codes "nodes" ∷ number ∷ tail → number_of number ≡ Some count → is_shown line ≡ false → (are_as [] tail || are_as (codes "full" ∷ []) tail) ≡ true → after Shown line ≡ Some (Nodes count)
 nodes_due number line tail count is a other said =
     let search : is_search line ≡ true =
     ap (λ (all : List (List ℕ)). are_as (words (codes "search nodes NUMBER")) all || are_as (words (codes "search nodes NUMBER full")) all) is
-    ∙ rw (ap is_some a) said in
-    let word = ap (λ (all : List (List ℕ)). unwrap_or (slice_get all 2) []) is in
-    rw (other, search, number_is 2 count number line word a) refl
+    ∙ rw (number_is count number a) said in
+    rw (other, search, number_there 2 count number line (word_there 2 line _ is) a) refl

@@ -1,18 +1,17 @@
 -- What `report` writes, `advice` reads.
-use Rattle.std.specs.Prelude.{ℕ, ◌≡◌, ◌<◌, ◌≤◌, ◌^◌, not, Bool, true, false, Option, Some, None, IfSome, Ok, List, [], length, flat_map, sum_by}
+use Rattle.std.specs.Prelude.{ℕ, ◌≡◌, ◌<◌, ◌^◌, not, Bool, true, false, Option, Some, None, IfSome, Ok, List, [], length, flat_map, sum_by}
 use Rattle.std.specs.List.{list_all, All}
 use Rattle.std.specs.Option.{option_map_or, option_to_list}
 use Rattle.pn_text.specs.Lines.{is_lf}
 use Rattle.pn_text.specs.Words.{is_name}
 use Rattle.pn_types.specs.declared.focus.Focus.{Focus}
-use Rattle.pn_types.specs.declared.limits.TheConstants.{MAX_HARTS}
 use Rattle.report.specs.declared.parts.NodePart.{NodePart}
 use Rattle.report.specs.declared.parts.RefusedPart.{RefusedPart}
 use Rattle.report.specs.declared.parts.ReportParts.{ReportParts}
 use Rattle.report.specs.declared.parts.SearchPart.{SearchPart}
 use Rattle.report.specs.declared.parts.ShownPart.{ShownPart}
 use Rattle.report.specs.Text.{report_text}
-use Rattle.resource_tree.specs.Foci.{IsFocusOf, canonical}
+use Rattle.resource_tree.specs.Foci.{canonical}
 use Rattle.resource_tree.specs.Names.{IsNamed}
 use Rattle.resource_tree.specs.Resources.{Resources}
 use Rattle.w3_search.specs.declared.node.Node.{Node}
@@ -106,6 +105,6 @@ abbrev pub ReportIsRead : Type 0
 ReportIsRead = (parts : ReportParts) (skipped : ℕ) → IsReadable parts skipped →
     verdicts_of (report_text parts skipped) ≡ Ok (verdicts_in parts)
 
--- The canonical text of a focus is one, where the names of the tree are good.
+-- The canonical text of a focus is one that is read, where the names of the tree are good.
 abbrev pub CanonicalIsFocus : Type 0
-CanonicalIsFocus = (t : Resources) (f : Focus) → t.harts ≤ MAX_HARTS → IsNamed t → IsFocusOf t f → is_focus (canonical t f) ≡ true
+CanonicalIsFocus = (t : Resources) (f : Focus) → IsNamed t → is_focus (canonical t f) ≡ true

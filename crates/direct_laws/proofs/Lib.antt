@@ -1,2 +1,3 @@
 mod Found
 mod Going
+mod Readable
