@@ -1,18 +1,18 @@
-ghost use Rattle.std.specs.Prelude.{◌≡◌, ◌≢◌, ◌≤◌, Ok, Err, IfOk, MatchResult, length};
-ghost use Rattle.rv_asm.specs.declared.fault.AsmFault.TheVariants.{NoMemory};
+ghost use Rattle.std.specs.Prelude.{◌≡◌, ◌≤◌, Ok, Err, IfOk, MatchResult, length};
+ghost use Rattle.rv_asm.specs.Means.{Refuses};
 ghost use Rattle.asm_file.specs.Made.{elf_of, IsMeantAgain};
 
 use elf_form::MAX_PROGRAM_LEN;
 use elf_write::write;
-use rv_asm::{AsmFault, assemble};
+use rv_asm::{AsmError, assemble};
 use std::alloc::Global;
 
 /// The ELF file of the program that an assembly text stands for, or the text's first fault. The text has at most
 /// [`MAX_PROGRAM_LEN`] bytes.
 #[tactic(auto, using(crate::proofs::Writable::can_write))]
-pub fn elf_of_text(alloc: Global, text: &[u8]) -> Result<Vec<u8>, AsmFault>
+pub fn elf_of_text(alloc: Global, text: &[u8]) -> Result<Vec<u8>, AsmError>
     requires { length text.now ≤ MAX_PROGRAM_LEN }
-    ensures file { MatchResult result (λ bytes. elf_of text.now ≡ Ok bytes.items) (λ fault. fault ≢ NoMemory → elf_of text.now ≡ Err fault) }
+    ensures file { MatchResult result (λ bytes. elf_of text.now ≡ Ok bytes.items) (λ e. Refuses e (λ fault. elf_of text.now ≡ Err fault)) }
     // Read as an ELF file it is the same program, where that begins in its text.
     ensures again { IfOk result (λ bytes. IsMeantAgain text.now bytes.items) }
 {

@@ -142,7 +142,6 @@ log_spared bytes (Err log_fault.BadHead) = tt
 log_spared bytes (Err (log_fault.Short n)) = tt
 log_spared bytes (Err (log_fault.BadField n)) = tt
 log_spared bytes (Err (log_fault.Trailing n)) = tt
-log_spared bytes (Err log_fault.NoMemory) = tt
 
 replayed_spared : (pick : Option RefusedWish) (m : Option Misfit) (log : Log) (image : Image) (i : SessionInputs) → Spares (replayed pick m log image i)
 replayed_spared (Some wish) m log image i = tt

@@ -11,10 +11,10 @@ ghost use Rattle.refusals.specs.Refusals.{Comes};
 ghost use Rattle.rv_asm.specs.Assembly.{assembled};
 
 use asm_file::elf_of_text;
-use elf_form::{ElfFault, MAX_PROGRAM_LEN};
+use elf_form::{ElfError, MAX_PROGRAM_LEN};
 use pn_types::{Image, Seq};
 use refusals::{Fault, ProgramFault, Refusal};
-use rv_asm::{AsmFault, assemble};
+use rv_asm::{AsmError, assemble};
 use std::alloc::Global;
 
 /// The refusal of a program.
@@ -41,8 +41,8 @@ fn load_elf(alloc: Global, bytes: &[u8]) -> Result<Image, Refusal>
 {
     match elf_load::load(alloc, bytes) {
         Ok(image) => Ok(image),
-        Err(ElfFault::NoMemory) => Err(Refusal::NoMemory),
-        Err(fault) => Err(bad_program(ProgramFault::Elf(fault))),
+        Err(ElfError::NoMemory) => Err(Refusal::NoMemory),
+        Err(ElfError::Fault(fault)) => Err(bad_program(ProgramFault::Elf(fault))),
     }
 }
 
@@ -56,8 +56,8 @@ fn load_text(alloc: Global, bytes: &[u8]) -> Result<Image, Refusal>
 {
     match assemble(alloc, bytes) {
         Ok(image) => Ok(image),
-        Err(AsmFault::NoMemory) => Err(Refusal::NoMemory),
-        Err(fault) => Err(bad_program(ProgramFault::Asm(fault))),
+        Err(AsmError::NoMemory) => Err(Refusal::NoMemory),
+        Err(AsmError::Fault(fault)) => Err(bad_program(ProgramFault::Asm(fault))),
     }
 }
 
@@ -83,7 +83,7 @@ pub fn make_file(alloc: Global, text: &[u8]) -> Result<Seq<u8>, Refusal>
 {
     match elf_of_text(alloc, text) {
         Ok(file) => Ok(Seq::from_vec(file)),
-        Err(AsmFault::NoMemory) => Err(Refusal::NoMemory),
-        Err(fault) => Err(bad_program(ProgramFault::Asm(fault))),
+        Err(AsmError::NoMemory) => Err(Refusal::NoMemory),
+        Err(AsmError::Fault(fault)) => Err(bad_program(ProgramFault::Asm(fault))),
     }
 }

@@ -14,7 +14,7 @@ ghost use Rattle.whole_run.specs.Replayed.{IsWithin};
 use crate::files::read_file;
 use outside::Files;
 use pn_types::{Quantum, Seq, Settings};
-use quanta_log::{Version, read};
+use quanta_log::{LogError, Version, read};
 use refusals::{Fault, LogCause, Refusal, bad_log};
 use std::alloc::Global;
 use whole_run::Misfit;
@@ -62,7 +62,8 @@ fn log_of(alloc: Global, bytes: &[u8]) -> Result<Log, Refusal>
             quanta: Seq::from_vec(quanta),
             version: version(bytes),
         }),
-        Err(fault) => Err(bad_log(fault)),
+        Err(LogError::NoMemory) => Err(Refusal::NoMemory),
+        Err(LogError::Fault(fault)) => Err(bad_log(fault)),
     }
 }
 

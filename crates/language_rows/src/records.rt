@@ -8,7 +8,7 @@ use crate::starts::start_text;
 use fold_hist::Hist;
 use hex::{decode, encode};
 use pn_types::{NoMemory, Quantum, Settings};
-use quanta_log::{LogFault, read, write};
+use quanta_log::{LogError, LogFault, read, write};
 use std::alloc::Global;
 use std::io;
 
@@ -34,6 +34,16 @@ fn parts_text(alloc: Global, settings: &Settings, quanta: &[Quantum]) -> Result<
     Ok(text)
 }
 
+/// Why bytes are no log.
+fn fault_text(alloc: Global, fault: LogFault) -> Result<String, NoMemory> {
+    match fault {
+        LogFault::BadHead => String::from_str(alloc, "bad head"),
+        LogFault::Short(place) => format!(in alloc; "short {place}"),
+        LogFault::BadField(place) => format!(in alloc; "bad field {place}"),
+        LogFault::Trailing(place) => format!(in alloc; "trailing {place}"),
+    }
+}
+
 /// What bytes are as a log.
 fn log_text(alloc: Global, bytes: &[u8]) -> Result<String, NoMemory> {
     match read(alloc, bytes) {
@@ -43,11 +53,8 @@ fn log_text(alloc: Global, bytes: &[u8]) -> Result<String, NoMemory> {
             let digits = encode(alloc, log.as_slice())?;
             format!(in alloc; "{parts} {digits}")
         }
-        Err(LogFault::BadHead) => String::from_str(alloc, "bad head"),
-        Err(LogFault::Short(place)) => format!(in alloc; "short {place}"),
-        Err(LogFault::BadField(place)) => format!(in alloc; "bad field {place}"),
-        Err(LogFault::Trailing(place)) => format!(in alloc; "trailing {place}"),
-        Err(LogFault::NoMemory) => Err(NoMemory {}),
+        Err(LogError::NoMemory) => Err(NoMemory {}),
+        Err(LogError::Fault(fault)) => fault_text(alloc, fault),
     }
 }
 

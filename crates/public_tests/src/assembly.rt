@@ -4,7 +4,7 @@ ghost use Rattle.std.specs.Prelude.{◌<◌, ◌^◌, length};
 
 use crate::comparison::compare;
 use pn_types::Image;
-use rv_asm::{AsmFault, assemble};
+use rv_asm::{AsmError, AsmFault, assemble};
 use std::alloc::Global;
 
 /// Whether the first segment stands at 0x10000 and has these bytes.
@@ -57,7 +57,7 @@ const FAULTY: [(&[u8], AsmFault); 10] = [
 /// The first text that has another fault than the one beside it, or none.
 fn first_other<'a>(alloc: Global, rows: &[(&'a [u8], AsmFault)]) -> Option<&'a [u8]> {
     for (text, fault) in rows {
-        if text.len() > 100 || assemble(alloc, text).err() != Some(*fault) {
+        if text.len() > 100 || assemble(alloc, text).err() != Some(AsmError::Fault(*fault)) {
             return Some(*text);
         }
     }

@@ -2,7 +2,8 @@
 
 use crate::comparison::compare;
 use elf_form::{
-    ElfFault, Load, begins_as_elf, header_of, program_header_at, section_header_at, symbol_entry_at,
+    ElfError, ElfFault, Load, begins_as_elf, header_of, program_header_at, section_header_at,
+    symbol_entry_at,
 };
 use elf_load::load;
 use std::alloc::Global;
@@ -76,7 +77,7 @@ const TEXT: &[u8; 12] = b"\x93\x08\xd0\x05\x13\x05\0\0\x73\0\0\0";
 /// the text; and how many symbols there are.
 type Loaded = ([u64; 3], Option<(u64, u64, bool)>, usize);
 
-fn load_file(alloc: Global) -> Result<Loaded, ElfFault> {
+fn load_file(alloc: Global) -> Result<Loaded, ElfError> {
     let image = load(alloc, FILE)?;
     let segment = match image.segments.as_slice() {
         [it] => Some((it.at, it.size, it.bytes.as_slice() == TEXT.as_slice())),
@@ -101,5 +102,5 @@ fn one_segment_is_loaded(rt: HostRuntime) {
 #[test]
 fn a_cut_file_is_short(rt: HostRuntime) {
     let fault = load(rt.alloc(), &FILE[..63]).err();
-    compare(&rt, fault, Some(ElfFault::Short(63)));
+    compare(&rt, fault, Some(ElfError::Fault(ElfFault::Short(63))));
 }

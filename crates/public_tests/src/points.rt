@@ -6,7 +6,7 @@ ghost use Rattle.pn_types.specs.Images.{IsImage};
 use crate::comparison::compare;
 use code_points::{objects, points, procedures};
 use pn_types::{Image, NoMemory, Point, Proc, Seq, SymKind, Symbol, Text};
-use rv_asm::{AsmFault, assemble};
+use rv_asm::{AsmError, assemble};
 use std::alloc::Global;
 
 /// The program with these symbols instead of its own.
@@ -37,7 +37,7 @@ fn point_of(row: &Row) -> Point {
 }
 
 /// Whether these are the points of the text's procedures, of which none is skipped.
-fn has_points(alloc: Global, text: &[u8], rows: &[Row]) -> Result<bool, AsmFault>
+fn has_points(alloc: Global, text: &[u8], rows: &[Row]) -> Result<bool, AsmError>
     requires { length text.now < 2 ^ 31 }
 {
     let image = assemble(alloc, text)?;
@@ -153,7 +153,7 @@ fn keeps_procedures(rt: HostRuntime) {
 }
 
 /// Whether the text's one object is named `o`.
-fn list_objects(alloc: Global) -> Result<bool, AsmFault> {
+fn list_objects(alloc: Global) -> Result<bool, AsmError> {
     let text = b".proc f\nret\n.end\n.data\n.object o 2\n.half -1\n";
     let image = assemble(alloc, text)?;
     let objects = objects(alloc, &image)?;

@@ -6,7 +6,7 @@ use crate::comparison::compare;
 use asm_file::elf_of_text;
 use elf_load::load;
 use elf_write::{loaded_can_be_written, write, written_is_read_again};
-use rv_asm::{AsmFault, assemble};
+use rv_asm::{AsmError, assemble};
 use std::alloc::Global;
 
 /// `li a7, 93`, `li a0, 0` and `ecall`.
@@ -14,7 +14,7 @@ const TEXT: &[u8] = b"\x93\x08\xd0\x05\x13\x05\0\0\x73\0\0\0";
 
 /// The file of an assembly text.
 #[tactic(auto, using(elf_write::proofs::Rooms::strings_room))]
-fn written(alloc: Global, text: &[u8]) -> Result<Vec<u8>, AsmFault>
+fn written(alloc: Global, text: &[u8]) -> Result<Vec<u8>, AsmError>
     requires { length text.now ≤ 1000 }
 {
     let image = assemble(alloc, text)?;
@@ -28,7 +28,7 @@ fn has_at(file: &[u8], at: usize, bytes: &[u8]) -> bool {
 
 /// The length of the file of three words, and whether it begins as it has to, and has the place of its section headers, the text, and
 /// zeros behind that.
-fn write_words(alloc: Global) -> Result<(usize, [bool; 4]), AsmFault> {
+fn write_words(alloc: Global) -> Result<(usize, [bool; 4]), AsmError> {
     let file = written(alloc, b"li a7, 93\nli a0, 0\necall\n")?;
     let parts = [
         has_at(&file, 0, b"\x7fELF\x02\x01\x01\0"),

@@ -102,7 +102,8 @@ pub fn quanta_of(alloc: Global, version: Version, bytes: &[u8]) -> Result<Vec<Qu
     ensures { MatchResult result
         (λ quanta. (entries_fault version (harts_of bytes.now) bytes.now (count_of bytes.now) (head_len version) ≡ None)
         × (quanta.items ≡ quanta_at version bytes.now (count_of bytes.now) (head_len version)))
-        (λ e. Refuses e (λ fault. entries_fault version (harts_of bytes.now) bytes.now (count_of bytes.now) (head_len version) ≡ Some fault)) }
+        (λ e. Refuses e (λ fault.
+        entries_fault version (harts_of bytes.now) bytes.now (count_of bytes.now) (head_len version) ≡ Some fault)) }
 {
     let harts = word(bytes, 8);
     let count = doubleword(bytes, 32);

@@ -33,7 +33,6 @@ elf_text (elf.TextTooLong n) = codes "text too long " ++ decimal n
 elf_text (elf.UsesScratch at) = codes "uses x31 at " ++ address at
 elf_text (elf.BadEntry at) = codes "bad entry " ++ address at
 elf_text elf.BadSymbols = codes "bad symbols"
-elf_text elf.NoMemory = codes "no memory"
 
 -- what is wrong with an assembly text
 abbrev pub asm_text : AsmFault → List ℕ
@@ -46,7 +45,6 @@ asm_text (asm.OutOfReach n) = codes "out of reach line " ++ decimal n
 asm_text asm.NoText = codes "no text"
 asm_text (asm.TextTooLong n) = codes "text too long " ++ decimal n
 asm_text (asm.DataTooLong n) = codes "data too long " ++ decimal n
-asm_text asm.NoMemory = codes "no memory"
 
 abbrev pub program_text : ProgramFault → List ℕ
 program_text (Elf fault) = elf_text fault

@@ -61,7 +61,6 @@ fn add_elf(alloc: Global, line: &mut Vec<u8>, fault: ElfFault) -> Result<(), NoM
         ElfFault::UsesScratch(at) => add_address(alloc, line, b"uses x31 at ", at),
         ElfFault::BadEntry(at) => add_address(alloc, line, b"bad entry ", at),
         ElfFault::BadSymbols => line.extend_from_slice(b"bad symbols"),
-        ElfFault::NoMemory => line.extend_from_slice(b"no memory"),
     }
 }
 
@@ -94,7 +93,6 @@ fn add_asm(alloc: Global, line: &mut Vec<u8>, fault: AsmFault) -> Result<(), NoM
         AsmFault::NoText => line.extend_from_slice(b"no text"),
         AsmFault::TextTooLong(len) => add_number(alloc, line, b"text too long ", len as u128),
         AsmFault::DataTooLong(len) => add_number(alloc, line, b"data too long ", len),
-        AsmFault::NoMemory => line.extend_from_slice(b"no memory"),
     }
 }
 

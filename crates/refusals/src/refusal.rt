@@ -1,4 +1,4 @@
-ghost use Rattle.std.specs.Prelude.{◌≡◌, ◌≢◌};
+ghost use Rattle.std.specs.Prelude.{◌≡◌};
 ghost use Rattle.refusals.specs.Logs.{log_fault_at};
 
 use crate::fault::Fault;
@@ -26,17 +26,15 @@ impl From<NoMemory> for Refusal {
     }
 }
 
-/// The refusal of bytes that are no log, or for want of memory.
+/// The refusal of bytes that are no log.
 pub fn bad_log(fault: LogFault) -> Refusal
-    ensures memory { fault ≡ LogFault.NoMemory → result ≡ Refusal.NoMemory }
-    ensures fault { fault ≢ LogFault.NoMemory → result ≡ Refusal.Fault (log_fault_at fault) }
+    ensures { result ≡ Refusal.Fault (log_fault_at fault) }
 {
     let (place, cause) = match fault {
         LogFault::BadHead => (0, LogCause::BadHead),
         LogFault::Short(place) => (place, LogCause::Short),
         LogFault::BadField(place) => (place, LogCause::BadField),
         LogFault::Trailing(place) => (place, LogCause::Trailing),
-        LogFault::NoMemory => return Refusal::NoMemory,
     };
     Refusal::Fault(Fault::BadLog(place, cause))
 }
