@@ -5,8 +5,9 @@
 
 The files are those of examples/ and, below FOLDER, the ELF files (*.elf) and assembly texts (*.s). Of each case bytes of one
 file are flipped or replaced, taken out, doubled or cut off at the end, and each command that reads such a file is run with it.
-The cases are numbered from FIRST (0 where left out), and one of a number is always the same. A run may end with a status from
-0 to 9, within 20 seconds, and after any but 0 and 7 the output is one line. PARADYN is crates/paradyn/out/paradyn where left
+The file is a program, a configuration, a log, directives or a report; in some cases it is the words that are random. The cases
+are numbered from FIRST (0 where left out), and one of a number is always the same. A run may end with a status that the README
+names, within 20 seconds, and after any but 0, 7 and 8 the output is one line. PARADYN is crates/paradyn/out/paradyn where left
 out."""
 
 import collections
@@ -25,6 +26,8 @@ FIRST = int(sys.argv[3]) if len(sys.argv) > 3 else 0
 PARADYN = sys.argv[4] if len(sys.argv) > 4 else str(TOP / "crates/paradyn/out/paradyn")
 SECONDS = 20
 LIMITS = ["--budget", "20000", "--width", "500"]
+STATUSES = {0, 2, 3, 4, 5, 6, 7, 8, 9, 11, 12, 13}
+COMMANDS = ["run", "live", "replay", "asm", "points", "plan", "stress", "relog", "blocks", "visi", "advise", "direct", "", "0"]
 # Bytes that end a range of some number, or a text.
 ENDS = bytes([0x00, 0x01, 0x7F, 0x80, 0xFF, 0x0A, 0x20, 0x22, 0x7B, 0x7D])
 
@@ -35,6 +38,10 @@ def read_all(folder, pattern):
 
 PROGRAMS = read_all(FOLDER, "*.elf") + read_all(FOLDER, "*.s") + read_all(TOP / "examples", "*.elf") + read_all(TOP / "examples", "*.s")
 CONFIGURATIONS = read_all(TOP / "examples", "*.conf")
+REPORTS = read_all(TOP / "examples", "*.report")
+DIRECTIVES = read_all(TOP / "examples", "*.directives") + [
+    b"prune CPUbound axis Code;\nfirst TooManySmallIOOps;\nthreshold ExcessiveSyncWaitingTime 300;\n",
+]
 PAIRS = [
     (path.read_bytes(), conf.read_bytes())
     for path in sorted((TOP / "examples").glob("*.elf"))
@@ -76,33 +83,80 @@ def first_log(folder):
     return log.read_bytes()
 
 
-def commands(draw, folder, log):
-    """The runs of a case: a mutated program, configuration or log under each command that reads it."""
-    program, conf, record = folder / "p", folder / "c", folder / "l"
-    kind = draw.randrange(4)
-    if kind == 0:
-        program.write_bytes(mutated(draw, draw.choice(PROGRAMS)))
-        conf.write_bytes(draw.choice([b"", *CONFIGURATIONS]))
-        return [
-            ["run", program, conf, "--harts", str(draw.randrange(1, 6)), "--seed", str(draw.randrange(3)), *LIMITS],
-            ["live", program, conf, "--workers", "2", *LIMITS],
-            ["points", program],
-            ["asm", program],
-            ["plan", program, conf, "cpu", "/Code"],
-        ]
-    if kind == 1:
-        content, text = draw.choice(PAIRS)
-        program.write_bytes(content)
-        conf.write_bytes(mutated(draw, text))
-        return [["run", program, conf, "--harts", "4", *LIMITS], ["live", program, conf, "--harts", "4", *LIMITS], ["plan", program, conf, "cpu", "/Code"]]
-    if kind == 2:
-        program.write_bytes((TOP / "examples/rounds.elf").read_bytes())
-        conf.write_bytes((TOP / "examples/rounds.conf").read_bytes())
-        record.write_bytes(mutated(draw, log))
-        return [["replay", program, conf, record], ["relog", record]]
-    words = [draw.choice(["run", "live", "replay", "asm", "points", "plan", "stress", "relog", "", "0"])]
-    words += [draw.choice(["1", "0", "-1", "200", "201", "4294967296", "--seed", "--seed=1", "--log", "--budget", "", "--"]) for _ in range(draw.randrange(5))]
+def with_program(draw, folder, log):
+    """The runs of a mutated program."""
+    program, conf, directives = folder / "p", folder / "c", folder / "d"
+    program.write_bytes(mutated(draw, draw.choice(PROGRAMS)))
+    conf.write_bytes(draw.choice([b"", *CONFIGURATIONS]))
+    directives.write_bytes(draw.choice([b"", *DIRECTIVES]))
+    order = ["--harts", str(draw.randrange(1, 6)), "--seed", str(draw.randrange(3))]
+    return [
+        ["run", program, conf, *order, *LIMITS],
+        ["visi", program, conf, *order, *LIMITS],
+        ["direct", program, conf, directives, *order, *LIMITS],
+        ["blocks", program, *order, "--budget", "20000"],
+        ["live", program, conf, "--workers", "2", *LIMITS],
+        ["points", program],
+        ["asm", program],
+        ["plan", program, conf, "cpu", "/Code"],
+    ]
+
+
+def with_configuration(draw, folder, log):
+    """The runs of a mutated configuration."""
+    program, conf, directives = folder / "p", folder / "c", folder / "d"
+    content, text = draw.choice(PAIRS)
+    program.write_bytes(content)
+    conf.write_bytes(mutated(draw, text))
+    directives.write_bytes(draw.choice([b"", *DIRECTIVES]))
+    order = ["--harts", "4", *LIMITS]
+    return [
+        ["run", program, conf, *order],
+        ["live", program, conf, *order],
+        ["visi", program, conf, *order],
+        ["direct", program, conf, directives, *order],
+        ["plan", program, conf, "cpu", "/Code"],
+    ]
+
+
+def with_log(draw, folder, log):
+    """The runs of a mutated log."""
+    record = folder / "l"
+    record.write_bytes(mutated(draw, log))
+    return [["replay", TOP / "examples/rounds.elf", TOP / "examples/rounds.conf", record], ["relog", record]]
+
+
+def with_directives(draw, folder, log):
+    """The run of mutated directives."""
+    program, conf, directives = folder / "p", folder / "c", folder / "d"
+    content, text = draw.choice(PAIRS)
+    program.write_bytes(content)
+    conf.write_bytes(text)
+    directives.write_bytes(mutated(draw, draw.choice(DIRECTIVES)))
+    return [["direct", program, conf, directives, "--harts", "4", *LIMITS]]
+
+
+def with_report(draw, folder, log):
+    """The run of a mutated report."""
+    report = folder / "r"
+    report.write_bytes(mutated(draw, draw.choice(REPORTS)))
+    return [["advise", report]]
+
+
+def with_words(draw, folder, log):
+    """The run of random words."""
+    words = [draw.choice(COMMANDS)]
+    words += [draw.choice(["1", "0", "-1", "200", "201", "4294967296", "--seed", "--seed=1", "--log", "--budget", "--views", "", "--"])
+              for _ in range(draw.randrange(5))]
     return [words]
+
+
+KINDS = [with_program, with_configuration, with_log, with_directives, with_report, with_words]
+
+
+def commands(draw, folder, log):
+    """The runs of a case: a mutated file under each command that reads it, or random words."""
+    return draw.choice(KINDS)(draw, folder, log)
 
 
 def fault_of(words):
@@ -111,7 +165,7 @@ def fault_of(words):
         ended = subprocess.run([PARADYN, *map(str, words)], capture_output=True, timeout=SECONDS, stdin=subprocess.DEVNULL)
     except subprocess.TimeoutExpired:
         return None, "no end"
-    if not 0 <= ended.returncode <= 9 or ended.returncode == 1:
+    if ended.returncode not in STATUSES:
         return ended.returncode, "a status that isn't named"
     if ended.stderr:
         return ended.returncode, "an error text"
