@@ -161,6 +161,11 @@ pub last_is : (s : SessionData) → s.closed ≡ true → reading_of (state_of s
 unfolding last_reading
 last_is s e = ap (λ (x : State). reading_of x true) (closed_state s e)
 
+-- the gauge counts the feed at last
+pub last_count : (i : Inputs) (quanta : List Quantum) → (last_reading i quanta).published ≡ min (length (feed_of i quanta)) (2 ^ 64 - 1)
+unfolding last_reading feed_of
+last_count i quanta = refl
+
 -- one that just began has none
 pub begun_feed : (s : SessionData) → s ≡ begun s.inputs → (state_of s).feed ≡ []
 unfolding work

@@ -1,8 +1,10 @@
 -- Lists of seats, and of the lists that views were given.
-use Rattle.std.proofs.Common.{◌≡◌, ℕ, zero, suc, ◌<◌, List, [], ◌∷◌, ◌++◌, length, refl, ◌∙◌, arith, map}
+use Rattle.std.proofs.Common.{◌≡◌, ℕ, zero, suc, ◌<◌, ◌≤◌, List, [], ◌∷◌, ◌++◌, length, refl, ap, ◌∙◌, arith, map}
 use Rattle.std.specs.Prelude.{slice_index_or, replicate}
 use Rattle.std.specs.List.{AllByRecursion}
 use Rattle.atomic_table.specs.Seated.{TableId}
+use Rattle.session_spec.specs.declared.data.Latest.{Latest}
+use Rattle.visi_run.specs.Texts.{first_count}
 use Rattle.visi_run.specs.declared.view.Seat.{Seat}
 use Rattle.visi_run.specs.Watching.{IsSameSeat, seat_lines, AreSeatsOf}
 
@@ -38,3 +40,8 @@ cells_same cell (x ∷ xs) (y ∷ ys) e h c = ((h 0 (omega arith) x).1 ∙ c.0, 
 pub all_same : {X : Type 0} (xs : X) (lists : List X) → AllByRecursion (λ x. x ≡ xs) lists → lists ≡ replicate (length lists) xs
 all_same xs [] h = refl
 all_same xs (x ∷ lists) h = λ k. h.0 k ∷ all_same xs lists h.1 k
+
+-- how many samples the first view was given, where all were given the same ones
+pub first_is : (xs : List Latest) (lists : List (List Latest)) → AllByRecursion (λ x. x ≡ xs) lists → 1 ≤ length lists → first_count lists ≡ length xs
+first_is xs [] h some = absurd (omega (arith, some))
+first_is xs (x ∷ lists) h some = ap (λ (l : List Latest). length l) h.0

@@ -15,7 +15,7 @@ ghost use Rattle.visi_run.specs.Watching.{seat_lines, AreSeatsOf};
 use crate::board::Board;
 use crate::outlet::Outlet;
 use crate::seats::{follow_all, pair, part};
-use crate::text::visi_text;
+use crate::text::{count_first, visi_text};
 use crate::view::Seat;
 use outside::Gate;
 use pn_types::{MAX_HARTS, MAX_QUANTUM, NoMemory};
@@ -194,12 +194,11 @@ fn view_on<R: Threads + Wait + Sync, G: Gate + Sync>(
     let streamed = stream(rt, alloc, course, session, harts, gate)?;
     streamed.session.laws();
     let parts = streamed.session.parts()?;
-    visi_text(
-        alloc,
-        parts.shown.as_slice(),
-        &streamed.lists,
-        streamed.last.published,
-    )
+    if streamed.last.published != count_first(&streamed.lists) as u64 {
+        // The gauge counted what each view was given.
+        unreachable!();
+    }
+    visi_text(alloc, parts.shown.as_slice(), &streamed.lists)
 }
 
 /// Runs a program with its instruments, with quanta in the order of a seed as [`record_run`](whole_run::record_run) does, while view

@@ -96,22 +96,27 @@ fn add_views(
     Ok(())
 }
 
+/// How many samples the first view was given.
+pub fn count_first(lists: &[Vec<Latest>]) -> usize
+    ensures { result ≡ first_count (map (λ v. v.items) lists.now) }
+{
+    match lists.first() {
+        Some(list) => list.len(),
+        None => 0,
+    }
+}
+
 // The numbers of the views and of the samples.
-fn add_counts(
-    alloc: Global,
-    out: &mut Vec<u8>,
-    lists: &[Vec<Latest>],
-    samples: u64,
-) -> Result<(), NoMemory>
-    requires { samples ≡ first_count (map (λ v. v.items) lists.now) }
+fn add_counts(alloc: Global, out: &mut Vec<u8>, lists: &[Vec<Latest>]) -> Result<(), NoMemory>
     ensures { OnOk result (out.new.items ≡ out.old.items ++ views_line (map (λ v. v.items) lists.now)) }
 {
     let views = lists.len();
+    let samples = count_first(lists);
     let line = format!(in alloc; "views {views} samples {samples}\n")?;
     out.extend_from_slice(line.as_bytes())
 }
 
-/// The text of what each view was given, which is so many samples, where this is shown.
+/// The text of what each view was given, where this is shown.
 ///
 /// # Errors
 ///
@@ -120,14 +125,12 @@ pub fn visi_text(
     alloc: Global,
     shown: &[ShownPart],
     lists: &[Vec<Latest>],
-    samples: u64,
 ) -> Result<Vec<u8>, NoMemory>
-    requires { samples ≡ first_count (map (λ v. v.items) lists.now) }
     ensures { IfOk result (λ text. text.items ≡ visi_text shown.now (map (λ v. v.items) lists.now)) }
 {
     let mut out = Vec::new(alloc);
     out.extend_from_slice(b"paradyn visi 1\n")?;
-    add_counts(alloc, &mut out, lists, samples)?;
+    add_counts(alloc, &mut out, lists)?;
     add_views(alloc, &mut out, shown, lists)?;
     Ok(out)
 }

@@ -2,8 +2,11 @@ use Rattle.std.proofs.Common.{◌≡◌, ◌∙◌, List, length, map, ap, subst
 use Rattle.std.proofs.lemmas.List.{length-map}
 use Rattle.std.specs.List.{AllByRecursion}
 use Rattle.session_spec.specs.declared.data.Latest.{Latest}
+use Rattle.atomic_table.specs.Seated.{TableId}
+use Rattle.visi_stream.specs.Gauges.{AreOf, Dial}
 use Rattle.visi_stream.specs.Streams.{Watch}
 use Rattle.visi_stream.proofs.Desks.{same_length}
+use Rattle.whole_run.proofs.Ordered.{seeded_by}
 use Rattle.visi_run.specs.declared.view.Seat.{Seat}
 use Rattle.visi_run.specs.Steps.{HasRun}
 use Rattle.visi_run.specs.Watching.{AreSeatsOf, seat_lines}
@@ -11,20 +14,31 @@ use Rattle.visi_run.proofs.run.stream.Goals as goal
 
 pub join-ran-requires-after_bounds : goal.join-ran-requires-after_bounds
 join-ran-requires-after_bounds g c κs within =
-    let d = c.in_ok-dial.ensures in
+    let d = c.in_ok-gauge.ensures in
     let o = c.new-outlet.ensures in
-    ((c.in_ok-rounds.ensures.at, o.same.1 ∙ d.writer.0, o.told), (c.in_ok-seats.ensures.cell c.in_ok-dial.dial.cell d.fresh.0, record { shared = c.type_bounds.sync-R.shared }))
+    let cell = ap (λ (g : Dial). g.cell) c.in_ok-board.ensures.gauge in
+    ((c.in_ok-rounds.ensures.at, o.same.1 ∙ (d.writer.0 ∙ sym cell), o.told), (c.in_ok-seats.ensures.cell c.in_ok-board.board.gauge.cell (subst (λ (t : TableId). AreOf t c.in_ok-gauge.readers.items) (sym cell) d.fresh.0), (record { shared = c.type_bounds.sync-R.shared }, record { shared = c.type_bounds.sync-G.shared })))
 
-pub close-requires-clause-readers : goal.close-requires-clause-readers
-close-requires-clause-readers g c =
-    let second : (seat_lines c.in_ok-seats-2.field-0.items ≡ seat_lines c.in_ok-seats.seats.items) × AreSeatsOf c.in_ok-dial.dial.cell c.in_ok-seats-2.field-0.items = rw c.in_ok-seats-2.was at c.join-ran.ensures.second in
+pub close-last-requires-clause-readers : goal.close-last-requires-clause-readers
+close-last-requires-clause-readers g c =
+    let second : (seat_lines c.in_ok-seats-2.field-0.items ≡ seat_lines c.in_ok-seats.seats.items) × AreSeatsOf c.in_ok-board.board.gauge.cell c.in_ok-seats-2.field-0.items = rw c.in_ok-seats-2.was at c.join-ran.ensures.second in
     let line = λ (s : Seat). s.view.line in
     let views = c.in_ok-publisher.views.items in (
       c.in_ok-views.ensures.count ∙ same_length line line _ _ second.0 ∙ same_length line (λ (w : Watch). w.line) _ _ c.in_ok-seats.ensures.lines
           ∙ (sym (length-map views (λ (w : Watch). w.line)) ∙ ap length c.in_ok-publisher.ensures.lines ∙ c.in_ok-publisher.ensures.count)
-          ∙ sym c.in_ok-dial.ensures.readers.0,
-      c.in_ok-views.ensures.cell c.in_ok-dial.dial.cell second.1,
+          ∙ (sym c.in_ok-gauge.ensures.readers.0 ∙ ap (λ (g : Dial). g.readers) (sym c.in_ok-board.ensures.gauge)),
+      c.in_ok-views.ensures.cell c.in_ok-board.board.gauge.cell second.1,
     )
+
+pub returns-clause-seeded : goal.returns-clause-seeded
+returns-clause-seeded g c =
+    let first : HasRun c.args.session.inputs c.in_ok-rounds.rounds.seed c.in_ok-rounds.rounds.turns c.new-outlet.result c.in_ok-session.session c.in_ok-session.outlet = rw c.in_ok-session.was at c.join-ran.ensures.first in
+    seeded_by _ _ _ _ _ _ c.in_ok-session.session.quanta (λ k. c.args.session.inputs) c.in_ok-rounds.ensures.same.0 c.in_ok-rounds.ensures.same.1 first.seeded
+
+pub returns-clause-last : goal.returns-clause-last
+returns-clause-last g c =
+    let first : HasRun c.args.session.inputs c.in_ok-rounds.rounds.seed c.in_ok-rounds.rounds.turns c.new-outlet.result c.in_ok-session.session c.in_ok-session.outlet = rw c.in_ok-session.was at c.join-ran.ensures.first in
+    c.close-last.ensures.last ∙ first.last
 
 pub returns-clause-feed : goal.returns-clause-feed
 returns-clause-feed g c =

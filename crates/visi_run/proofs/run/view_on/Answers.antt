@@ -1,7 +1,7 @@
-use Rattle.std.proofs.Common.{◌≡◌, ◌∙◌, map, ap, subst}
+use Rattle.std.proofs.Common.{◌≡◌, ◌∙◌, ◌-◌, ◌<◌, ◌^◌, length, map, sym, ap, subst, arith}
 use Rattle.std.proofs.lemmas.List.{length-map}
 use Rattle.std.proofs.lemmas.Result.{IfOk-weaker}
-use Rattle.std.specs.Prelude.{replicate}
+use Rattle.std.specs.Prelude.{min, replicate}
 use Rattle.report.specs.declared.parts.ReportParts.{ReportParts}
 use Rattle.session_spec.specs.Inputs.{Inputs}
 use Rattle.session_spec.specs.Work.{closed, work}
@@ -10,12 +10,27 @@ use Rattle.session_laws.specs.Feed.{IsFeed}
 use Rattle.session.specs.Parts.{parts_of}
 use Rattle.session.specs.Sessions.{state_of}
 use Rattle.visi_run.specs.Feed.{feed_of}
-use Rattle.visi_run.specs.Texts.{visi_text}
+use Rattle.visi_run.specs.Texts.{first_count, visi_text}
 use Rattle.visi_run.specs.Viewed.{shown_of}
-use Rattle.visi_run.proofs.Feeds.{closed_state}
+use Rattle.visi_stream.specs.declared.dial.Reading.{Reading}
+use Rattle.visi_run.proofs.Feeds.{closed_state, last_count}
 use Rattle.visi_run.proofs.Lines.{lines_all}
-use Rattle.visi_run.proofs.SeatLists.{all_same}
+use Rattle.visi_run.proofs.SeatLists.{all_same, first_is}
 use Rattle.visi_run.proofs.run.view_on.Goals as goal
+
+pub unreachable-requires : goal.unreachable-requires
+unreachable-requires g c =
+    let e = c.in_ok-streamed.ensures in
+    let feed = feed_of c.args.session.inputs c.in_ok-streamed.streamed.session.quanta in
+    let lists = map (λ v. v.items) c.in_ok-streamed.streamed.lists.items in
+    let some = c.requires.views.0 in
+    let many = e.count in
+    let first : first_count lists ≡ length feed = first_is feed lists e.feed (omega (arith, length-map c.in_ok-streamed.streamed.lists.items (λ v. v.items))) in
+    let given : c.count_first.result ≡ length feed = c.count_first.ensures ∙ (ap (λ l. first_count (map (λ v. v.items) l)) c.deref.ensures.value ∙ first) in
+    let told = ap (λ (r : Reading). r.published) e.last ∙ last_count c.args.session.inputs c.in_ok-streamed.streamed.session.quanta in
+    let few : length feed < 2 ^ 64 = subst (λ n. n < 2 ^ 64) given c.count_first.type_inv in
+    let whole : min (length feed) (2 ^ 64 - 1) ≡ length feed = grind arith in
+    c.if-streamed-count_first.true (told ∙ (whole ∙ sym given))
 
 pub returns : goal.returns
 returns g c =
@@ -35,6 +50,6 @@ returns g c =
       quanta = s.quanta;
       seeded = e.seeded;
       lines = lines_all i s.quanta (subst IsFeed state c.laws.ensures.feed) recorded;
-      text = are ∙ (ap (λ l. visi_text c.as_slice.result.now (map (λ v. v.items) l)) c.deref.ensures.value ∙ (λ k. visi_text (shown k) (given k)));
+      text = are ∙ (ap (λ l. visi_text c.as_slice.result.now (map (λ v. v.items) l)) c.deref-2.ensures.value ∙ (λ k. visi_text (shown k) (given k)));
     })
     c.visi_text.ensures

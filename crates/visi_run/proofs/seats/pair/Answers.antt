@@ -21,7 +21,7 @@ loop-view-preserved c =
           subst (AreSeatsOf cell) (sym p.items) (each_append (λ (s : Seat). s.reader.cell ≡ cell) c.loop-view.seats.items (s ∷ []) (i.seats cell h) (each_last (λ (r : Reader). r.cell ≡ cell) c.pop.new.self.items c.in-Some-pop.reader all, tt));
       left = λ cell h. each_front (λ (r : Reader). r.cell ≡ cell) c.pop.new.self.items (c.in-Some-pop.reader ∷ []) (subst (AreOf cell) popped (i.left cell h));
       readers = let n = i.readers in omega (arith, length-append c.loop-view.yielded (c.in-Some.view ∷ []), length-append c.pop.new.self.items (c.in-Some-pop.reader ∷ []));
-      parkers = let n = i.parkers in let l = ap length c.in-Some-pop-2.ensures.items in omega (arith, length-append c.loop-view.yielded (c.in-Some.view ∷ []), length-append c.pop-2.new.self.items (c.in-Some-pop-2.parker ∷ []));
+      parkers = let n = i.parkers in let l = ap length c.in-Some-pop-2.ensures.items in omega (arith, length-append c.loop-view.yielded (c.in-Some.view ∷ []), length-append c.pop-in-loop-view.new.self.items (c.in-Some-pop-2.parker ∷ []));
       count = let n = i.count in let l = p.len in omega (arith, length-append c.loop-view.yielded (c.in-Some.view ∷ []));
       room = let n = i.room in let l = p.capacity in omega arith;
     }
