@@ -1,9 +1,9 @@
--- Where a call stops.
-use Rattle.std.specs.Prelude.{◌≡◌, Result, Err}
+-- Why a call was refused.
 use Rattle.directives.specs.declared.fault.DirectiveFault.{DirectiveFault}
-use Rattle.directives.specs.declared.fault.DirectiveFault.TheVariants.{NoMemory, At}
+use Rattle.directives.specs.declared.fault.DirectiveError.{DirectiveError}
+use Rattle.directives.specs.declared.fault.DirectiveError.TheVariants as error
 
--- it stops where reading stops, unless memory is wanting
-abbrev pub Stops : {A : Type 0} → DirectiveFault → Result A DirectiveFault → Type 0
-Stops NoMemory read = Unit {0}
-Stops (At line col kind) read = read ≡ Err (At line col kind)
+-- why a call was refused; want of memory is free
+abbrev pub Refuses : DirectiveError → (DirectiveFault → Type 0) → Type 0
+Refuses (error.Fault fault) why = why fault
+Refuses error.NoMemory why = Unit {0}

@@ -9,7 +9,6 @@ use Rattle.directives.specs.declared.directive.Directive.{Directive}
 use Rattle.directives.specs.declared.fault.DirectiveKind.{DirectiveKind}
 use Rattle.directives.specs.declared.fault.DirectiveKind.TheVariants.{BadByte, OpenString, BigNumber, Unexpected}
 use Rattle.directives.specs.declared.fault.DirectiveFault.{DirectiveFault}
-use Rattle.directives.specs.declared.fault.DirectiveFault.TheVariants.{NoMemory, At}
 use Rattle.directives.specs.Spelling.{directive_words}
 
 -- the words are those of the directives
@@ -48,10 +47,9 @@ pub data IsFault (text : List ℕ) : ℕ → ℕ → DirectiveKind → Type 0 wh
   AtLast : (last : Place) → (tokens_of text).ending ≡ AtEnd last → Begin (placed_words text) →
       ((directives : List Directive) → AreOf (placed_words text) directives → ⊥) → IsFault text last.line last.col Unexpected
 
--- the answer is that fault, unless memory is wanting
+-- the text has that fault
 abbrev pub Faults : List ℕ → DirectiveFault → Type 0
-Faults text NoMemory = Unit {0}
-Faults text (At line col kind) = IsFault text line col kind
+Faults text fault = IsFault text fault.line fault.col fault.kind
 
 -- ---- a text has one meaning
 
