@@ -8,7 +8,7 @@ ghost use Rattle.mdl_check.specs.Checking.{prefixes_of};
 ghost use Rattle.directives.specs.Hypotheses.{stands};
 ghost use Rattle.directives.specs.Acts.{name_of, is_astray, kind_of, acted, applied};
 ghost use Rattle.directives.specs.Applying.{IsAccepted};
-ghost use Rattle.directives.specs.Gives.{Refuses};
+ghost use Rattle.directives.specs.Meaning.{Refuses};
 
 use crate::directive::{Directive, DirectiveAct};
 use crate::expansion::expanded;

@@ -4,8 +4,7 @@ ghost use Rattle.std.specs.Prelude.{◌≡◌, ◌≤◌, length, codes, IfOk, I
 ghost use Rattle.mdl_parse.specs.Shapes.{is_keyword};
 ghost use Rattle.mdl_parse.specs.Steps.{option_at};
 ghost use Rattle.directives.specs.Ahead.{Gives};
-ghost use Rattle.directives.specs.Gives.{Refuses};
-ghost use Rattle.directives.specs.Meaning.{IsDirectives, Faults};
+ghost use Rattle.directives.specs.Meaning.{IsDirectives, Faults, Refuses};
 ghost use Rattle.directives.specs.Reading.{axis_at, prune_at, threshold_at, first_at, directive_at, directives_at};
 
 use crate::directive::{Directive, DirectiveAct};
