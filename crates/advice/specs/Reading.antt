@@ -1,12 +1,14 @@
 -- The verdicts of a report, or the place of its first fault.
-use Rattle.std.specs.Prelude.{ℕ, zero, suc, ◌+◌, ◌≡◌, ◌≢◌, if◌then◌else◌, Option, Result, Ok, Err, MatchResult, List, [], ◌∷◌, ◌++◌, length}
+use Rattle.std.specs.Prelude.{ℕ, zero, suc, ◌+◌, ◌≡◌, if◌then◌else◌, Option, Result, Ok, Err, MatchResult, List, [], ◌∷◌, ◌++◌, length}
 use Rattle.std.specs.Global.{Vec}
 use Rattle.std.specs.Option.{option_and_then, option_map, option_map_or, option_to_list}
 use Rattle.advice.specs.Lines.{after, first_line, may_end, told_in}
 use Rattle.advice.specs.declared.due.Due.{Due}
 use Rattle.advice.specs.declared.due.Due.TheVariants.{Title}
 use Rattle.advice.specs.declared.fault.ReportFault.{ReportFault}
-use Rattle.advice.specs.declared.fault.ReportFault.TheVariants.{BadReport, NoMemory}
+use Rattle.advice.specs.declared.fault.ReportFault.TheVariants.{BadReport}
+use Rattle.advice.specs.declared.fault.ReportError.{ReportError}
+use Rattle.advice.specs.declared.fault.ReportError.TheVariants as error
 use Rattle.advice.specs.declared.verdict.Verdict.{Verdict}
 
 -- these verdicts, and then those of a rest
@@ -39,6 +41,11 @@ verdicts_from due at zero (byte ∷ bytes) =
 abbrev pub verdicts_of : List ℕ → Result (List Verdict) ReportFault
 verdicts_of report = verdicts_from Title 0 0 report
 
+-- why a call was refused; want of memory is free
+abbrev pub Refuses : ReportError → (ReportFault → Type 0) → Type 0
+Refuses (error.Fault fault) why = why fault
+Refuses error.NoMemory why = Unit {0}
+
 -- the answer is what the bytes tell, unless memory is wanting
-abbrev pub Tells : Result (Vec Verdict) ReportFault → Result (List Verdict) ReportFault → Type 0
-Tells result told = MatchResult result (λ vs. told ≡ Ok vs.items) (λ e. e ≢ NoMemory → told ≡ Err e)
+abbrev pub Tells : Result (Vec Verdict) ReportError → Result (List Verdict) ReportFault → Type 0
+Tells result told = MatchResult result (λ vs. told ≡ Ok vs.items) (λ e. Refuses e (λ fault. told ≡ Err fault))

@@ -5,28 +5,46 @@ use std::alloc::{AllocError, AllocFailed};
 pub enum ReportFault {
     /// The line that begins at this place, in bytes from the front, isn't as it must be; or the report ends there too early.
     BadReport(u64),
-    /// Want of memory.
-    NoMemory,
 }
 
-impl From<AllocError> for ReportFault {
+/// Why a report's verdicts were not read.
+#[derive(Clone, Copy, Debug, PartialEq, Eq, Drop)]
+pub enum ReportError {
+    /// Memory was wanting.
+    NoMemory,
+    /// The first fault of the bytes.
+    Fault(ReportFault),
+}
+
+impl From<ReportFault> for ReportError {
     ghost use Rattle.std.specs.Prelude.{◌≡◌};
-    ghost use Rattle.advice.specs.declared.fault.ReportFault.TheVariants.{NoMemory};
+    ghost use Rattle.advice.specs.declared.fault.ReportError.TheVariants.{Fault};
 
-    ghost from_gives = { λ _ e. e ≡ NoMemory };
+    ghost from_gives = { λ fault e. e ≡ Fault fault };
 
-    fn from(_error: AllocError) -> ReportFault {
-        ReportFault::NoMemory
+    fn from(fault: ReportFault) -> ReportError {
+        ReportError::Fault(fault)
     }
 }
 
-impl<T: Drop> From<AllocFailed<T>> for ReportFault {
+impl From<AllocError> for ReportError {
     ghost use Rattle.std.specs.Prelude.{◌≡◌};
-    ghost use Rattle.advice.specs.declared.fault.ReportFault.TheVariants.{NoMemory};
+    ghost use Rattle.advice.specs.declared.fault.ReportError.TheVariants.{NoMemory};
 
     ghost from_gives = { λ _ e. e ≡ NoMemory };
 
-    fn from(_error: AllocFailed<T>) -> ReportFault {
-        ReportFault::NoMemory
+    fn from(_error: AllocError) -> ReportError {
+        ReportError::NoMemory
+    }
+}
+
+impl<T: Drop> From<AllocFailed<T>> for ReportError {
+    ghost use Rattle.std.specs.Prelude.{◌≡◌};
+    ghost use Rattle.advice.specs.declared.fault.ReportError.TheVariants.{NoMemory};
+
+    ghost from_gives = { λ _ e. e ≡ NoMemory };
+
+    fn from(_error: AllocFailed<T>) -> ReportError {
+        ReportError::NoMemory
     }
 }

@@ -12,7 +12,7 @@ mod verdict;
 mod words;
 
 pub use directive_lines::advise;
-pub use fault::ReportFault;
+pub use fault::{ReportError, ReportFault};
 pub use hypothesis::MAX_THRESHOLD;
 pub use laws::{
     advice_is_read, answers_stay, canonical_is_focus, report_is_advised, report_is_read,

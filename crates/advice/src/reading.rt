@@ -7,7 +7,7 @@ ghost use Rattle.advice.specs.Advice.{HasTicks};
 ghost use Rattle.advice.specs.Reading.{verdicts_of, Tells};
 
 use crate::due::Due;
-use crate::fault::ReportFault;
+use crate::fault::{ReportError, ReportFault};
 use crate::verdict::Verdict;
 use pn_types::NoMemory;
 use std::alloc::Global;
@@ -24,7 +24,7 @@ fn add_told(verdicts: &mut Vec<Verdict>, told: Option<Verdict>) -> Result<(), No
 
 /// The verdicts on the nodes of a report's search, in their order; none where it has no search. The fault is at the first
 /// byte of the first line that isn't as said, or at the end where a line is missing.
-pub fn read_verdicts(alloc: Global, report: &[u8]) -> Result<Vec<Verdict>, ReportFault>
+pub fn read_verdicts(alloc: Global, report: &[u8]) -> Result<Vec<Verdict>, ReportError>
     ensures told { Tells result (verdicts_of report.now) }
     ensures ticks { IfOk result (λ verdicts. All HasTicks verdicts.items) }
 {
@@ -33,10 +33,10 @@ pub fn read_verdicts(alloc: Global, report: &[u8]) -> Result<Vec<Verdict>, Repor
     let mut at = 0;
     'lines: while at < report.len() {
         let Some(line) = due.first_line(&report[at..]) else {
-            return Err(ReportFault::BadReport(at as u64));
+            return Err(ReportError::Fault(ReportFault::BadReport(at as u64)));
         };
         let Some(next) = due.after(line) else {
-            return Err(ReportFault::BadReport(at as u64));
+            return Err(ReportError::Fault(ReportFault::BadReport(at as u64)));
         };
         add_told(&mut verdicts, due.told_in(alloc, line)?)?;
         due = next;
@@ -45,6 +45,6 @@ pub fn read_verdicts(alloc: Global, report: &[u8]) -> Result<Vec<Verdict>, Repor
     if due.may_end() {
         Ok(verdicts)
     } else {
-        Err(ReportFault::BadReport(at as u64))
+        Err(ReportError::Fault(ReportFault::BadReport(at as u64)))
     }
 }

@@ -8,7 +8,6 @@ use Rattle.advice.specs.declared.fault.ReportFault.TheVariants as report_fault
 use Rattle.advice.specs.declared.verdict.Verdict.{Verdict}
 use Rattle.directives.specs.Acts.{applied}
 use Rattle.directives.specs.declared.fault.DirectiveFault.{DirectiveFault}
-use Rattle.directives.specs.declared.fault.DirectiveFault.TheVariants as directive_fault
 use Rattle.mdl_ast.specs.declared.items.Item.{Item}
 use Rattle.command_words.specs.Requests.{Request, RunRequest, LiveRequest, ReplayRequest, PlanRequest, StressRequest, VisiRequest, DirectRequest, run, live, replay, make_plan, assemble, list_points, relog, stress, count_blocks, visi, advise, direct, request_of}
 use Rattle.elf_form.specs.Meaning.{meaning_of}
@@ -156,15 +155,13 @@ replay_spared log image i name e = spared (replayed (bad_pick i) (misfit_of i lo
 advice_spared : (r : Result (List Verdict) ReportFault) → Spares (advised r)
 advice_spared (Ok verdicts) = tt
 advice_spared (Err (report_fault.BadReport place)) = tt
-advice_spared (Err report_fault.NoMemory) = tt
 
 directives_spared : (text : List ℕ) (name : List ℕ) → MeansDirectives text (Err (FileFault name)) → ⊥
 directives_spared text name (line, col, kind, wrong, e) = cc
 
 directed_spared : (r : Result (List Item) DirectiveFault) → Spares (or_bad_directives r)
 directed_spared (Ok items) = tt
-directed_spared (Err (directive_fault.At line col kind)) = tt
-directed_spared (Err directive_fault.NoMemory) = tt
+directed_spared (Err fault) = tt
 
 conf_with_spared : (r : Result (List Item) Fault) → Spares r → Spares (conf_with r)
 conf_with_spared (Ok items) h = tt

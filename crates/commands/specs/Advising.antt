@@ -12,11 +12,10 @@ use Rattle.commands.specs.Output.{output}
 use Rattle.commands.specs.Sights.{Sight, IsContent}
 use Rattle.commands.specs.declared.texts.Texts.{Texts}
 
--- what the verdicts of a report advise, or its first fault; no bytes mean want of memory
+-- what the verdicts of a report advise, or its first fault
 abbrev pub advised : Result (List Verdict) ReportFault → Result Texts Fault
 advised (Ok verdicts) = Ok (output (advice verdicts))
 advised (Err (fault.BadReport place)) = Err (BadReport place)
-advised (Err fault.NoMemory) = Err (BadReport 0)
 
 -- what a report's file has, at most 33,554,432 bytes
 abbrev pub IsReportContent : Sight → List ℕ → Step (List ℕ)

@@ -6,7 +6,6 @@ use Rattle.directives.specs.Acts.{applied}
 use Rattle.directives.specs.Meaning.{IsDirectives, IsFault}
 use Rattle.directives.specs.declared.directive.Directive.{Directive}
 use Rattle.directives.specs.declared.fault.DirectiveFault.{DirectiveFault}
-use Rattle.directives.specs.declared.fault.DirectiveFault.TheVariants as fault
 use Rattle.directives.specs.declared.fault.DirectiveKind.{DirectiveKind}
 use Rattle.mdl_ast.specs.declared.items.Conf.{Conf}
 use Rattle.mdl_ast.specs.declared.items.Item.{Item}
@@ -47,10 +46,9 @@ IsDirectivesContent sees = IsContent sees 1048576 (BadDirectives (fault_at 0 0 T
 abbrev pub AreDirectives : Sight → List ℕ → Step (List Directive)
 AreDirectives sees name = Then (IsDirectivesContent sees name) MeansDirectives
 
--- what is refused; no line means want of memory
+-- what is refused
 abbrev pub directive_fault : DirectiveFault → Fault
-directive_fault (fault.At line col kind) = BadDirectives (fault_at line col (directive_kind kind))
-directive_fault fault.NoMemory = BadDirectives (fault_at 0 0 TooLong)
+directive_fault fault = BadDirectives (fault_at fault.line fault.col (directive_kind fault.kind))
 
 abbrev pub or_bad_directives : Result (List Item) DirectiveFault → Result (List Item) Fault
 or_bad_directives (Ok items) = Ok items

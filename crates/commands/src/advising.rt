@@ -8,7 +8,7 @@ ghost use Rattle.refusals.specs.Refusals.{Comes};
 
 use crate::files::read_file;
 use crate::texts::Texts;
-use advice::{ReportFault, advise, read_verdicts};
+use advice::{ReportError, ReportFault, advise, read_verdicts};
 use outside::Files;
 use refusals::{Fault, Refusal};
 use std::alloc::Global;
@@ -25,8 +25,10 @@ fn advised(alloc: Global, report: &[u8]) -> Result<Texts, Refusal>
             let text = advise(alloc, &verdicts)?;
             Ok(Texts::output(alloc, text))
         }
-        Err(ReportFault::BadReport(place)) => Err(Refusal::Fault(Fault::BadReport(place))),
-        Err(ReportFault::NoMemory) => Err(Refusal::NoMemory),
+        Err(ReportError::Fault(ReportFault::BadReport(place))) => {
+            Err(Refusal::Fault(Fault::BadReport(place)))
+        }
+        Err(ReportError::NoMemory) => Err(Refusal::NoMemory),
     }
 }
 

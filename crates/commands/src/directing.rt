@@ -24,7 +24,7 @@ use crate::running::bad_pick;
 use crate::texts::Texts;
 use code_points::procedures;
 use command_words::DirectRequest;
-use directives::{Directive, DirectiveFault, apply, read_directives};
+use directives::{Directive, DirectiveError, apply, read_directives};
 use mdl_ast::Conf;
 use mdl_shipped::shipped;
 use outside::Files;
@@ -53,10 +53,10 @@ fn directives_in(alloc: Global, text: &[u8]) -> Result<Seq<Directive>, Refusal>
 {
     match read_directives(alloc, text) {
         Ok(directives) => Ok(directives),
-        Err(DirectiveFault::NoMemory) => Err(Refusal::NoMemory),
-        Err(DirectiveFault::At { line, col, kind }) => {
-            Err(bad_directives(line, col, directive_kind(kind)))
+        Err(DirectiveError::Fault(fault)) => {
+            Err(bad_directives(fault.line, fault.col, directive_kind(fault.kind)))
         }
+        Err(DirectiveError::NoMemory) => Err(Refusal::NoMemory),
     }
 }
 
@@ -95,10 +95,10 @@ fn directed(
     let shipped = shipped(alloc)?;
     match apply(alloc, conf, &shipped, tree, directives) {
         Ok(made) => Ok(made),
-        Err(DirectiveFault::NoMemory) => Err(Refusal::NoMemory),
-        Err(DirectiveFault::At { line, col, kind }) => {
-            Err(bad_directives(line, col, directive_kind(kind)))
+        Err(DirectiveError::Fault(fault)) => {
+            Err(bad_directives(fault.line, fault.col, directive_kind(fault.kind)))
         }
+        Err(DirectiveError::NoMemory) => Err(Refusal::NoMemory),
     }
 }
 

@@ -5,7 +5,6 @@ use Rattle.mdl_ast.specs.declared.items.Item.{Item}
 use Rattle.directives.specs.declared.directive.Directive.{Directive}
 use Rattle.directives.specs.declared.fault.DirectiveKind.{DirectiveKind}
 use Rattle.directives.specs.declared.fault.DirectiveFault.{DirectiveFault}
-use Rattle.directives.specs.declared.fault.DirectiveFault.TheVariants.{At}
 use Rattle.directives.specs.Acts.{kind_of, acted, go_on, directed}
 
 abbrev Answer : Type 0
@@ -20,7 +19,7 @@ directed_step whole ds i d items e h k =
     e ∙ ap (λ (l : List Directive). directed l items) behind
 
 pub directed_faulty : (whole : Answer) (ds : List Directive) (i : ℕ) (d : Directive) (items : List Item) (kind : DirectiveKind) → whole ≡ directed (drop i ds) items → i < length ds → d ≡ get_or ds i d →
-    kind_of d.act items ≡ Some kind → whole ≡ Err (At d.line 0 kind)
+    kind_of d.act items ≡ Some kind → whole ≡ Err (record { line = d.line; col = 0; kind = kind })
 directed_faulty whole ds i d items kind e h k n = directed_step whole ds i d items e h k ∙ ap (go_on (directed (drop (i + 1) ds)) d items) n
 
 pub directed_more : (whole : Answer) (ds : List Directive) (i : ℕ) (d : Directive) (items next : List Item) → whole ≡ directed (drop i ds) items → i < length ds → d ≡ get_or ds i d →

@@ -11,7 +11,6 @@ use Rattle.directives.specs.declared.directive.DirectiveAct.TheVariants.{Prune, 
 use Rattle.directives.specs.declared.fault.DirectiveKind.{DirectiveKind}
 use Rattle.directives.specs.declared.fault.DirectiveKind.TheVariants.{UnknownName, WrongKind}
 use Rattle.directives.specs.declared.fault.DirectiveFault.{DirectiveFault}
-use Rattle.directives.specs.declared.fault.DirectiveFault.TheVariants.{At}
 
 -- ---- the shipped hypotheses
 
@@ -105,7 +104,7 @@ acted (First name) items = with_first name items
 -- those behind one that has no fault, or its fault
 abbrev pub go_on : (List Item → Result (List Item) DirectiveFault) → Directive → List Item → Option DirectiveKind → Result (List Item) DirectiveFault
 go_on more d items None = more (acted d.act items)
-go_on more d items (Some kind) = Err (At d.line 0 kind)
+go_on more d items (Some kind) = Err (record { line = d.line; col = 0; kind = kind })
 
 unfoldable pub directed : List Directive → List Item → Result (List Item) DirectiveFault
 directed [] items = Ok items

@@ -7,7 +7,6 @@ use Rattle.mdl_parse.specs.Lexing.{tokens_ahead, HasEnded}
 use Rattle.mdl_parse.specs.Steps.{Read, behind, taken}
 use Rattle.mdl_parse.specs.WordsInText.{PlacedWord, placed_word, placed_words}
 use Rattle.directives.specs.declared.fault.DirectiveFault.{DirectiveFault}
-use Rattle.directives.specs.declared.fault.DirectiveFault.TheVariants.{At}
 use Rattle.directives.specs.declared.fault.DirectiveKind.TheVariants as kind
 use Rattle.directives.specs.declared.stop.Stop.{Stop}
 use Rattle.directives.specs.declared.stop.Stop.TheVariants.{NoMemory, Unexpected}
@@ -50,13 +49,13 @@ pub record StandIn (text : List ℕ) (token : Option Token) (scan : Scan) : Type
 -- ---- faults
 
 abbrev pub lex_fault : LexFault → DirectiveFault
-lex_fault fault = At (fault_place fault).line (fault_place fault).col (lex_kind fault)
+lex_fault fault = record { line = (fault_place fault).line; col = (fault_place fault).col; kind = lex_kind fault }
 
 -- the fault of words that can't go on as they do
 abbrev pub fault_in : List PlacedWord → Ending → DirectiveFault
-fault_in [] (AtEnd last) = At last.line last.col kind.Unexpected
+fault_in [] (AtEnd last) = record { line = last.line; col = last.col; kind = kind.Unexpected }
 fault_in [] (AtFault fault) = lex_fault fault
-fault_in (placed ∷ words_ahead) ending = At placed.line placed.col kind.Unexpected
+fault_in (placed ∷ words_ahead) ending = record { line = placed.line; col = placed.col; kind = kind.Unexpected }
 
 -- the fault that stands behind all words, if there is one
 abbrev pub unread_in : List PlacedWord → Ending → Option DirectiveFault

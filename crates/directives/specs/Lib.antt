@@ -2,7 +2,6 @@ pub mod Spelling
 pub mod Meaning
 pub mod Reading
 pub mod Ahead
-pub mod Gives
 pub mod Hypotheses
 pub mod Acts
 pub mod Standing

@@ -9,7 +9,8 @@ use Rattle.directives.specs.declared.directive.Directive.{Directive}
 use Rattle.directives.specs.declared.fault.DirectiveKind.{DirectiveKind}
 use Rattle.directives.specs.declared.fault.DirectiveKind.TheVariants.{BadByte, OpenString, BigNumber, Unexpected}
 use Rattle.directives.specs.declared.fault.DirectiveFault.{DirectiveFault}
-use Rattle.directives.specs.declared.fault.DirectiveFault.TheVariants.{NoMemory, At}
+use Rattle.directives.specs.declared.fault.DirectiveError.{DirectiveError}
+use Rattle.directives.specs.declared.fault.DirectiveError.TheVariants as error
 use Rattle.directives.specs.Spelling.{directive_words}
 
 -- the words are those of the directives
@@ -48,10 +49,14 @@ pub data IsFault (text : List ℕ) : ℕ → ℕ → DirectiveKind → Type 0 wh
   AtLast : (last : Place) → (tokens_of text).ending ≡ AtEnd last → Begin (placed_words text) →
       ((directives : List Directive) → AreOf (placed_words text) directives → ⊥) → IsFault text last.line last.col Unexpected
 
--- the answer is that fault, unless memory is wanting
+-- the text has that fault
 abbrev pub Faults : List ℕ → DirectiveFault → Type 0
-Faults text NoMemory = Unit {0}
-Faults text (At line col kind) = IsFault text line col kind
+Faults text fault = IsFault text fault.line fault.col fault.kind
+
+-- why a call was refused; want of memory is free
+abbrev pub Refuses : DirectiveError → (DirectiveFault → Type 0) → Type 0
+Refuses (error.Fault fault) why = why fault
+Refuses error.NoMemory why = Unit {0}
 
 -- ---- a text has one meaning
 

@@ -1,6 +1,6 @@
 //! From a configuration and directives to the configuration that they make of it.
 
-ghost use Rattle.std.specs.Prelude.{◌≡◌, ◌≤◌, true, length, Ok, IfOk, IfErr, OnOk};
+ghost use Rattle.std.specs.Prelude.{◌≡◌, ◌≤◌, true, length, Ok, Err, IfOk, IfErr, OnOk};
 ghost use Rattle.std.specs.List.{AllByRecursion};
 ghost use Rattle.mdl_ast.specs.Small.{HasSmall};
 ghost use Rattle.mdl_check.specs.Placed.{placed_items};
@@ -8,11 +8,11 @@ ghost use Rattle.mdl_check.specs.Checking.{prefixes_of};
 ghost use Rattle.directives.specs.Hypotheses.{stands};
 ghost use Rattle.directives.specs.Acts.{name_of, is_astray, kind_of, acted, applied};
 ghost use Rattle.directives.specs.Applying.{IsAccepted};
-ghost use Rattle.directives.specs.Gives.{Stops};
+ghost use Rattle.directives.specs.Meaning.{Refuses};
 
 use crate::directive::{Directive, DirectiveAct};
 use crate::expansion::expanded;
-use crate::fault::{DirectiveFault, DirectiveKind};
+use crate::fault::{DirectiveError, DirectiveFault, DirectiveKind};
 use crate::standing::Standing;
 use mdl_ast::Conf;
 use pn_types::{NoMemory, Seq, Text};
@@ -93,10 +93,10 @@ pub fn apply(
     shipped: &Conf,
     tree: &Tree,
     directives: &[Directive],
-) -> Result<Conf, DirectiveFault>
+) -> Result<Conf, DirectiveError>
     requires { IsAccepted tree.now shipped.now.items conf.now.items }
     ensures applied { IfOk result (λ made. applied shipped.now.items conf.now.items directives.now ≡ Ok made.items) }
-    ensures fault { IfErr result (λ fault. Stops fault (applied shipped.now.items conf.now.items directives.now)) }
+    ensures fault { IfErr result (λ e. Refuses e (λ fault. applied shipped.now.items conf.now.items directives.now ≡ Err fault)) }
     // The check accepts what is made.
     ensures accepted { IfOk result (λ made. IsAccepted tree.now shipped.now.items made.items) }
     // The objects of the tree come from these.
@@ -109,11 +109,11 @@ pub fn apply(
     let mut standing = Standing::of(alloc, items)?;
     for directive in directives {
         if let Some(kind) = kind_of(&directive.act, &standing) {
-            return Err(DirectiveFault::At {
+            return Err(DirectiveError::Fault(DirectiveFault {
                 line: directive.line,
                 col: 0,
                 kind,
-            });
+            }));
         }
         act_on(alloc, &mut standing, &directive.act)?;
     }

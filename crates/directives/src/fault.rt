@@ -23,41 +23,56 @@ pub enum DirectiveKind {
     WrongKind,
 }
 
-/// Why directives can't be used.
+/// The first fault of directives.
 #[derive(Clone, Copy, PartialEq, Eq, Drop)]
-pub enum DirectiveFault {
-    /// Memory is wanting.
-    NoMemory,
-    /// The first fault.
-    At {
-        /// The line of its first byte, or of its directive, from 1.
-        line: u32,
-        /// The column of its first byte, in bytes from 1, and 0 where a directive names what doesn't stand.
-        col: u32,
-        /// What it is.
-        kind: DirectiveKind,
-    },
+pub struct DirectiveFault {
+    /// The line of its first byte, or of its directive, from 1.
+    pub line: u32,
+    /// The column of its first byte, in bytes from 1, and 0 where a directive names what doesn't stand.
+    pub col: u32,
+    /// What it is.
+    pub kind: DirectiveKind,
 }
 
-impl From<AllocError> for DirectiveFault {
+/// Why directives can't be used.
+#[derive(Clone, Copy, PartialEq, Eq, Drop)]
+pub enum DirectiveError {
+    /// Memory was wanting.
+    NoMemory,
+    /// The first fault.
+    Fault(DirectiveFault),
+}
+
+impl From<DirectiveFault> for DirectiveError {
     ghost use Rattle.std.specs.Prelude.{◌≡◌};
-    ghost use Rattle.directives.specs.declared.fault.DirectiveFault.TheVariants.{NoMemory};
+    ghost use Rattle.directives.specs.declared.fault.DirectiveError.TheVariants.{Fault};
 
-    ghost from_gives = { λ _ fault. fault ≡ NoMemory };
+    ghost from_gives = { λ fault e. e ≡ Fault fault };
 
-    fn from(_fault: AllocError) -> DirectiveFault {
-        DirectiveFault::NoMemory
+    fn from(fault: DirectiveFault) -> DirectiveError {
+        DirectiveError::Fault(fault)
     }
 }
 
-impl<T: Drop> From<AllocFailed<T>> for DirectiveFault {
+impl From<AllocError> for DirectiveError {
     ghost use Rattle.std.specs.Prelude.{◌≡◌};
-    ghost use Rattle.directives.specs.declared.fault.DirectiveFault.TheVariants.{NoMemory};
+    ghost use Rattle.directives.specs.declared.fault.DirectiveError.TheVariants.{NoMemory};
 
-    ghost from_gives = { λ _ fault. fault ≡ NoMemory };
+    ghost from_gives = { λ _ e. e ≡ NoMemory };
 
-    fn from(_fault: AllocFailed<T>) -> DirectiveFault {
-        DirectiveFault::NoMemory
+    fn from(_error: AllocError) -> DirectiveError {
+        DirectiveError::NoMemory
+    }
+}
+
+impl<T: Drop> From<AllocFailed<T>> for DirectiveError {
+    ghost use Rattle.std.specs.Prelude.{◌≡◌};
+    ghost use Rattle.directives.specs.declared.fault.DirectiveError.TheVariants.{NoMemory};
+
+    ghost from_gives = { λ _ e. e ≡ NoMemory };
+
+    fn from(_error: AllocFailed<T>) -> DirectiveError {
+        DirectiveError::NoMemory
     }
 }
 
@@ -70,7 +85,7 @@ pub(crate) fn lex_fault(fault: LexFault) -> DirectiveFault
         LexFault::OpenString(place) => (place, DirectiveKind::OpenString),
         LexFault::BigNumber(place) => (place, DirectiveKind::BigNumber),
     };
-    DirectiveFault::At {
+    DirectiveFault {
         line: place.line,
         col: place.col,
         kind,

@@ -19,7 +19,7 @@ mod words;
 
 pub use applying::apply;
 pub use directive::{Directive, DirectiveAct};
-pub use fault::{DirectiveFault, DirectiveKind};
+pub use fault::{DirectiveError, DirectiveFault, DirectiveKind};
 pub use laws::{
     axis_is_gone, directives_or_fault, last_threshold_holds, others_stay, pruned_is_gone,
     same_hypotheses,

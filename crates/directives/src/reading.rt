@@ -4,11 +4,11 @@ ghost use Rattle.std.specs.Prelude.{◌≡◌, ◌≤◌, length, codes, IfOk, I
 ghost use Rattle.mdl_parse.specs.Shapes.{is_keyword};
 ghost use Rattle.mdl_parse.specs.Steps.{option_at};
 ghost use Rattle.directives.specs.Ahead.{Gives};
-ghost use Rattle.directives.specs.Meaning.{IsDirectives, Faults};
+ghost use Rattle.directives.specs.Meaning.{IsDirectives, Faults, Refuses};
 ghost use Rattle.directives.specs.Reading.{axis_at, prune_at, threshold_at, first_at, directive_at, directives_at};
 
 use crate::directive::{Directive, DirectiveAct};
-use crate::fault::DirectiveFault;
+use crate::fault::DirectiveError;
 use crate::stop::Stop;
 use crate::words::Words;
 use pn_types::{Seq, Text};
@@ -115,18 +115,18 @@ impl<'a> Words<'a> {
 /// `Unexpected` at the first word with which the words so far begin no directives, or at the text's end, if it comes too
 /// early; another kind at the first bytes that are no word, if the words before them begin directives; `NoMemory`.
 #[tactic(auto, using(crate::proofs::Exact::directives_end, crate::proofs::Exact::fault_ends, crate::proofs::Exact::fault_stops))]
-pub fn read_directives(alloc: Global, text: &[u8]) -> Result<Seq<Directive>, DirectiveFault>
+pub fn read_directives(alloc: Global, text: &[u8]) -> Result<Seq<Directive>, DirectiveError>
     requires { length text.now ≤ 1048576 }
     ensures read { IfOk result (λ directives. IsDirectives text.now directives) }
-    ensures fault { IfErr result (λ fault. Faults text.now fault) }
+    ensures fault { IfErr result (λ e. Refuses e (λ fault. Faults text.now fault)) }
 {
     let mut words = Words::new(text);
     match words.directives(alloc) {
         Ok(directives) => match words.unread() {
-            Some(fault) => Err(fault),
+            Some(fault) => Err(DirectiveError::Fault(fault)),
             None => Ok(directives),
         },
-        Err(Stop::NoMemory) => Err(DirectiveFault::NoMemory),
-        Err(Stop::Unexpected) => Err(words.fault()),
+        Err(Stop::NoMemory) => Err(DirectiveError::NoMemory),
+        Err(Stop::Unexpected) => Err(DirectiveError::Fault(words.fault())),
     }
 }

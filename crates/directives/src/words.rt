@@ -220,7 +220,7 @@ impl<'a> Words<'a> {
         ensures { result ≡ fault_in self.old.words_ahead self.old.ending }
     {
         if let Some(token) = self.token {
-            return DirectiveFault::At {
+            return DirectiveFault {
                 line: token.line,
                 col: token.col,
                 kind: DirectiveKind::Unexpected,
@@ -229,7 +229,7 @@ impl<'a> Words<'a> {
         match self.scanner.next() {
             Ok(_) => {
                 let last = self.scanner.place();
-                DirectiveFault::At {
+                DirectiveFault {
                     line: last.line,
                     col: last.col,
                     kind: DirectiveKind::Unexpected,

@@ -15,7 +15,7 @@ returns-in_default-after-clause-told c =
     let at = c.lines.at in
     let first : first_line c.lines.due (drop at report) ≡ Some c.in-Some.line.now = sym (rw (take_rest report at) at c.in-Some.ensures.line) in
     let wrong : after c.lines.due c.in-Some.line.now ≡ None = sym c.after.ensures ∙ c.in_default-after.is in
-    λ _. sym c.lines.invariant.rest
+    sym c.lines.invariant.rest
     ∙ ap (onto c.lines.verdicts.items) (fault_step c.lines.due at (drop at report) c.in-Some.line.now (omega (arith, length-drop at report, c.lines-test.true)) first wrong)
 
 pub returns-in_default-clause-told : goal.returns-in_default-clause-told
@@ -23,7 +23,7 @@ returns-in_default-clause-told c =
     let report = c.args.report.now in
     let at = c.lines.at in
     let cut : first_line c.lines.due (drop at report) ≡ None = sym (rw (take_rest report at) at c.in_default.ensures.line) in
-    λ _. sym c.lines.invariant.rest
+    sym c.lines.invariant.rest
     ∙ ap (onto c.lines.verdicts.items) (cut_step c.lines.due at (drop at report) (omega (arith, length-drop at report, c.lines-test.true)) cut)
 
 pub lines-preserved : goal.lines-preserved
