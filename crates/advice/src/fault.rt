@@ -16,17 +16,6 @@ pub enum ReportError {
     Fault(ReportFault),
 }
 
-impl From<ReportFault> for ReportError {
-    ghost use Rattle.std.specs.Prelude.{◌≡◌};
-    ghost use Rattle.advice.specs.declared.fault.ReportError.TheVariants.{Fault};
-
-    ghost from_gives = { λ fault e. e ≡ Fault fault };
-
-    fn from(fault: ReportFault) -> ReportError {
-        ReportError::Fault(fault)
-    }
-}
-
 impl From<AllocError> for ReportError {
     ghost use Rattle.std.specs.Prelude.{◌≡◌};
     ghost use Rattle.advice.specs.declared.fault.ReportError.TheVariants.{NoMemory};

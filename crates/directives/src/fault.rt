@@ -43,17 +43,6 @@ pub enum DirectiveError {
     Fault(DirectiveFault),
 }
 
-impl From<DirectiveFault> for DirectiveError {
-    ghost use Rattle.std.specs.Prelude.{◌≡◌};
-    ghost use Rattle.directives.specs.declared.fault.DirectiveError.TheVariants.{Fault};
-
-    ghost from_gives = { λ fault e. e ≡ Fault fault };
-
-    fn from(fault: DirectiveFault) -> DirectiveError {
-        DirectiveError::Fault(fault)
-    }
-}
-
 impl From<AllocError> for DirectiveError {
     ghost use Rattle.std.specs.Prelude.{◌≡◌};
     ghost use Rattle.directives.specs.declared.fault.DirectiveError.TheVariants.{NoMemory};
