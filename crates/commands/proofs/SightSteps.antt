@@ -1,8 +1,8 @@
 -- What was seen of files, step by step.
-use Rattle.std.proofs.Common.{◌≡◌, ℕ, ◌+◌, ◌<◌, ◌≤◌, List, length, Some, None, Result, Ok, Err, refl, sym, ap, subst, arith}
+use Rattle.std.proofs.Common.{◌≡◌, ℕ, ◌+◌, ◌<◌, ◌≤◌, List, length, Some, None, Result, Ok, Err, refl, sym, ap, subst, ⊎_elim, arith}
 use Rattle.std.specs.Prelude.{nat_lt, replicate}
-use Rattle.std.proofs.lemmas.Bool.{lt-ltb, le-ltb, cond-true, cond-false}
-use Rattle.std.proofs.lemmas.List.{length-replicate}
+use Rattle.std.proofs.lemmas.Bool.{cases_lt, lt-ltb, le-ltb, cond-true, cond-false}
+use Rattle.std.proofs.lemmas.List.{get_or-replicate, get_or_past, length-replicate}
 use Rattle.outside.specs.Causes.{Rose}
 use Rattle.outside.specs.Outside.{Holding, IsBytes, IsWhole, IsLonger}
 use Rattle.command_words.specs.Requests.{DirectRequest}
@@ -26,7 +26,7 @@ use Rattle.commands.specs.declared.texts.Texts.{Texts}
 
 -- zeros are bytes
 zeros : (n : ℕ) → IsBytes (replicate n 0)
-zeros n i = grind (arith, get_or-replicate)
+zeros n i = ⊎_elim (λ (l : i < n). omega (arith, get_or-replicate {A = ℕ} n i 0 0 l)) (λ (l : n ≤ i). omega (arith, get_or_past {X = ℕ} (replicate n 0) i 0 (omega (arith, l, length-replicate {A = ℕ} n 0)))) (cases_lt i n)
 
 -- a file that is longer than so many bytes has some bytes
 pub some_longer : (holding : Holding) (most : ℕ) → IsLonger holding most → (bytes : List ℕ) × (IsWhole holding bytes × IsBytes bytes) × (most < length bytes)

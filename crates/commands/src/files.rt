@@ -2,6 +2,7 @@
 
 ghost use Rattle.std.specs.Prelude.{◌≡◌, ◌≤◌, IfOk, length};
 ghost use Rattle.commands.specs.Sights.{seen, IsContent, Looks};
+ghost use Rattle.outside.specs.Outside.{IsBytes};
 ghost use Rattle.refusals.specs.Refusals.{Comes};
 
 use outside::{Files, ReadFault, read_whole};
@@ -14,6 +15,13 @@ pub fn text_of(alloc: Global, word: &str) -> Result<Text, NoMemory>
     ensures { IfOk result (λ text. text ≡ word.now) }
 {
     Ok(Text::from_vec(word.as_bytes().to_vec(alloc)?))
+}
+
+/// What a slice has are bytes. It is called for this alone.
+fn are_bytes(bytes: &[u8])
+    ensures { IsBytes bytes.now }
+{
+    let _count = bytes.len();
 }
 
 /// Reads a file to its end. It is refused with the fault `too_long` where it has more than `most` bytes.
@@ -31,7 +39,10 @@ pub fn read_file<F: Files>(
     // Made first, so that a file that was not read is never answered with want of memory.
     let unread = text_of(alloc, name)?;
     match read_whole(alloc, files, name, most) {
-        Ok(bytes) => Ok(Seq::from_vec(bytes)),
+        Ok(bytes) => {
+            are_bytes(&bytes);
+            Ok(Seq::from_vec(bytes))
+        }
         Err(ReadFault::TooLong) => Err(Refusal::Fault(too_long)),
         Err(ReadFault::NoMemory) => Err(Refusal::NoMemory),
         Err(ReadFault::Outside) => Err(Refusal::Fault(Fault::FileFault(unread))),

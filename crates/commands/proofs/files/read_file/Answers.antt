@@ -1,5 +1,6 @@
 use Rattle.std.proofs.Common.{ℕ, List, Ok, Err, refl, sym, ap, subst, arith}
 use Rattle.refusals.specs.declared.fault.Fault.TheVariants.{FileFault}
+use Rattle.outside.specs.Outside.{IsBytes}
 use Rattle.commands.proofs.SightSteps.{some_longer, short_content, long_content, unread_content}
 use Rattle.commands.specs.Sights.{Sight, seen, IsContent}
 use Rattle.commands.proofs.files.read_file.Goals as goal
@@ -8,7 +9,7 @@ pub returns-in-Ok-clause-content : goal.returns-in-Ok-clause-content
 returns-in-Ok-clause-content g c =
     let sees : Sight = seen (g.F.Files.holds c.args.files.now) (g.F.Files.faults c.args.files.now) (g.F.Files.faults c.read_whole.new.files) in
     subst (λ (bytes : List ℕ). IsContent sees c.args.most c.args.too_long c.args.name.now (Ok bytes)) (sym c.from_vec.ensures)
-    (short_content sees c.args.most c.args.too_long c.args.name.now c.in-Ok.bytes.items c.in-Ok.ensures.whole (omega (arith, c.in-Ok.ensures.short)))
+    (short_content sees c.args.most c.args.too_long c.args.name.now c.in-Ok.bytes.items (c.in-Ok.ensures.whole, subst IsBytes c.deref.ensures.value c.are_bytes.ensures) (omega (arith, c.in-Ok.ensures.short)))
 
 pub returns-in-Err-TooLong-clause-content : goal.returns-in-Err-TooLong-clause-content
 returns-in-Err-TooLong-clause-content g c =
