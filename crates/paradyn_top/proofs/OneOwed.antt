@@ -56,7 +56,7 @@ module _ {F : Type 0} (holds : F → List ℕ → Holding) (faults : F → List 
   calm_of (BadReport place) other c = c
 
   seen_once : IsCalm faults old new → (name : List ℕ) → IsOne (seen (holds old) (faults old) (faults new) name)
-  seen_once calm name (Ok x) (Ok y) a b = ap (λ (bytes : List ℕ). Ok bytes) (same_bytes (holds old name) x y (told name).0 a b)
+  seen_once calm name (Ok x) (Ok y) a b = ap (λ (bytes : List ℕ). Ok bytes) (same_bytes (holds old name) x y (told name).0 a.0 b.0)
   seen_once calm name (Ok x) (Err g) a b = absurd (not_risen (faults old name) (faults new name) (told name).1 (calm name) b.1)
   seen_once calm name (Err f) (Ok y) a b = absurd (not_risen (faults old name) (faults new name) (told name).1 (calm name) a.1)
   seen_once calm name (Err f) (Err g) a b = ap (λ (fault : Fault). Err fault) (a.0 ∙ sym b.0)
