@@ -11,7 +11,7 @@ use code_points::procedures;
 use outside::MemFiles;
 use paradyn_top::{Found, find, read_inputs};
 use pn_types::{Image, NoMemory, Quantum, Settings};
-use quanta_log::read;
+use quanta_log::{LogError, read};
 use refusals::{Fault, Refusal, bad_log};
 use report::report;
 use session::{Session, StartFault};
@@ -105,6 +105,7 @@ fn report_from(
 pub fn report_along(alloc: Global, files: &mut MemFiles, log: &[u8]) -> Result<Vec<u8>, Refusal> {
     match read(alloc, log) {
         Ok((settings, quanta)) => report_from(alloc, files, settings, &quanta),
-        Err(fault) => Err(bad_log(fault)),
+        Err(LogError::NoMemory) => Err(Refusal::NoMemory),
+        Err(LogError::Fault(fault)) => Err(bad_log(fault)),
     }
 }
