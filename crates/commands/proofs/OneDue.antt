@@ -13,8 +13,6 @@ use Rattle.mdl_ast.specs.declared.items.Conf.{Conf}
 use Rattle.mdl_check.specs.Checking.{OneAnswer}
 use Rattle.mdl_check.specs.declared.checked.Checked.{Checked}
 use Rattle.mdl_check.specs.declared.fault.CheckFault.{CheckFault}
-use Rattle.mdl_check.specs.declared.fault.CheckFault.TheVariants.{NoMemory, At}
-use Rattle.mdl_check.specs.declared.fault.CheckKind.{CheckKind}
 use Rattle.mdl_parse.specs.Meaning.{OneConf, OneFault, ConfOrFault}
 use Rattle.mdl_shipped.specs.Shipped.{shipped_conf}
 use Rattle.mdl_parse.specs.declared.fault.SyntaxKind.{SyntaxKind}
@@ -129,37 +127,24 @@ module _ (laws : Laws) where
 
   -- ---- what is found
 
-  abbrev checked_fault : ℕ → CheckKind → Fault
-  checked_fault line kind = BadConf (fault_at line 0 (check_kind kind))
-
-  abbrev checked : Checked → Result Checked CheckFault
-  checked c = Ok c
-
-  abbrev refused : ℕ → CheckKind → Result Checked CheckFault
-  refused line kind = Err (At line kind)
-
-  some_checked : (c : Checked) → checked c ≡ Err NoMemory → ⊥
-  some_checked c e = cc
-
-  some_fault : (line : ℕ) (kind : CheckKind) → refused line kind ≡ Err NoMemory → ⊥
-  some_fault line kind e = cc
+  abbrev checked_fault : CheckFault → Fault
+  checked_fault found = BadConf (fault_at found.line 0 (check_kind found.kind))
 
   check_once : (t : Resources) (conf : Conf) → IsOne (IsCheck t conf)
   check_once t conf (Ok c) (Ok d) a b =
-      let same = laws.answer t shipped_conf.items conf.items (Ok c) (Ok d) a b (some_checked c) (some_checked d) in
+      let same = laws.answer t shipped_conf.items conf.items (Ok c) (Ok d) a b in
       let value : c ≡ d = cc in
       ap (λ (x : Checked). Ok x) value
-  check_once t conf (Ok c) (Err g) a (line, kind, b, e) =
-      let same = laws.answer t shipped_conf.items conf.items (Ok c) (Err (At line kind)) a b (some_checked c) (some_fault line kind) in
+  check_once t conf (Ok c) (Err g) a (found, b, e) =
+      let same = laws.answer t shipped_conf.items conf.items (Ok c) (Err found) a b in
       absurd cc
-  check_once t conf (Err f) (Ok d) (line, kind, a, e) b =
-      let same = laws.answer t shipped_conf.items conf.items (Err (At line kind)) (Ok d) a b (some_fault line kind) (some_checked d) in
+  check_once t conf (Err f) (Ok d) (found, a, e) b =
+      let same = laws.answer t shipped_conf.items conf.items (Err found) (Ok d) a b in
       absurd cc
-  check_once t conf (Err f) (Err g) (line, kind, a, e) (line', kind', b, e') =
-      let same = laws.answer t shipped_conf.items conf.items (Err (At line kind)) (Err (At line' kind')) a b (some_fault line kind) (some_fault line' kind') in
-      let one : line ≡ line' = cc in
-      let other : kind ≡ kind' = cc in
-      ap (λ (x : Fault). Err x) (e ∙ ap (λ (n : ℕ). checked_fault n kind) one ∙ ap (checked_fault line') other ∙ sym e')
+  check_once t conf (Err f) (Err g) (found, a, e) (found', b, e') =
+      let same = laws.answer t shipped_conf.items conf.items (Err found) (Err found') a b in
+      let one : found ≡ found' = cc in
+      ap (λ (x : Fault). Err x) (e ∙ ap checked_fault one ∙ sym e')
 
   abbrev made : Resources → List Proc → List Point → Checked → Found
   made tree procs points checked = record { tree = tree; procs = procs; points = points; checked = checked }
@@ -191,7 +176,6 @@ module _ (laws : Laws) where
 
   planned_once : (metric focus : List ℕ) (due : Result Plan PlanFault) → IsOne (IsPlanned metric focus due)
   planned_once metric focus (Ok plan) a b e f = e ∙ sym f
-  planned_once metric focus (Err cause.NoMemory) a b e f = absurd e
   planned_once metric focus (Err (cause.NoConstraint axis)) a b e f = e ∙ sym f
   planned_once metric focus (Err (cause.TooManySites n)) a b e f = e ∙ sym f
   planned_once metric focus (Err (cause.TooManyStmts at)) a b e f = e ∙ sym f

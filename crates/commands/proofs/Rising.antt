@@ -114,7 +114,7 @@ conf_spared : (text : List ℕ) (name : List ℕ) → MeansConf text (Err (FileF
 conf_spared text name (line, col, kind, wrong, e) = cc
 
 check_spared : (t : Resources) (conf : Conf) (name : List ℕ) → IsCheck t conf (Err (FileFault name)) → ⊥
-check_spared t conf name (line, kind, answer, e) = cc
+check_spared t conf name (found, answer, e) = cc
 
 metric_spared : (o : Option Metric) (name : List ℕ) → Err (FileFault name) ≡ or_unknown o → ⊥
 metric_spared None name e = cc
@@ -126,7 +126,6 @@ focus_spared (Some m) name e = cc
 
 plan_spared : (metric focus : List ℕ) (due : Result Plan PlanFault) (name : List ℕ) → IsPlanned metric focus due (Err (FileFault name)) → ⊥
 plan_spared metric focus (Ok plan) name e = cc
-plan_spared metric focus (Err cause.NoMemory) name e = e
 plan_spared metric focus (Err (cause.NoConstraint axis)) name e = cc
 plan_spared metric focus (Err (cause.TooManySites n)) name e = cc
 plan_spared metric focus (Err (cause.TooManyStmts at)) name e = cc

@@ -6,8 +6,7 @@ use Rattle.code_points.specs.Objects.{objects_of}
 use Rattle.mdl_ast.specs.declared.items.Conf.{Conf}
 use Rattle.mdl_check.specs.Checking.{IsAnswer, prefixes_of}
 use Rattle.mdl_check.specs.declared.checked.Checked.{Checked}
-use Rattle.mdl_check.specs.declared.fault.CheckFault.TheVariants.{At}
-use Rattle.mdl_check.specs.declared.fault.CheckKind.{CheckKind}
+use Rattle.mdl_check.specs.declared.fault.CheckFault.{CheckFault}
 use Rattle.mdl_shipped.specs.Shipped.{shipped_conf}
 use Rattle.pn_types.specs.declared.image.Image.{Image}
 use Rattle.refusals.specs.Kinds.{fault_at, check_kind}
@@ -24,7 +23,7 @@ resources_of image harts conf = tree_of (procedures_of image) (objects_of image)
 abbrev pub IsCheck : Resources → Conf → Step Checked
 IsCheck t conf (Ok checked) = IsAnswer t shipped_conf.items conf.items (Ok checked)
 IsCheck t conf (Err fault) =
-    (line : ℕ) × (kind : CheckKind) × IsAnswer t shipped_conf.items conf.items (Err (At line kind)) × (fault ≡ BadConf (fault_at line 0 (check_kind kind)))
+    (found : CheckFault) × IsAnswer t shipped_conf.items conf.items (Err found) × (fault ≡ BadConf (fault_at found.line 0 (check_kind found.kind)))
 
 -- the program's procedures, points and resources, and what the configuration holds, which was checked
 pub record AreFound (image : Image) (harts : ℕ) (conf : Conf) (found : Found) : Type 0 where

@@ -18,7 +18,7 @@ ghost use Rattle.resource_tree.specs.Names.{IsNamed};
 use crate::configuration::bad_configuration;
 use code_points::{objects, points, procedures};
 use mdl_ast::Conf;
-use mdl_check::{CheckFault, Checked, check, prefixes};
+use mdl_check::{CheckError, Checked, check, prefixes};
 use mdl_shipped::shipped;
 use pn_types::{Image, MAX_HARTS, NoMemory, Point, Proc, Seq};
 use refusals::{Refusal, check_kind};
@@ -61,8 +61,10 @@ fn checked(alloc: Global, conf: &Conf, shipped: &Conf, tree: &Tree) -> Result<Ch
 {
     match check(alloc, conf, shipped, tree) {
         Ok(checked) => Ok(checked),
-        Err(CheckFault::NoMemory) => Err(Refusal::NoMemory),
-        Err(CheckFault::At { line, kind }) => Err(bad_configuration(line, 0, check_kind(kind))),
+        Err(CheckError::NoMemory) => Err(Refusal::NoMemory),
+        Err(CheckError::Fault(fault)) => {
+            Err(bad_configuration(fault.line, 0, check_kind(fault.kind)))
+        }
     }
 }
 

@@ -20,7 +20,7 @@ use crate::running::bad_pick;
 use crate::texts::Texts;
 use command_words::PlanRequest;
 use mdl_ast::Metric;
-use mdl_plan::{PlanFault, PlanIndex, plan};
+use mdl_plan::{PlanError, PlanFault, PlanIndex, plan};
 use outside::Files;
 use pn_types::{Focus, Image, PickCause};
 use prim_code::predicted;
@@ -75,14 +75,14 @@ fn plan_at(
             let shown = plan_text(alloc, metric.bytes(), text.bytes(), words, &plan)?;
             Ok(Texts::output(alloc, shown))
         }
-        Err(PlanFault::NoMemory) => Err(Refusal::NoMemory),
-        Err(PlanFault::NoConstraint(axis)) => {
+        Err(PlanError::NoMemory) => Err(Refusal::NoMemory),
+        Err(PlanError::Fault(PlanFault::NoConstraint(axis))) => {
             Err(bad_pick(metric, text, PickCause::NoConstraint(axis)))
         }
-        Err(PlanFault::TooManySites(count)) => {
+        Err(PlanError::Fault(PlanFault::TooManySites(count))) => {
             Err(bad_pick(metric, text, PickCause::TooManySites(count)))
         }
-        Err(PlanFault::TooManyStmts(at)) => {
+        Err(PlanError::Fault(PlanFault::TooManyStmts(at))) => {
             Err(bad_pick(metric, text, PickCause::TooManyStmts(at)))
         }
     }

@@ -26,6 +26,7 @@ use outside::Files;
 use pn_types::Image;
 use quanta_log::write;
 use refusals::{Fault, Refusal};
+use session::StartFault;
 use std::alloc::Global;
 use whole_run::{ReplayFault, replay_run};
 
@@ -38,8 +39,10 @@ fn replay_inputs(alloc: Global, log: &Log, inputs: session::Inputs) -> Result<Te
     let (_, skipped) = procedures(alloc, &inputs.image)?;
     match replay_run(alloc, inputs, log.quanta.as_slice(), skipped) {
         Ok(report) => Ok(Texts::output(alloc, report)),
-        Err(ReplayFault::NoMemory) => Err(Refusal::NoMemory),
-        Err(ReplayFault::BadPick(metric, focus, cause)) => Err(bad_pick(metric, focus, cause)),
+        Err(ReplayFault::NotOpened(StartFault::NoMemory)) => Err(Refusal::NoMemory),
+        Err(ReplayFault::NotOpened(StartFault::BadPick(metric, focus, cause))) => {
+            Err(bad_pick(metric, focus, cause))
+        }
         Err(ReplayFault::Misfit(misfit)) => Err(Refusal::Fault(misfit_fault(log, misfit))),
     }
 }

@@ -78,7 +78,7 @@ module _ (i : Inputs) (force : ℕ) where
   answer_force plan w k (Ok placer) e h = more_force i force k (record (admitted plan k) { shown = k.shown ++ shown_next w k ∷ [] }) plan None placer (shown_next w k) e refl refl refl h
 
   plan_force : (r : Result Plan PlanFault) (w : CheckedWish) (k : Kept) → HasForce i force k → HasForce i force (with_plan r w k)
-  plan_force (Err fault) w k h = refused_force (cause_of_plan fault) w k h
+  plan_force (Err fault) w k h = refused_force (Some (cause_of_plan fault)) w k h
   plan_force (Ok plan) w k h = answer_force plan w k (admission k.machine.placer plan None) refl h
 
   show_force : (o : Option Shown) (w : CheckedWish) (k : Kept) → HasForce i force k → HasForce i force (with_show o i w k)

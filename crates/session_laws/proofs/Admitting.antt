@@ -25,6 +25,7 @@ use Rattle.session_spec.specs.Admission.{admitted, shown_next, shown_now, with_a
 use Rattle.session_spec.specs.Opening.{with_all}
 use Rattle.session_spec.specs.Tests.{barred, in_force, is_full, must_wait, taken_at_once, tested, with_cost, with_node, with_nodes, with_plan_of, with_test, with_tests, with_waiting}
 use Rattle.session_spec.specs.Bars.{IsBarredBy}
+use Rattle.session_laws.proofs.Grown.{some_same}
 
 -- the same but for what isn't told of the machine, the instruments, the search, the time, the last samples and the next due work
 pub record IsBeside (k j : Kept) : Type 0 where
@@ -80,7 +81,7 @@ module _ (i : Inputs) (P : Kept → Type 0) (keep : KeepsWish i P) where
   answer_kept plan w k (Ok placer) is e p = keep.wished k plan w placer is e p
 
   plan_kept : (r : Result Plan PlanFault) (w : CheckedWish) (k : Kept) → planned i w.metric w.focus ≡ r → P k → P (with_plan r w k)
-  plan_kept (Err fault) w k is p = refused_kept (cause_of_plan fault) w k p
+  plan_kept (Err fault) w k is p = refused_kept (Some (cause_of_plan fault)) w k p
   plan_kept (Ok plan) w k is p = answer_kept plan w k (admission k.machine.placer plan None) is refl p
 
   show_kept : (o : Option Shown) (w : CheckedWish) (k : Kept) → P k → P (with_show o i w k)
@@ -131,7 +132,7 @@ module _ (i : Inputs) (P : Kept → Type 0) (keep : KeepsNode i P) where
           cond_both (must_wait (rules_of i).decl.cost (predicted plan) (in_force i k.machine.placer k.shown)) k (with_test a i n node plan k) P (λ _. p) (λ room. test_kept room a refl)
 
     plan_of_kept : (r : Result Plan PlanFault) → planned i (metric_of i node) node.focus ≡ r → P (with_plan_of r i n node k)
-    plan_of_kept (Err fault) e = barred_kept (bar_of_plan fault) (λ c f. inl (record { fault = fault; planned = e; cause = f }))
+    plan_of_kept (Err fault) e = barred_kept (Some (bar_of_plan fault)) (λ c f. inl (record { fault = fault; planned = e; cause = some_same (bar_of_plan fault) c f }))
     plan_of_kept (Ok plan) e = cost_kept plan e
 
   waiting_kept : (n : ℕ) (k : Kept) (o : Option Node) → slice_get k.search.nodes n ≡ o → P k → P (with_waiting o i n k)

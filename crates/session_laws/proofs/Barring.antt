@@ -102,7 +102,7 @@ module _ (i : Inputs) where
             cond_both (must_wait (rules_of i).decl.cost (predicted plan) (in_force i k.machine.placer k.shown)) k (with_test a i n node plan k) Turned (λ _. as_was) (λ room. tests_it room a refl)
 
       plans_it : (r : Result Plan PlanFault) → planned i (metric_of i node) node.focus ≡ r → Turned (with_plan_of r i n node k)
-      plans_it (Err fault) e = bars (bar_of_plan fault) (λ c f q. inl (record { fault = fault; planned = ap (λ (v : ℕ). planned i v node.focus) (metric_in q node) ∙ e; cause = f }))
+      plans_it (Err fault) e = bars (Some (bar_of_plan fault)) (λ c f q. inl (record { fault = fault; planned = ap (λ (v : ℕ). planned i v node.focus) (metric_in q node) ∙ e; cause = some_same (bar_of_plan fault) c f }))
       plans_it (Ok plan) e = costs_it plan e
 
     waits_it : (o : Option Node) → slice_get nodes n ≡ o → Turned (with_waiting o i n k)

@@ -102,7 +102,7 @@ module _ (i : Inputs) where
   }
 
   plan_stays : (r : Result Plan PlanFault) (w : CheckedWish) (k : Kept) → planned i w.metric w.focus ≡ r → IsStaying i any [] [] k → IsStaying i any [] [] (with_plan r w k)
-  plan_stays (Err fault) w k is s = refused_stays (cause_of_plan fault) w k s
+  plan_stays (Err fault) w k is s = refused_stays (Some (cause_of_plan fault)) w k s
   plan_stays (Ok plan) w k is s = answer_stays plan w k (admission k.machine.placer plan None) is refl s
 
   show_stays : (o : Option Shown) (w : CheckedWish) (k : Kept) → IsStaying i any [] [] k → IsStaying i any [] [] (with_show o i w k)
