@@ -9,8 +9,7 @@ ghost use Rattle.refusals.specs.Refusals.{Comes};
 
 use command_words::{Request, WordFault, read_request};
 use commands::{
-    Texts, advise_from, direct, list_points, relog, replay, run, run_shared, show_blocks,
-    show_plan, stress, view, write_elf,
+    Texts, advise, asm, blocks, direct, live, plan, points, relog, replay, run, stress, visi,
 };
 use outside::{Files, Gate};
 use refusals::{Fault, Refusal};
@@ -33,13 +32,13 @@ fn answer_request<F: Files>(
         Request::Run(request) => run(alloc, request, files),
         Request::Live(_) | Request::Visi(_) => unreachable!(),
         Request::Replay(request) => replay(alloc, request, files),
-        Request::Plan(request) => show_plan(alloc, request, files),
-        Request::Points(program) => list_points(alloc, program, files),
-        Request::Asm(text) => write_elf(alloc, text, files),
+        Request::Plan(request) => plan(alloc, request, files),
+        Request::Points(program) => points(alloc, program, files),
+        Request::Asm(text) => asm(alloc, text, files),
         Request::Relog(log) => relog(alloc, log, files),
         Request::Stress(request) => stress(alloc, *request),
-        Request::Blocks(request) => show_blocks(alloc, request, files),
-        Request::Advise(report) => advise_from(alloc, report, files),
+        Request::Blocks(request) => blocks(alloc, request, files),
+        Request::Advise(report) => advise(alloc, report, files),
         Request::Direct(request) => direct(alloc, request, files),
     }
 }
@@ -73,8 +72,8 @@ pub(crate) fn answer_threaded<F: Files, R: Threads + Wait + Sync, G: Gate + Sync
     ensures looks { Looks F.holds F.faults files.old files.new result }
 {
     match read_request(alloc, words) {
-        Ok(Request::Live(request)) => run_shared(rt, alloc, &request, files, gate),
-        Ok(Request::Visi(request)) => view(rt, alloc, &request, files, gate),
+        Ok(Request::Live(request)) => live(rt, alloc, &request, files, gate),
+        Ok(Request::Visi(request)) => visi(rt, alloc, &request, files, gate),
         Ok(request) => answer_request(alloc, &request, files),
         Err(WordFault::Usage) => Err(Refusal::Fault(Fault::Usage)),
         Err(WordFault::NoMemory) => Err(Refusal::NoMemory),

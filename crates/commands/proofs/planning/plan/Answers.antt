@@ -7,7 +7,7 @@ use Rattle.commands.specs.Inputs.{AreInputs}
 use Rattle.commands.specs.Sights.{Sight, seen}
 use Rattle.commands.specs.declared.inputs.Inputs.{Inputs}
 use Rattle.commands.specs.declared.texts.Texts.{Texts}
-use Rattle.commands.proofs.planning.show_plan.Goals as goal
+use Rattle.commands.proofs.planning.plan.Goals as goal
 
 pub returns-in_err-found-clause-due : goal.returns-in_err-found-clause-due
 returns-in_err-found-clause-due g c =

@@ -2,7 +2,7 @@ use Rattle.std.proofs.Common.{arith}
 use Rattle.command_words.specs.Asked.{asked_blocks}
 use Rattle.commands.specs.Blocks.{pace_of}
 use Rattle.commands.proofs.Counted.{harts_counted}
-use Rattle.commands.proofs.blocks.counted.Goals as goal
+use Rattle.commands.proofs.counting.counted.Goals as goal
 
 pub blocks_text-requires : goal.blocks_text-requires
 blocks_text-requires c =

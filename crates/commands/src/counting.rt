@@ -1,8 +1,8 @@
 //! The command `blocks`.
 
 ghost use Rattle.command_words.specs.Asked.{asked_blocks};
-ghost use Rattle.command_words.specs.Requests.{HasRanges, count_blocks};
-ghost use Rattle.commands.specs.Blocks.{AreBlocksDue, AreCounted};
+ghost use Rattle.command_words.specs.Requests.{HasRanges, blocks};
+ghost use Rattle.commands.specs.Blocks.{IsBlocksDue, AreCounted};
 ghost use Rattle.commands.specs.Given.{IsUnscratched};
 ghost use Rattle.commands.specs.Sights.{seen, Looks};
 ghost use Rattle.pn_types.specs.Images.{IsImage};
@@ -23,7 +23,7 @@ use std::alloc::Global;
 fn counted(alloc: Global, request: &BlocksRequest<'_>, image: &Image) -> Result<Texts, Refusal>
     requires image { IsImage image.now }
     requires unscratched { IsUnscratched image.now }
-    requires ranges { HasRanges (count_blocks (asked_blocks request.now)) }
+    requires ranges { HasRanges (blocks (asked_blocks request.now)) }
     ensures { Comes result (AreCounted (asked_blocks request.now) image.now) }
 {
     let (procs, _) = procedures(alloc, image)?;
@@ -34,8 +34,8 @@ fn counted(alloc: Global, request: &BlocksRequest<'_>, image: &Image) -> Result<
         &procs,
         request.harts,
         request.budget,
-        request.seed,
-        request.quantum,
+        request.order.seed,
+        request.order.quantum,
     ) {
         Ok(counts) => {
             let text = blocks_text(alloc, &heads, &counts)?;
@@ -49,13 +49,13 @@ fn counted(alloc: Global, request: &BlocksRequest<'_>, image: &Image) -> Result<
 }
 
 /// What is due for `blocks`.
-pub fn show_blocks<F: Files>(
+pub fn blocks<F: Files>(
     alloc: Global,
     request: &BlocksRequest<'_>,
     files: &mut F,
 ) -> Result<Texts, Refusal>
-    requires ranges { HasRanges (count_blocks (asked_blocks request.now)) }
-    ensures due { Comes result (AreBlocksDue (asked_blocks request.now) (seen (F.holds files.old) (F.faults files.old) (F.faults files.new))) }
+    requires ranges { HasRanges (blocks (asked_blocks request.now)) }
+    ensures due { Comes result (IsBlocksDue (asked_blocks request.now) (seen (F.holds files.old) (F.faults files.old) (F.faults files.new))) }
     ensures looks { Looks F.holds F.faults files.old files.new result }
 {
     let image = read_program(alloc, files, request.program)?;
