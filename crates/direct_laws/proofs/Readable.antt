@@ -29,7 +29,7 @@ use Rattle.rv_mem.specs.Start.{program_of}
 use Rattle.rv_exec.specs.Start.{start}
 use Rattle.rv_word.specs.Plain.{Plain, Words}
 use Rattle.session.specs.Given.{HasWindow}
-use Rattle.session_laws.specs.Told.{VerdictsTold}
+use Rattle.session_spec.specs.Laws.{VerdictsTold}
 use Rattle.session_spec.specs.Inputs.{harts_of}
 use Rattle.session_spec.specs.Searches.{rules_by, rules_of}
 use Rattle.session_spec.specs.States.{State}

@@ -4,7 +4,7 @@ ghost use Rattle.direct_laws.specs.Readable.{SessionIsReadable};
 ghost use Rattle.direct_laws.specs.Searched.{HypothesesAreDirected, NoNodeGoesAlong, NoNodeIsPruned};
 
 use directives::{axis_is_gone, last_threshold_holds, others_stay, pruned_is_gone};
-use session_laws::verdicts_told;
+use session_spec::verdicts_told;
 
 /// The hypotheses that are tested are those of the configuration that directives made: none that was pruned, or that had one as an
 /// ancestor; none is refined along an axis that was taken from it; and each has the last threshold that was given to it.
