@@ -24,7 +24,7 @@ use Rattle.pn_types.specs.declared.quantum.Quantum.{Quantum}
 use Rattle.report.specs.declared.parts.NodePart.{NodePart}
 use Rattle.report.specs.declared.parts.SearchPart.{SearchPart}
 use Rattle.resource_tree.specs.Resources.{Resources}
-use Rattle.session.specs.Parts.{node_part, search_part}
+use Rattle.session.specs.Parts.{node_part, parts_of, search_part}
 use Rattle.session_spec.specs.Inputs.{Inputs}
 use Rattle.session_spec.specs.Searches.{rules_by, rules_of}
 use Rattle.session_spec.specs.Told.{IsJudged, IsOpenEnd}
@@ -36,7 +36,7 @@ use Rattle.w3_search.specs.declared.node.Node.{Node}
 use Rattle.w3_search.specs.declared.node.NodeState.{NodeState}
 use Rattle.w3_search.specs.declared.node.NodeState.TheVariants.{Barred, Confirmed, Rejected, Unfinished}
 use Rattle.headline.specs.Followed.{AreFollowed, AreSameOn}
-use Rattle.headline.specs.Honest.{AreVerdicts, end_of}
+use Rattle.headline.specs.Honest.{AreVerdicts, IsHonest, end_of}
 use Rattle.headline.proofs.Found.{both_true, untested}
 use Rattle.headline.proofs.Going.{hypothesis_there, node_same}
 
@@ -189,6 +189,10 @@ module _ (laws : DirectiveLaws) (i : Inputs) (quanta : List Quantum) (items : Li
     all_followed : AreFollowed items directives printed
     all_followed = record { pruned = pruned_of; axes = same_of; thresholds = verdict_of }
 
-  pub followed : (o : Option SearchDecl) → i.checked.search ≡ o → IfSome (search_part i o ended.nodes) (AreVerdicts i quanta) → IfSome (search_part i o ended.nodes) (AreFollowed items directives)
+  followed : (o : Option SearchDecl) → i.checked.search ≡ o → IfSome (search_part i o ended.nodes) (AreVerdicts i quanta) → IfSome (search_part i o ended.nodes) (AreFollowed items directives)
   followed None e are = tt
   followed (Some decl) e are = all_followed (record { full = nat_le most_nodes (length ended.nodes); window = decl.window; nodes = map (node_part i) ended.nodes }) are (ap (λ (d : Option SearchDecl). (rules_by d i).hypotheses) e)
+
+  -- the search of an honest report
+  pub report_follows : IsHonest i quanta (parts_of i (end_of i quanta)) → IfSome (parts_of i (end_of i quanta)).search (AreFollowed items directives)
+  report_follows honest = followed i.checked.search refl honest.search

@@ -71,7 +71,7 @@ use Rattle.commands.specs.declared.texts.Texts.{Texts}
 use Rattle.rv_asm.specs.declared.fault.AsmFault.{AsmFault}
 use Rattle.headline.specs.Headline.{AreViews, IsAsked, IsConfigurationOf, IsDirectedBy, IsLogOf, IsPlain, IsProgramOf, IsRunOf, Run, Tells, report_of}
 use Rattle.headline.specs.Honest.{end_of}
-use Rattle.headline.proofs.Directed.{DirectiveLaws, IsMade, followed}
+use Rattle.headline.proofs.Directed.{DirectiveLaws, IsMade, report_follows}
 use Rattle.headline.proofs.Files.{IsOfBytes, inputs_of, log_read, meant_again, program_of}
 use Rattle.headline.proofs.Ranges.{IsRanged}
 use Rattle.headline.proofs.Reports.{IsRunnable, Laws, honest}
@@ -100,6 +100,9 @@ run_with image spelled made found settings quanta = record {
   quanta = quanta;
   parts = parts_of (inputs_with image found settings) (end_of (inputs_with image found settings) quanta);
 }
+
+same_settings : (image : Image) (found : Found) (settings : Settings) → (inputs_with image found settings).settings ≡ settings
+same_settings image found settings = refl
 
 module _ (laws : AllLaws) (sees : Sight) where
   -- a run of what files hold
@@ -139,6 +142,13 @@ module _ (laws : AllLaws) (sees : Sight) where
     parts : parts_of r.inputs (end_of r.inputs r.quanta) ≡ r.parts
     is : texts ≡ texts_of r.inputs r.quanta
 
+  plain_run : (s : SessionRequest) (InOrder : Order) (texts_of : SessionInputs → List Quantum → Texts) (texts : Texts) (image : Image) (conf : Conf) (found : Found) (quanta : List Quantum)
+      → IsProgramOf sees s.program image → IsConfigurationOf sees s.conf conf → AreFound image s.settings.harts conf found → AreInRange s.settings
+      → IsWhole (inputs_with image found s.settings) quanta → InOrder (inputs_with image found s.settings) quanta → texts ≡ texts_of (inputs_with image found s.settings) quanta → IsRun s InOrder texts_of texts
+  plain_run s InOrder texts_of texts image conf found quanta p c are range whole order is =
+      let m = made_run s.program s.conf image conf conf found s.settings quanta p c (inl refl) are range whole in
+      record { r = run_with image conf conf found s.settings quanta; asked = (m.run_of, refl, order); plain = refl; can = m.can; parts = refl; is = is }
+
   asked_run : (s : SessionRequest) (InOrder : Order) (texts_of : SessionInputs → List Quantum → Texts) (texts : Texts) → IsOfBytes sees s.program → AreInRange s.settings
       → ((i : SessionInputs) (quanta : List Quantum) → InOrder i quanta → IsWhole i quanta) → IsSessionOf s sees InOrder texts_of (Ok texts) → IsRun s InOrder texts_of texts
   asked_run s InOrder texts_of texts bytes range whole_in step =
@@ -152,15 +162,7 @@ module _ (laws : AllLaws) (sees : Sight) where
       let ran : IsSession InOrder texts_of i (Ok texts) = subst (λ (x : SessionInputs). IsSession InOrder texts_of x (Ok texts)) is p.next in
       let t = opened (bad_pick i) i (AreTexts InOrder texts_of i) texts ran in
       let read = inputs_of sees s.program s.conf a.a bytes a.first in
-      let m = made_run s.program s.conf (a.a).image (a.a).conf (a.a).conf f.a s.settings t.0 read.holds_program read.holds_conf (inl refl) f.first range (whole_in i t.0 t.1) in
-      record {
-        r = run_with (a.a).image (a.a).conf (a.a).conf f.a s.settings t.0;
-        asked = (m.run_of, refl, t.1);
-        plain = refl;
-        can = m.can;
-        parts = refl;
-        is = ok_is texts (texts_of i t.0) t.2;
-      }
+      plain_run s InOrder texts_of texts (a.a).image (a.a).conf f.a t.0 read.holds_program read.holds_conf f.first range (whole_in i t.0 t.1) t.1 (ok_is texts (texts_of i t.0) t.2)
 
   -- its report and its log
   module _ (s : SessionRequest) (InOrder : Order) (texts : Texts) (k : IsRun s InOrder report_and_log texts) where
@@ -279,9 +281,9 @@ module _ (laws : AllLaws) (sees : Sight) where
           directives = d.a;
           spelled = text.next;
           made = made;
-          followed = followed laws.directives i t.0 conf.items d.a are i.checked.search refl (((ran.run_of).honest).search);
+          followed = report_follows laws.directives i t.0 conf.items d.a are (ran.run_of).honest;
         } in
-        (run_with image conf m.a g.a settings t.0, (ran.run_of, refl, t.1), given, ok_is texts (report_alone i t.0) t.2)
+        (run_with image conf m.a g.a settings t.0, (ran.run_of, same_settings image g.a settings, t.1), given, ok_is texts (report_alone i t.0) t.2)
 
     -- ---- the other commands
 
