@@ -7,7 +7,7 @@ use Rattle.machine.specs.Cores.{Core, start_core}
 use Rattle.machine.specs.Effects.{after}
 use Rattle.machine.specs.Events.{Event}
 use Rattle.machine.specs.Quanta.{TimeGoesOn, ticks_in}
-use Rattle.machine.specs.Replays.{owns, replay}
+use Rattle.machine.specs.Replays.{replay}
 use Rattle.pn_types.specs.Settings.{AreInRange}
 use Rattle.pn_types.specs.declared.image.Image.{Image}
 use Rattle.rv_exec.proofs.Runs.{length-run_from}
