@@ -1,5 +1,5 @@
 -- What the top call leaves in its sinks.
-use Rattle.std.specs.Prelude.{◌≡◌, ◌⊎◌, ℕ, ◌<◌, ◌-◌, ◌^◌, IsSome, List, [], map, string_bytes, Option, Some, None, Result, Ok, Err}
+use Rattle.std.specs.Prelude.{◌≡◌, ◌⊎◌, ℕ, ◌<◌, ◌-◌, ◌^◌, IsSome, List, Option, Some, None, Result, Ok, Err}
 use Rattle.command_words.specs.Requests.{request_of}
 use Rattle.outside.specs.Outside.{Holding, IsCalm}
 use Rattle.refusals.specs.declared.fault.Fault.{Fault}
@@ -11,8 +11,6 @@ use Rattle.paradyn_top.specs.Delivery.{IsTorn, Gained}
 use Rattle.commands.specs.Due.{AreOne, IsDue, is_live}
 use Rattle.commands.specs.Sights.{seen, CountedFor}
 use Rattle.commands.specs.declared.texts.Texts.{Texts}
-use Rattle.paradyn_top.specs.declared.program.Words.{Words}
-use Rattle.paradyn_top.specs.declared.program.Words.TheVariants.{Read, NotText, NoMemory}
 use Rattle.paradyn_top.specs.declared.top.Reply.{Reply}
 
 -- An answer is due for words and what was seen of the files. What these hold stays, and no count of faults rose but that
@@ -64,12 +62,6 @@ pub record IsServed {F K L : Type 0} (holds : F → List ℕ → Holding) (fault
   -- A file that could not be read, and a sink that failed, tell themselves by the status.
   pub unread : (name : List ℕ) → (faults new name ≡ faults old name → ⊥) → (status ≡ 3) ⊎ ((status ≡ 7) ⊎ (status ≡ 8))
   pub unwritten : (faultsK newK ≡ faultsK oldK → ⊥) ⊎ (faultsL newL ≡ faultsL oldL → ⊥) → status ≡ 7
-
--- the words of a command line; words that aren't text are none, and are no command
-abbrev pub words_read : Words → Option (List (List ℕ))
-words_read (Read words) = Some (map string_bytes words.items)
-words_read NotText = Some []
-words_read NoMemory = None
 
 -- for proofs alone: what an answer comes to, where memory wasn't wanting
 abbrev pub told_of : Result Texts Refusal → Option (Result Texts Fault)

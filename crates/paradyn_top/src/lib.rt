@@ -4,13 +4,11 @@
 mod answering;
 mod delivery;
 mod laws;
-mod program;
 mod top;
 
 pub use command_words::log_name;
 pub use commands::{Found, Inputs, Texts, find, read_inputs};
 pub use delivery::deliver;
 pub use laws::one_owed;
-pub use program::{Words, run_program};
 pub use refusals::{ConfFault, ConfKind, Fault, LogCause, ProgramFault, faults_text};
 pub use top::{paradyn, serve};

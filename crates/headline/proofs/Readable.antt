@@ -42,7 +42,7 @@ use Rattle.w3_search.specs.declared.node.NodeState.TheVariants.{Confirmed, Rejec
 use Rattle.advice.specs.Seams.{AreSums, HasNumbers, AreSearchLines, IsHistogramLine, IsNodeLine, IsRefusedLine, IsSmall, is_one_line}
 use Rattle.advice.proofs.CanonicalFoci.{canonical_is_focus}
 use Rattle.advice.proofs.Spaced.{focus_above, word_line}
-use Rattle.direct_laws.specs.Readable.{HasNames, IsNodeOf, IsPrintable, SessionIsReadable}
+use Rattle.headline.specs.Readable.{HasNames, IsNodeOf, IsPrintable, SessionIsReadable}
 
 -- what holds of all holds of one
 at : {X : Type 0} (P : X → Type 0) (xs : List X) (k : ℕ) (x : X) → All P xs → slice_get xs k ≡ Some x → P x

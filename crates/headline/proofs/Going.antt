@@ -1,5 +1,5 @@
--- A child differs from its parent along an axis of the parent's hypothesis alone.
-use Rattle.std.proofs.Common.{◌≡◌, ◌⊎◌, inl, inr, ℕ, Bool, true, false, Option, Some, None, List, [], ◌∷◌, ◌++◌, map, refl, sym, ap, ◌∙◌, subst}
+-- Each node has a hypothesis, and differs from its parent along the axes of that alone.
+use Rattle.std.proofs.Common.{◌≡◌, ◌⊎◌, inl, inr, ℕ, suc, ◌+◌, Bool, true, false, cond, Option, Some, None, List, [], ◌∷◌, ◌++◌, map, refl, sym, ap, ◌∙◌, subst, arith}
 use Rattle.std.specs.Prelude.{slice_get}
 use Rattle.mdl_ast.specs.declared.items.Hypothesis.{Hypothesis}
 use Rattle.pn_types.specs.declared.focus.Axis.{Axis}
@@ -7,11 +7,11 @@ use Rattle.pn_types.specs.declared.focus.Axis.TheVariants.{Code, Machine, SyncOb
 use Rattle.pn_types.specs.declared.focus.Focus.{Focus}
 use Rattle.resource_tree.specs.Foci as foci
 use Rattle.resource_tree.specs.Resources.{Resources}
-use Rattle.w3_axes.specs.Refining.{axes_named, children, children_of, finer, finer_on, names_axis, refinements}
+use Rattle.w3_axes.specs.Refining.{axes_named, children, children_of, finer, finer_on, names_axis, numbers_from, refinements, roots}
 use Rattle.w3_search.specs.History.{In, IsChild, IsHistory, IsRoot, lineage_of}
 use Rattle.w3_search.specs.Steps.{SearchData}
 use Rattle.w3_search.specs.declared.node.Node.{Node}
-use Rattle.direct_laws.specs.Searched.{AreSameOn}
+use Rattle.headline.specs.Followed.{AreSameOn}
 
 -- ---- lists
 
@@ -124,3 +124,72 @@ node_same v history i number n parent here named stands h is axis off = by (hist
         let parent_is : c.parent ≡ parent = (let a = c.stands in let b = ap (λ k. slice_get v.nodes k) number_is in cc) in
         subst (λ (p : Node). AreSameOn axis n.focus p.focus) parent_is
         (child_same v.rules.hypotheses v.rules.tree axis c.parent.hypothesis n.hypothesis c.parent.focus n.focus h is c.child off)
+
+-- ---- the hypothesis of a node
+
+-- number j, where numbers begin at a, is that of one of these
+record Stands (hs : List Hypothesis) (a j : ℕ) : Type 0 where
+  k : ℕ
+  h : Hypothesis
+  number : j ≡ a + k
+  there : slice_get hs k ≡ Some h
+
+behind : (x : Hypothesis) (hs : List Hypothesis) (a j : ℕ) → Stands hs (a + 1) j → Stands (x ∷ hs) a j
+behind x hs a j s = let number = s.number in record { k = suc s.k; h = s.h; number = omega arith; there = s.there }
+
+number_there : (passes : Hypothesis → Bool) (hs : List Hypothesis) (a j : ℕ) → In j (numbers_from passes a hs) → Stands hs a j
+number_there passes [] a j there = absurd there
+number_there passes (x ∷ hs) a j there = by (passes x) (λ rest. behind x hs a j (number_there passes hs (a + 1) j rest)) there
+  where
+    by : (b : Bool) → (In j (numbers_from passes (a + 1) hs) → Stands (x ∷ hs) a j) → In j (cond b (a ∷ numbers_from passes (a + 1) hs) (numbers_from passes (a + 1) hs)) → Stands (x ∷ hs) a j
+    by true later (inl e) = record { k = 0; h = x; number = omega arith; there = refl }
+    by true later (inr rest) = later rest
+    by false later rest = later rest
+
+abbrev pub HasOne : List Hypothesis → ℕ → Type 0
+HasOne hs j = (h : Hypothesis) × (slice_get hs j ≡ Some h)
+
+from_first : (hs : List Hypothesis) (j : ℕ) → Stands hs 0 j → HasOne hs j
+from_first hs j s =
+    let number = s.number in
+    let same : j ≡ s.k = omega arith in
+    (s.h, subst (λ n. slice_get hs n ≡ Some s.h) (sym same) s.there)
+
+module _ (hs : List Hypothesis) (t : Resources) where
+  root_there : (j : ℕ) → In j (roots hs) → HasOne hs j
+  unfolding roots
+  root_there j there = from_first hs j (number_there _ hs 0 j there)
+
+  under_there : (name : List ℕ) (j : ℕ) → In j (refinements hs name) → HasOne hs j
+  unfolding refinements
+  under_there name j there = from_first hs j (number_there _ hs 0 j there)
+
+  child_of_there : (p j : ℕ) (focus below : Focus) (o : Option Hypothesis) → slice_get hs p ≡ o → IsOne j below (children_of hs t p focus o) → HasOne hs j
+  child_of_there p j focus below None is there = absurd there
+  child_of_there p j focus below (Some own) is there = by (parts (j, below) under lower there)
+    where
+      under : List (ℕ × Focus)
+      under = map (λ k. (k, focus)) (refinements hs own.name)
+
+      lower : List (ℕ × Focus)
+      lower = map (λ f. (p, f)) (finer t focus (axes_named own.axes))
+
+      by : IsOne j below under ⊎ IsOne j below lower → HasOne hs j
+      by (inl one) =
+          let e = from {X = ℕ} {Y = ℕ × Focus} (λ k. (k, focus)) (j, below) (refinements hs own.name) one in
+          subst (HasOne hs) (sym (ap (λ (x : ℕ × Focus). x.0) e.2)) (under_there own.name e.0 e.1)
+      by (inr one) =
+          let e = from {X = Focus} {Y = ℕ × Focus} (λ f. (p, f)) (j, below) (finer t focus (axes_named own.axes)) one in
+          subst (HasOne hs) (sym (ap (λ (x : ℕ × Focus). x.0) e.2)) (own, is)
+
+  child_there : (p j : ℕ) (focus below : Focus) → IsOne j below (children hs t p focus) → HasOne hs j
+  unfolding children
+  child_there p j focus below there = child_of_there p j focus below (slice_get hs p) refl there
+
+-- each node of a search is of a hypothesis that stands
+pub hypothesis_there : (v : SearchData) → IsHistory v → (i : ℕ) (n : Node) → slice_get v.nodes i ≡ Some n → HasOne v.rules.hypotheses n.hypothesis
+hypothesis_there v history i n here = by (history.origin i n here)
+  where
+    by : IsRoot v.rules (lineage_of n) ⊎ IsChild v.rules v.nodes i (lineage_of n) → HasOne v.rules.hypotheses n.hypothesis
+    by (inl root) = root_there v.rules.hypotheses v.rules.tree n.hypothesis root.1
+    by (inr c) = child_there v.rules.hypotheses v.rules.tree c.parent.hypothesis n.hypothesis c.parent.focus n.focus c.child

@@ -1,0 +1,5 @@
+pub mod Honest
+pub mod Followed
+pub mod Headline
+pub mod Program
+pub mod Readable
