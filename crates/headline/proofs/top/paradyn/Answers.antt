@@ -1,6 +1,6 @@
 use Rattle.std.specs.Prelude.{map, string_bytes}
-use Rattle.paradyn_top.proofs.Complete.{given}
-use Rattle.paradyn_top.proofs.top.paradyn.Goals as goal
+use Rattle.headline.proofs.Complete.{given}
+use Rattle.headline.proofs.top.paradyn.Goals as goal
 
 pub returns-then-begin_threaded : goal.returns-then-begin_threaded
 returns-then-begin_threaded g c =

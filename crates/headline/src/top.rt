@@ -1,7 +1,7 @@
 ghost use Rattle.std.specs.Prelude.{◌≡◌, ◌≢◌, false, IfOk, Result, Err, Some, map, string_bytes};
 ghost use Rattle.command_words.specs.Requests.{begins_threaded};
-ghost use Rattle.paradyn_top.specs.Answers.{status_of, texts_of};
-ghost use Rattle.paradyn_top.specs.Serving.{IsReply, IsServed, AreGained, AreTorn, told_of};
+ghost use Rattle.headline.specs.Answers.{status_of, texts_of};
+ghost use Rattle.headline.specs.Serving.{IsReply, IsServed, AreGained, AreTorn, told_of};
 ghost use Rattle.commands.specs.declared.texts.Texts.{Texts as texts};
 ghost use Rattle.refusals.specs.declared.fault.Fault.{Fault as fault};
 

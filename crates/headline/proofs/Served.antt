@@ -7,7 +7,7 @@ use Rattle.refusals.specs.declared.fault.Fault.TheVariants.{Usage, FileFault, Ba
 use Rattle.refusals.specs.declared.refusal.Refusal.{Refusal}
 use Rattle.refusals.specs.declared.refusal.Refusal.TheVariants as refusal
 use Rattle.commands.specs.Due.{IsDue}
-use Rattle.paradyn_top.specs.Serving.{IsOwed, IsUntold, told_of}
+use Rattle.headline.specs.Serving.{IsOwed, IsUntold, told_of}
 use Rattle.commands.specs.Sights.{seen, Counted, Looks}
 use Rattle.commands.specs.declared.texts.Texts.{Texts}
 

@@ -1,6 +1,6 @@
 use Rattle.std.specs.Prelude.{map, string_bytes}
-use Rattle.paradyn_top.proofs.Complete.{given}
-use Rattle.paradyn_top.proofs.top.serve.Goals as goal
+use Rattle.headline.proofs.Complete.{given}
+use Rattle.headline.proofs.top.serve.Goals as goal
 
 pub returns : goal.returns
 returns g c =

@@ -7,15 +7,15 @@ use Rattle.outside.specs.Causes.{count_up}
 use Rattle.outside.specs.Outside.{Holding}
 use Rattle.refusals.specs.declared.fault.Fault.{Fault}
 use Rattle.refusals.specs.declared.fault.Fault.TheVariants.{Usage, FileFault, BadProgram, BadConf, BadPick, BadLog, TooManyBlocks, BadDirectives, BadReport}
-use Rattle.paradyn_top.specs.Answers.{status_of, texts_of}
-use Rattle.paradyn_top.specs.Delivery.{IsTorn}
+use Rattle.headline.specs.Answers.{status_of, texts_of}
+use Rattle.headline.specs.Delivery.{IsTorn}
 use Rattle.commands.specs.Due.{AreOne, IsDue, is_live}
 use Rattle.commands.specs.Sights.{seen, Looks}
 use Rattle.refusals.specs.Refusals.{Comes}
 use Rattle.refusals.specs.declared.refusal.Refusal.{Refusal}
-use Rattle.paradyn_top.specs.Serving.{AreGained, AreTold, AreTorn, IsOwed, IsServed, IsSpared, IsUntold, OneOwed, told_of}
+use Rattle.headline.specs.Serving.{AreGained, AreTold, AreTorn, IsOwed, IsServed, IsSpared, IsUntold, OneOwed, told_of}
 use Rattle.commands.specs.declared.texts.Texts.{Texts}
-use Rattle.paradyn_top.proofs.Served.{owed, untold}
+use Rattle.headline.proofs.Served.{owed, untold}
 
 -- a sink that was torn isn't spared
 torn_rises : {K : Type 0} (has : K → Option (List ℕ)) (count : K → ℕ) (old new : K) (bytes : List ℕ) → IsTorn has count old new bytes → IsSpared (count old) (count new) → ⊥

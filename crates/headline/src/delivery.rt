@@ -1,5 +1,5 @@
 ghost use Rattle.std.specs.Prelude.{OnOk, OnErr};
-ghost use Rattle.paradyn_top.specs.Serving.{AreGained, AreTorn};
+ghost use Rattle.headline.specs.Serving.{AreGained, AreTorn};
 
 use commands::Texts;
 use outside::{Failed, Sink, write_all};

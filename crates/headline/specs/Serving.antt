@@ -6,12 +6,12 @@ use Rattle.refusals.specs.declared.fault.Fault.{Fault}
 use Rattle.refusals.specs.declared.fault.Fault.TheVariants.{FileFault}
 use Rattle.refusals.specs.declared.refusal.Refusal.{Refusal}
 use Rattle.refusals.specs.declared.refusal.Refusal.TheVariants as refusal
-use Rattle.paradyn_top.specs.Answers.{status_of, texts_of}
-use Rattle.paradyn_top.specs.Delivery.{IsTorn, Gained}
+use Rattle.headline.specs.Answers.{status_of, texts_of}
+use Rattle.headline.specs.Delivery.{IsTorn, Gained}
 use Rattle.commands.specs.Due.{AreOne, IsDue, is_live}
 use Rattle.commands.specs.Sights.{seen, CountedFor}
 use Rattle.commands.specs.declared.texts.Texts.{Texts}
-use Rattle.paradyn_top.specs.declared.top.Reply.{Reply}
+use Rattle.headline.specs.declared.top.Reply.{Reply}
 
 -- An answer is due for words and what was seen of the files. What these hold stays, and no count of faults rose but that
 -- of a file which the answer names as unread.

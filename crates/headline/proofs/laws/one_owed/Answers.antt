@@ -1,5 +1,5 @@
-use Rattle.paradyn_top.proofs.OneOwed.{owed_once}
-use Rattle.paradyn_top.proofs.laws.one_owed.Goals as goal
+use Rattle.headline.proofs.OneOwed.{owed_once}
+use Rattle.headline.proofs.laws.one_owed.Goals as goal
 
 pub returns : goal.returns
 returns g c old new words a b told owed other =

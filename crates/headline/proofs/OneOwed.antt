@@ -13,7 +13,7 @@ use Rattle.refusals.specs.declared.fault.Fault.TheVariants.{Usage, FileFault, Ba
 use Rattle.commands.proofs.OneDue.{Laws, due_once, of_same}
 use Rattle.commands.proofs.Rising.{NotFile, rises}
 use Rattle.commands.specs.Due.{AreOne, is_live}
-use Rattle.paradyn_top.specs.Serving.{AreTold, IsOwed}
+use Rattle.headline.specs.Serving.{AreTold, IsOwed}
 use Rattle.commands.specs.Sights.{seen, Counted}
 use Rattle.commands.specs.declared.texts.Texts.{Texts}
 
