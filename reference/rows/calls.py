@@ -151,7 +151,7 @@ def keep(case, rest):
 
 
 def meet(case, rest):
-    """That two workers meet before their second quanta is made by hand: the reference has no threads."""
+    """That two workers, or a run and a view, meet is made by hand: the reference has no threads."""
     name, _, words = rest.partition(b" ")
     status, out, log = case.served(words)
     case.files[name] = case.last = File(log.content)
