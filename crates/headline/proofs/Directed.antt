@@ -1,5 +1,5 @@
 -- What is printed of a search follows the directives by which its hypotheses were made.
-use Rattle.std.proofs.Common.{◌≡◌, ◌≢◌, ◌⊎◌, inl, inr, ℕ, zero, suc, ◌==◌, cond, Bool, true, false, Option, Some, None, Result, Ok, List, [], ◌∷◌, flat_map, map, refl, sym, ap, ◌∙◌, subst}
+use Rattle.std.proofs.Common.{◌≡◌, ◌≢◌, ◌⊎◌, inl, inr, ℕ, zero, suc, ◌==◌, cond, Bool, true, false, Option, Some, None, Ok, List, [], ◌∷◌, flat_map, map, refl, sym, ap, ◌∙◌, subst}
 use Rattle.std.specs.Prelude.{IfSome, length, nat_le, not, slice_get}
 use Rattle.std.specs.List.{list_any}
 use Rattle.std.specs.Option.{option_map_or}
@@ -27,8 +27,8 @@ use Rattle.resource_tree.specs.Resources.{Resources}
 use Rattle.session.specs.Parts.{node_part, search_part}
 use Rattle.session_spec.specs.Inputs.{Inputs}
 use Rattle.session_spec.specs.Searches.{rules_by, rules_of}
-use Rattle.session_spec.specs.Told.{AreEnded, IsJudged, IsOpenEnd}
-use Rattle.w3_axes.specs.Refining.{names_axis, threshold_of}
+use Rattle.session_spec.specs.Told.{IsJudged, IsOpenEnd}
+use Rattle.w3_axes.specs.Refining.{threshold_of}
 use Rattle.w3_axes.specs.Testing.{holds}
 use Rattle.w3_search.specs.Nodes.{most_nodes}
 use Rattle.w3_search.specs.Steps.{Rules, SearchData}

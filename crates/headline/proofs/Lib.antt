@@ -8,7 +8,7 @@ mod Found
 mod Going
 mod Directed
 mod Readable
-mod Words
+mod NarrowWords
 mod Narrow
 mod ShippedNarrow
 mod NarrowAfter

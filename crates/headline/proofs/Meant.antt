@@ -1,6 +1,6 @@
 -- What is due for a request tells what the headline says.
-use Rattle.std.proofs.Common.{◌≡◌, ℕ, ◌≤◌, ◌<◌, ◌^◌, Option, Some, None, Result, Ok, Err, List, [], length, refl, sym, ap, ◌∙◌, subst, inl, inr, arith}
-use Rattle.std.specs.Prelude.{IfSome, codes, replicate, slice_get}
+use Rattle.std.proofs.Common.{◌≡◌, ℕ, ◌<◌, ◌^◌, Option, Some, None, Result, Ok, Err, List, refl, sym, ap, ◌∙◌, subst, inl, inr, arith}
+use Rattle.std.specs.Prelude.{replicate, slice_get}
 use Rattle.advice.specs.Directives.{advice}
 use Rattle.advice.specs.Reading.{verdicts_of}
 use Rattle.advice.specs.declared.fault.ReportFault.{ReportFault}
@@ -17,7 +17,7 @@ use Rattle.directives.specs.declared.directive.Directive.{Directive}
 use Rattle.directives.specs.declared.fault.DirectiveFault.{DirectiveFault}
 use Rattle.mdl_ast.specs.declared.items.Conf.{Conf}
 use Rattle.mdl_ast.specs.declared.items.Item.{Item}
-use Rattle.mdl_check.specs.Checking.{IsAnswer, prefixes_of}
+use Rattle.mdl_check.specs.Checking.{IsAnswer}
 use Rattle.mdl_shipped.specs.Shipped.{shipped_conf}
 use Rattle.outside.specs.Outside.{IsBytes}
 use Rattle.pn_types.specs.Settings.{AreInRange}
@@ -63,15 +63,14 @@ use Rattle.commands.specs.Output.{output}
 use Rattle.commands.specs.Plans.{IsPlan, IsPlanDue}
 use Rattle.commands.specs.Replays.{IsRelogDue, IsReplay, IsReplayDue, IsReplayOf, replayed}
 use Rattle.commands.specs.Runnable.{FoundCanRun, MakesOf}
-use Rattle.commands.specs.Runs.{AreTexts, IsByWorkers, IsInOrder, IsLiveDue, IsOpened, IsPrepared, IsRunDue, IsSession, IsSessionOf, IsStressDue, IsVisiDue, Order, report_alone, report_and_log, stress_order, stress_session, stress_sight, summary_of, views_of}
+use Rattle.commands.specs.Runs.{AreTexts, IsByWorkers, IsInOrder, IsLiveDue, IsPrepared, IsRunDue, IsSession, IsSessionOf, IsStressDue, IsVisiDue, Order, report_alone, report_and_log, stress_order, stress_session, stress_sight, summary_of, views_of}
 use Rattle.commands.specs.Sights.{Sight}
 use Rattle.commands.specs.declared.finding.Found.{Found}
 use Rattle.commands.specs.declared.inputs.Inputs.{Inputs}
 use Rattle.commands.specs.declared.texts.Texts.{Texts}
 use Rattle.rv_asm.specs.declared.fault.AsmFault.{AsmFault}
-use Rattle.headline.specs.Followed.{AreFollowed}
 use Rattle.headline.specs.Headline.{AreViews, IsAsked, IsConfigurationOf, IsDirectedBy, IsLogOf, IsPlain, IsProgramOf, IsRunOf, Run, Tells, report_of}
-use Rattle.headline.specs.Honest.{IsHonest, end_of}
+use Rattle.headline.specs.Honest.{end_of}
 use Rattle.headline.proofs.Directed.{DirectiveLaws, IsMade, followed}
 use Rattle.headline.proofs.Files.{IsOfBytes, inputs_of, log_read, meant_again, program_of}
 use Rattle.headline.proofs.Ranges.{IsRanged}

@@ -1,5 +1,5 @@
 -- What is reported of any list of quanta is honest.
-use Rattle.std.proofs.Common.{◌≡◌, ℕ, ◌<◌, ◌≤◌, ◌^◌, Option, Some, None, List, ◌++◌, refl, ◌∙◌, arith}
+use Rattle.std.proofs.Common.{◌≤◌, Option, Some, None, List, refl, ◌∙◌, arith}
 use Rattle.std.specs.Prelude.{IfSome}
 use Rattle.machine.specs.Laws.{IsProgram}
 use Rattle.machine.specs.Quanta.{TimeGoesOn}

@@ -1,11 +1,9 @@
 -- What files hold, and a check accepts, is what a session can be given, with a program and metrics of 32 bits.
-use Rattle.std.proofs.Common.{◌≡◌, ◌⊎◌, inl, inr, ℕ, ◌<◌, ◌^◌, Bool, true, false, cond, Result, Ok, Err, List, refl, sym, subst}
+use Rattle.std.proofs.Common.{◌≡◌, inl, inr, ℕ, ◌<◌, ◌^◌, Bool, true, false, cond, Result, Ok, Err, List, refl, sym, subst}
 use Rattle.std.specs.List.{AllByRecursion}
 use Rattle.elf_form.specs.Meaning.{meaning_of}
 use Rattle.elf_form.specs.declared.fault.ElfFault.{ElfFault}
-use Rattle.machine.specs.Laws.{IsProgram}
 use Rattle.mdl_ast.specs.declared.items.Conf.{Conf}
-use Rattle.mdl_ast.specs.declared.items.Item.{Item}
 use Rattle.mdl_shipped.specs.Shipped.{shipped_conf}
 use Rattle.pn_types.specs.Images.{text_of}
 use Rattle.pn_types.specs.Settings.{AreInRange}
@@ -16,14 +14,14 @@ use Rattle.rv_asm.specs.declared.fault.AsmFault.{AsmFault}
 use Rattle.rv_word.specs.Names.{words_of}
 use Rattle.commands.specs.Found.{AreFound, resources_of}
 use Rattle.commands.specs.Given.{inputs_with}
-use Rattle.commands.specs.Inputs.{begins_elf, image_of, or_bad_elf, or_bad_text}
+use Rattle.commands.specs.Inputs.{begins_elf, or_bad_elf, or_bad_text}
 use Rattle.commands.specs.Runnable.{FoundCanRun, IsConfOf, IsImageOf, MakesOf}
 use Rattle.commands.specs.declared.finding.Found.{Found}
 use Rattle.headline.proofs.Narrow.{IsNarrow, narrow_checked, narrow_conf}
 use Rattle.headline.proofs.NarrowAfter.{narrow_after}
 use Rattle.headline.proofs.Reports.{IsRunnable}
 use Rattle.headline.proofs.ShippedNarrow.{shipped_narrow}
-use Rattle.headline.proofs.Words.{asm_narrow, elf_narrow}
+use Rattle.headline.proofs.NarrowWords.{asm_narrow, elf_narrow}
 
 -- ---- the program's words
 

@@ -4,7 +4,6 @@ use Rattle.std.specs.Prelude.{is_none, slice_get}
 use Rattle.fold_hist.specs.Bins.{hist_of}
 use Rattle.fold_hist.specs.declared.bin.Bin.{Bin}
 use Rattle.machine.specs.Cores.{In}
-use Rattle.pn_types.specs.declared.quantum.Quantum.{Quantum}
 use Rattle.report.specs.declared.parts.ShownPart.{ShownPart}
 use Rattle.session.specs.Bins.{IsPartOf}
 use Rattle.session.specs.Parts.{parts_of, shown_part, shown_parts}
