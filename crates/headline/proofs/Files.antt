@@ -27,7 +27,7 @@ use Rattle.commands.specs.Logs.{IsLog, IsLogContent, MeansLog, log_with, or_bad_
 use Rattle.commands.specs.Sights.{Sight}
 use Rattle.commands.specs.declared.inputs.Inputs.{Inputs}
 use Rattle.headline.specs.Headline.{IsConfigurationOf, IsProgramOf}
-use Rattle.headline.proofs.Steps.{Came, came, content, ok_is}
+use Rattle.headline.proofs.Steps.{Came, came, content_of, ok_is}
 
 -- what is seen of a file are bytes
 abbrev pub IsOfBytes : Sight → List ℕ → Type 0
@@ -39,13 +39,13 @@ module _ (sees : Sight) where
   pub program_of : (name : List ℕ) (image : Image) → IsOfBytes sees name → IsProgram sees name (Ok image) → IsProgramOf sees name image
   program_of name image bytes step =
       let b = came (IsProgramContent sees name) (λ bytes x. x ≡ image_of bytes) image step in
-      let c = content sees 33554432 _ name b.a b.first in
+      let c = content_of sees 33554432 _ name b.a b.first in
       (b.a, c.told, record { are = bytes b.a c.told; short = c.few; means = sym b.next })
 
   pub configuration_of : (name : List ℕ) (conf : Conf) → IsConfiguration sees name (Ok conf) → IsConfigurationOf sees name conf
   configuration_of name conf step =
       let b = came (IsConfContent sees name) MeansConf conf step in
-      let c = content sees 1048576 _ name b.a b.first in
+      let c = content_of sees 1048576 _ name b.a b.first in
       (b.a, c.told, record { short = c.few; spelled = b.next })
 
   -- what two files hold
@@ -90,7 +90,7 @@ module _ (sees : Sight) (name : List ℕ) where
       let settings : Settings = l.a.settings in
       let quanta : List Quantum = l.a.quanta in
       let c = came (IsLogContent sees name) MeansLog l.a l.first in
-      let told = content sees 268435496 _ name c.a c.first in
+      let told = content_of sees 268435496 _ name c.a c.first in
       let means : meaning_of c.a ≡ Ok (settings, quanta) =
       (elim (meaning_of c.a) as (λ m. Ok l.a ≡ or_bad_log c.a m → m ≡ Ok (settings, quanta)) [
         | Ok p ↦ λ e. sym (through {X = Result (Settings × List Quantum) LogFault} l.a (log_with c.a p) (ok_is l.a (log_with c.a p) e) (λ x. Ok (x.settings, x.quanta)))

@@ -76,7 +76,7 @@ use Rattle.headline.proofs.Files.{IsOfBytes, inputs_of, log_read, meant_again, p
 use Rattle.headline.proofs.Ranges.{IsRanged}
 use Rattle.headline.proofs.Reports.{IsRunnable, Laws, honest}
 use Rattle.headline.proofs.Runnable.{runnable}
-use Rattle.headline.proofs.Steps.{came, content, ok_is, opened}
+use Rattle.headline.proofs.Steps.{came, content_of, ok_is, opened}
 use Rattle.headline.proofs.StressTexts.{program_bytes}
 use Rattle.headline.proofs.Views.{fed_parts}
 
@@ -275,7 +275,7 @@ module _ (laws : AllLaws) (sees : Sight) where
         let are : IsMade conf.items d.a i.checked = made_of image settings.harts conf m.a d.a f.a g.a f.first made g.first in
         let given : IsDirectedBy sees q.directives (run_with image conf m.a g.a settings t.0) = record {
           text = text.a;
-          told = (content sees 1048576 _ q.directives text.a text.first).told;
+          told = (content_of sees 1048576 _ q.directives text.a text.first).told;
           directives = d.a;
           spelled = text.next;
           made = made;
@@ -311,7 +311,7 @@ module _ (laws : AllLaws) (sees : Sight) where
     asm_tells name due =
         let f = came (IsElfFile sees name) (λ file t. t ≡ Ok (output file)) texts due in
         let b = came (IsProgramContent sees name) (λ text file. file ≡ file_of text) f.a f.first in
-        let c = content sees 33554432 _ name b.a b.first in
+        let c = content_of sees 33554432 _ name b.a b.first in
         let is : texts ≡ output f.a = ok_is texts (output f.a) f.next in
         let file : elf_of b.a ≡ Ok f.a = file_is f.a (elf_of b.a) b.next in
         let out : elf_of b.a ≡ Ok texts.out = file ∙ ap (λ (t : Texts). Ok t.out) (sym is) in
@@ -333,7 +333,7 @@ module _ (laws : AllLaws) (sees : Sight) where
     advise_tells : (name : List ℕ) → IsAdviseDue name sees (Ok texts) → Tells (Some (advise name)) sees texts
     advise_tells name due =
         let r = came (IsReportContent sees name) (λ report t. t ≡ advised (verdicts_of report)) texts due in
-        let c = content sees 33554432 _ name r.a r.first in
+        let c = content_of sees 33554432 _ name r.a r.first in
         let v = advised_is (verdicts_of r.a) r.next in
         (r.a, c.told, v.0, v.1, v.2)
 

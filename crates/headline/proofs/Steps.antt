@@ -40,8 +40,8 @@ within : (most : ℕ) (fault : Fault) (bytes content : List ℕ) (b : Bool) → 
 within most fault bytes content true l e = absurd (cc)
 within most fault bytes content false l e = (sym (ok_is content bytes e), ltb-false most (length bytes) l)
 
-pub content : (sees : Sight) (most : ℕ) (fault : Fault) (name content : List ℕ) → IsContent sees most fault name (Ok content) → Content sees most name content
-content sees most fault name content step =
+pub content_of : (sees : Sight) (most : ℕ) (fault : Fault) (name content : List ℕ) → IsContent sees most fault name (Ok content) → Content sees most name content
+content_of sees most fault name content step =
     let c = came (sees name) (λ bytes x. x ≡ limited most fault bytes) content step in
     let w = within most fault c.a content (nat_lt most (length c.a)) refl c.next in
     subst (Content sees most name) w.0 (record { told = c.first; few = w.1 })
