@@ -5,16 +5,22 @@
 
 The crates are those that have rows: top_cases, language_rows, machine_rows and paradyn, all where none is named. Each
 `stdout` is written; with --check it is compared, the rows that differ are told, and the status is 1 where there are
-some. `reference/by_hand.txt` lists the rows whose expectation the reference doesn't make whole."""
+some. `reference/by_hand.txt` lists the rows whose expectation the reference doesn't make whole.
+
+With --check of top_cases the examples are held against its rows too: a file of a row that has the name of a file of
+examples/ has the same bytes, and the commands of README.md and of examples/ print what the rows with their words do."""
 
 import argparse
+import os
 import pathlib
+import subprocess
 import sys
 
 TOP = pathlib.Path(__file__).resolve().parent.parent
 sys.dont_write_bytecode = True
 sys.path.insert(0, str(TOP / "reference"))
 
+from rows import calls  # noqa: E402
 from rows.tables import CRATES  # noqa: E402
 
 MOST_SHOWN = 10
@@ -63,6 +69,28 @@ def check(crate, rows):
     return differ
 
 
+def other_files():
+    """The names of files of examples/ that files of rows have with other bytes."""
+    names = set()
+    for _, _, case in calls.calls((TOP / "crates/top_cases/stdin").read_bytes()):
+        for name, file in case.files.items():
+            example = TOP / "examples" / os.fsdecode(name)
+            if example.is_file() and example.read_bytes() != file.content:
+                names.add(example.name)
+    return sorted(names)
+
+
+def are_shown():
+    """Whether the examples are what the rows say, which is told where they aren't."""
+    names = other_files()
+    for name in names:
+        print(f"examples/{name}: a file of a row has other bytes")
+    row = str(TOP / "tools/row.py")
+    shown = subprocess.run([TOP / "tools/shown.py", row], check=False).returncode
+    run = subprocess.run([TOP / "examples/run.sh"], env=dict(os.environ, PARADYN=row), check=False).returncode
+    return not names and shown == 0 and run == 0
+
+
 def main():
     parser = argparse.ArgumentParser()
     parser.add_argument("--check", action="store_true")
@@ -76,7 +104,9 @@ def main():
         if options.check:
             differ = check(crate, rows)
             failed = failed or differ > 0
-            print(f"{line}; {len(rows) - differ} agree, {differ} differ")
+            print(f"{line}; {len(rows) - differ} agree, {differ} differ", flush=True)
+            if crate == "top_cases":
+                failed = not are_shown() or failed
         else:
             (TOP / "crates" / crate / "stdout").write_bytes(b"".join(text for _, text in rows))
             print(line)

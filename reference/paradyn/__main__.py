@@ -16,7 +16,17 @@ def read(name):
         return None
 
 
+def text_of(words):
+    """The words, or none where they aren't text."""
+    try:
+        "".join(words).encode()
+    except UnicodeEncodeError:
+        return []
+    return words
+
+
 def main(words):
+    words = text_of(words)
     result = execute(words, read)
     log = log_name(words) if result.status == 0 else None
     try:

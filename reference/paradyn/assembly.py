@@ -115,7 +115,7 @@ def _number(text):
 #   ('jal', rd, name) ('la', rd, name)
 
 # Operand shapes: R register, N number, L label name, S string, signs as such.
-R3 = "R,R,R"
+THREE_REGISTERS = "R,R,R"
 SHAPES = {}
 
 
@@ -125,7 +125,7 @@ def _shape(ops, shape):
 
 
 _shape("add sub sll slt sltu xor srl sra or and addw subw sllw srlw sraw "
-       "mul mulh mulhsu mulhu div divu rem remu mulw divw divuw remw remuw", R3)
+       "mul mulh mulhsu mulhu div divu rem remu mulw divw divuw remw remuw", THREE_REGISTERS)
 _shape("addi slti sltiu xori ori andi slli srli srai "
        "addiw slliw srliw sraiw", "R,R,N")
 _shape("lb lh lw ld lbu lhu lwu sb sh sw sd jalr", "R,N(R)")
@@ -238,7 +238,7 @@ def translate(op, shape, v):
     name = op.decode()
     if shape == "R,R,L":
         return [("branch", name, v[0], v[1], v[2])]
-    if shape == R3:
+    if shape == THREE_REGISTERS:
         word = enc(name, v[0], v[1], v[2])
     elif shape == "R,R,N":
         word = enc(name, v[0], v[1], imm=v[2])

@@ -1,5 +1,6 @@
 """The rows of `top_cases`: calls over files and sinks in memory."""
 import binascii
+import functools
 
 from paradyn import commands
 
@@ -151,7 +152,7 @@ def keep(case, rest):
 
 
 def meet(case, rest):
-    """That two workers meet before their second quanta is made by hand: the reference has no threads."""
+    """That two workers, or a run and a view, meet is made by hand: the reference has no threads."""
     name, _, words = rest.partition(b" ")
     status, out, log = case.served(words)
     case.files[name] = case.last = File(log.content)
@@ -196,14 +197,20 @@ CALLS = {b"words": serve, b"begin": begin, b"keep": keep, b"meet": meet, b"count
          b"deliver": deliver_row, b"row": row}
 
 
-def answers(stdin):
-    """Pairs of a call's line and what is printed behind it."""
+def calls(stdin):
+    """Triples of a call's line, its function and the case as it is then."""
     case = Case()
     for line in stdin.split(b"\n"):
         word, _, rest = (b"|", b"", line[1:]) if line.startswith(b"|") else line.partition(b" ")
         if word == b"new":
             case = Case()
         elif word in CALLS:
-            yield line, line + b"\n" + CALLS[word](case, rest)
+            yield line, functools.partial(CALLS[word], rest=rest), case
         elif word not in (b"", b"#"):
             case.take(word, rest)
+
+
+def answers(stdin):
+    """Pairs of a call's line and what is printed behind it."""
+    for line, call, case in calls(stdin):
+        yield line, line + b"\n" + call(case)

@@ -145,8 +145,12 @@ replay_request given =
 abbrev pub plan_request : Given → Option Request
 plan_request given =
     option_map (λ harts. plan (record {
-      program = place_in given (codes "program"); conf = place_in given (codes "conf");
-      metric = place_in given (codes "metric"); focus = place_in given (codes "focus"); harts = harts }))
+      program = place_in given (codes "program");
+      conf = place_in given (codes "conf");
+      metric = place_in given (codes "metric");
+      focus = place_in given (codes "focus");
+      harts = harts;
+    }))
     (number_given given harts_option)
 
 abbrev pub stress_request : Given → Option Request

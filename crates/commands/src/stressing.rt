@@ -64,12 +64,7 @@ fn prepare_made(alloc: Global, request: StressRequest) -> Result<Prepared, Refus
 }
 
 /// The line that sums up a session in this order.
-fn sum_up(
-    alloc: Global,
-    inputs: Inputs,
-    order: TurnOrder,
-    procs: u32,
-) -> Result<Texts, Refusal>
+fn sum_up(alloc: Global, inputs: Inputs, order: TurnOrder, procs: u32) -> Result<Texts, Refusal>
     requires given { AreGiven inputs }
     requires order { IsOrderInRange order }
     ensures { Comes result (IsSession (IsInOrder order) (summary_of procs) inputs) }

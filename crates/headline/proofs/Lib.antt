@@ -1,3 +1,6 @@
+mod OneOwed
+mod Served
+mod Complete
 mod Histories
 mod Times
 mod Reports

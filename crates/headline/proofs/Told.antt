@@ -4,8 +4,8 @@ use Rattle.command_words.specs.Requests.{request_of}
 use Rattle.commands.specs.Sights.{seen}
 use Rattle.commands.specs.declared.texts.Texts.{Texts}
 use Rattle.outside.specs.Outside.{Holding}
-use Rattle.paradyn_top.specs.Answers.{status_of, texts_of}
-use Rattle.paradyn_top.specs.Serving.{AreGained, IsOwed, IsServed}
+use Rattle.headline.specs.Answers.{status_of, texts_of}
+use Rattle.headline.specs.Serving.{AreGained, IsOwed, IsServed}
 use Rattle.refusals.specs.Faults.{fault_status}
 use Rattle.refusals.specs.declared.fault.Fault.{Fault}
 use Rattle.refusals.specs.declared.fault.Fault.TheVariants.{Usage, FileFault, BadProgram, BadConf, BadPick, BadLog, TooManyBlocks, BadDirectives, BadReport}

@@ -1,3 +1,6 @@
+pub mod Answers
+pub mod Delivery
+pub mod Serving
 pub mod Honest
 pub mod Followed
 pub mod Headline

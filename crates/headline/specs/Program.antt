@@ -4,7 +4,7 @@ use Rattle.command_words.specs.Requests.{request_of}
 use Rattle.commands.specs.Sights.{seen}
 use Rattle.commands.specs.declared.texts.Texts.{Texts}
 use Rattle.outside.specs.Outside.{Holding}
-use Rattle.paradyn_top.specs.Serving.{AreGained, IsOwed, IsServed}
+use Rattle.headline.specs.Serving.{AreGained, IsOwed, IsServed}
 use Rattle.headline.specs.Headline.{Tells}
 use Rattle.headline.specs.declared.program.Words.{Words}
 use Rattle.headline.specs.declared.program.Words.TheVariants.{Read, NotText, NoMemory}

@@ -3,8 +3,8 @@ ghost use Rattle.std.specs.Process.{exit_status};
 ghost use Rattle.headline.specs.Program.{IsTold, words_read};
 
 use crate::laws::owed_is_honest;
+use crate::top::paradyn;
 use outside::{Files, Gate, Sink};
-use paradyn_top::paradyn;
 use std::alloc::Global;
 use std::process::ExitCode;
 use std::sync::Wait;

@@ -1,9 +1,8 @@
 //! The program: it makes the real files and sinks and hands them to the top call.
 #![tactic(auto)]
 
-use headline::{Words, run_program};
+use headline::{Words, log_name, run_program};
 use outside::{DropSink, FileSink, OpenGate, OsFiles, StdSink};
-use paradyn_top::log_name;
 use pn_types::NoMemory;
 use std::alloc::Global;
 use std::process::ExitCode;

@@ -1,0 +1,39 @@
+#!/usr/bin/env python3
+"""Prints what a row of top_cases says that the program prints for words, and ends with the row's status.
+
+    tools/row.py WORD..
+
+It stands in the program's place where commands that are shown are held against the rows: the gate compares what the program prints
+with these. Of a row that says alone whether workers met, or whether outputs are the same, nothing is printed. Where no row has these
+words, that is told, and the status is 1."""
+
+import pathlib
+import re
+import sys
+
+TOP = pathlib.Path(__file__).resolve().parent.parent
+STDOUT = TOP / "crates/top_cases/stdout"
+ENDED = rb"\nExitCode\(unix_exit_status\((\d+)\)\)"
+
+
+def row_of(words, rows):
+    """The status of the row with these words, and what it prints; or None."""
+    served = re.search(rb"^words " + re.escape(words) + ENDED + rb" out (\d+) log \d+\n", rows, re.M)
+    if served:
+        return int(served[1]), rows[served.end():served.end() + int(served[2])]
+    silent = re.search(rb"^(?:meet \S+|compare) " + re.escape(words) + ENDED + rb" (?:met|same report)\n", rows, re.M)
+    return (int(silent[1]), b"") if silent else None
+
+
+def main():
+    words = " ".join(sys.argv[1:])
+    row = row_of(words.encode(), STDOUT.read_bytes())
+    if row is None:
+        print(f"no row has the words {words}", file=sys.stderr)
+        return 1
+    sys.stdout.buffer.write(row[1])
+    return row[0]
+
+
+if __name__ == "__main__":
+    sys.exit(main())
