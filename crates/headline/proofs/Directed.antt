@@ -37,7 +37,7 @@ use Rattle.w3_search.specs.declared.node.NodeState.{NodeState}
 use Rattle.w3_search.specs.declared.node.NodeState.TheVariants.{Barred, Confirmed, Rejected, Unfinished}
 use Rattle.headline.specs.Followed.{AreFollowed, AreSameOn}
 use Rattle.headline.specs.Honest.{AreVerdicts, IsHonest, end_of}
-use Rattle.headline.proofs.Found.{both_true, untested}
+use Rattle.headline.proofs.Untested.{both_true, untested}
 use Rattle.headline.proofs.Going.{hypothesis_there, node_same}
 
 -- the laws of directives

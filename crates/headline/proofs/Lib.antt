@@ -4,7 +4,7 @@ mod Complete
 mod Histories
 mod Times
 mod Reports
-mod Found
+mod Untested
 mod Going
 mod Directed
 mod Readable
