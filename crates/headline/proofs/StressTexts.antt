@@ -61,8 +61,25 @@ one_procedure i length behind few some h =
     let own = number i few in
     let each : AllByRecursion IsAscii parts = (
       literal (codes ".proc w") refl,
-      (own, (literal (codes "\naddi sp, sp, -16\nsd ra, 0(sp)\nli t1, ") refl, (number length some, (literal (codes "\nloop") refl, (own, (literal (codes ":\naddi t1, t1, -1\nbnez t1, loop") refl,
-      (own, (literal (codes "\n") refl, (h, (literal (codes "ld ra, 0(sp)\naddi sp, sp, 16\nret\n.end\n") refl, tt)))))))))),
+      (
+        own,
+        (
+          literal (codes "\naddi sp, sp, -16\nsd ra, 0(sp)\nli t1, ") refl,
+          (
+            number length some,
+            (
+              literal (codes "\nloop") refl,
+              (
+                own,
+                (
+                  literal (codes ":\naddi t1, t1, -1\nbnez t1, loop") refl,
+                  (own, (literal (codes "\n") refl, (h, (literal (codes "ld ra, 0(sp)\naddi sp, sp, 16\nret\n.end\n") refl, tt)))),
+                ),
+              ),
+            ),
+          ),
+        ),
+      ),
     ) in
     all_of parts each
 
