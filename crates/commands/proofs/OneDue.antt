@@ -149,7 +149,7 @@ module _ (laws : Laws) where
       ap (λ (x : Fault). Err x) (e ∙ ap checked_fault one ∙ sym e')
 
   abbrev made : Resources → List Proc → ℕ → List Point → Checked → Found
-  made tree procs skipped points checked = record { tree = tree; procs = procs; skipped = skipped; points = points; checked = checked }
+  made tree procs skipped places checked = record { tree = tree; procs = procs; skipped = skipped; points = places; checked = checked }
 
   found_once : (image : Image) (harts : ℕ) (conf : Conf) → IsOne (IsFound image harts conf)
   found_once image harts conf (Ok f) (Ok g) a b =
@@ -178,7 +178,7 @@ module _ (laws : Laws) where
   selected_once t text r s (o, a, e) (p, b, f) = e ∙ ap or_bad_focus (laws.selection t text o p a b) ∙ sym f
 
   planned_once : (metric focus : List ℕ) (due : Result Plan PlanFault) → IsOne (IsPlanned metric focus due)
-  planned_once metric focus (Ok plan) a b e f = e ∙ sym f
+  planned_once metric focus (Ok made) a b e f = e ∙ sym f
   planned_once metric focus (Err (cause.NoConstraint axis)) a b e f = e ∙ sym f
   planned_once metric focus (Err (cause.TooManySites n)) a b e f = e ∙ sym f
   planned_once metric focus (Err (cause.TooManyStmts at)) a b e f = e ∙ sym f

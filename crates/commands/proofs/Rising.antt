@@ -123,7 +123,7 @@ focus_spared None name e = cc
 focus_spared (Some m) name e = cc
 
 plan_spared : (metric focus : List ℕ) (due : Result Plan PlanFault) (name : List ℕ) → IsPlanned metric focus due (Err (FileFault name)) → ⊥
-plan_spared metric focus (Ok plan) name e = cc
+plan_spared metric focus (Ok made) name e = cc
 plan_spared metric focus (Err (cause.NoConstraint axis)) name e = cc
 plan_spared metric focus (Err (cause.TooManySites n)) name e = cc
 plan_spared metric focus (Err (cause.TooManyStmts at)) name e = cc
