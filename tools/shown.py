@@ -3,11 +3,11 @@
 
     tools/shown.py [--make] [PARADYN]
 
-A command is an indented line of a document that begins with `$`; what it prints are the indented lines below it, up to the next
-command. All of a document are run one after another in a copy of one folder of examples/, where `paradyn` is PARADYN, or
-crates/paradyn/out/paradyn where left out. Each that prints something else is told, and the status is 1 where there are some.
-With --make what they print is put into the documents instead. With tools/row.py as PARADYN they are held against the rows of top_cases. Where the GNU compiler for RISC-V isn't installed, the commands
-that call it are left out, and told."""
+A command is an indented line of a document that begins with `$`, and goes on below where it ends in `\\`; what it prints are the indented
+lines below it, up to the next command. All of a document are run one after another in a copy of one folder of examples/, where
+`paradyn` is PARADYN, or crates/paradyn/out/paradyn where left out. Each that prints something else is told, and the status is 1 where
+there are some. With --make what they print is put into the documents instead. With tools/row.py as PARADYN they are held against the
+rows of top_cases. Where the GNU compiler for RISC-V isn't installed, the commands that call it are left out, and told."""
 
 import os
 import pathlib
@@ -30,6 +30,14 @@ class Command:
     def __init__(self, words, first):
         self.words, self.first, self.end = words, first, first
 
+    def goes_on(self, number):
+        """Whether the line of this number belongs to it."""
+        return number == self.first and self.words.endswith("\\")
+
+    def go_on(self, words):
+        self.words += "\n" + words
+        self.first = self.end = self.first + 1
+
     def shown(self, lines):
         return "".join(line.removeprefix(INDENT) + "\n" for line in lines[self.first:self.end])
 
@@ -38,7 +46,9 @@ def commands(lines):
     """The commands of a document's lines."""
     found, is_shown = [], False
     for number, line in enumerate(lines):
-        if line.startswith(INDENT + "$ "):
+        if is_shown and found[-1].goes_on(number):
+            found[-1].go_on(line.removeprefix(INDENT))
+        elif line.startswith(INDENT + "$ "):
             found.append(Command(line.removeprefix(INDENT + "$ "), number + 1))
             is_shown = True
         elif not line.startswith(INDENT):
