@@ -6,7 +6,7 @@
 The files are those of examples/ and, below FOLDER, the ELF files (*.elf) and assembly texts (*.s). Of each case bytes of one
 file are flipped or replaced, taken out, doubled or cut off at the end, and each command that reads such a file is run with it.
 The file is a program, a configuration, a log, directives or a report; in some cases it is the words that are random. The cases
-are numbered from FIRST (0 where left out), and one of a number is always the same. A run may end with a status that the README
+are numbered from FIRST (0 where left out), and one of a number is always the same. A run may end with a status that docs/FORMATS.md
 names, within 20 seconds, and after any but 0, 7 and 8 the output is one line. PARADYN is crates/paradyn/out/paradyn where left
 out."""
 
