@@ -7,7 +7,8 @@ A command is an indented line of a document that begins with `$`, and goes on be
 lines below it, up to the next command. All of a document are run one after another in a copy of one folder of examples/, where
 `paradyn` is PARADYN, or crates/paradyn/out/paradyn where left out. Each that prints something else is told, and the status is 1 where
 there are some. With --make what they print is put into the documents instead. With tools/row.py as PARADYN they are held against the
-rows of top_cases. Where the GNU compiler for RISC-V isn't installed, the commands that call it are left out, and told."""
+rows of top_cases. Where the compiler that made the ELF files in examples/words isn't installed, the commands that call it are left
+out, and told."""
 
 import os
 import pathlib
@@ -19,6 +20,7 @@ import tempfile
 TOP = pathlib.Path(__file__).resolve().parent.parent
 # Each document, with the folder of examples/ that its commands are run in.
 DOCUMENTS = [("README.md", "words"), ("examples/README.md", "."), ("docs/GUIDE.md", "words"), ("docs/METRICS.md", "recipes")]
+COMPILER = "riscv64-unknown-elf-gcc"
 COMPILERS = ("pdcc", "riscv64-unknown-elf-")
 INDENT = "    "
 SECONDS = 300
@@ -58,6 +60,15 @@ def commands(lines):
     return found
 
 
+def has_compiler():
+    """Whether the compiler that made the ELF files is installed: another version makes other programs."""
+    if shutil.which(COMPILER) is None:
+        return False
+    told = subprocess.run([COMPILER, "--version"], capture_output=True, check=True).stdout
+    version = told.split(b"\n")[0].partition(b" ")[2]
+    return version in (TOP / "examples/words/words.elf").read_bytes()
+
+
 def printed(words, folder, path):
     """What a command prints in the folder."""
     done = subprocess.run(["bash", "-c", words], cwd=folder, env=dict(os.environ, PATH=path), stdin=subprocess.DEVNULL,
@@ -67,7 +78,7 @@ def printed(words, folder, path):
 
 def run_document(name, folder, paradyn):
     """What each command of a document shows and prints; nothing for those that are left out."""
-    has_compiler = shutil.which("riscv64-unknown-elf-gcc") is not None
+    compiles = has_compiler()
     lines = (TOP / name).read_text().split("\n")
     answers = []
     with tempfile.TemporaryDirectory() as scratch:
@@ -76,7 +87,7 @@ def run_document(name, folder, paradyn):
         programs.mkdir()
         (programs / "paradyn").symlink_to(paradyn)
         for command in commands(lines):
-            if has_compiler or not any(compiler in command.words for compiler in COMPILERS):
+            if compiles or not any(compiler in command.words for compiler in COMPILERS):
                 answers.append((command, printed(command.words, examples / folder, f"{programs}:{os.environ['PATH']}")))
             else:
                 answers.append((command, None))
