@@ -1,6 +1,5 @@
 -- What is due is unique where each file was seen as one thing.
 use Rattle.std.proofs.Common.{◌≡◌, ℕ, Bool, true, false, List, Option, Some, None, Result, Ok, Err, refl, sym, ap, ◌∙◌}
-use Rattle.std.specs.Prelude.{codes}
 use Rattle.command_words.specs.Requests.{Request, SessionRequest, LiveRequest, ReplayRequest, PlanRequest, DirectRequest, run, live, replay, plan, asm, points, relog, stress, blocks, visi, advise, direct, request_of}
 use Rattle.command_words.specs.declared.requests.TurnOrder.{TurnOrder}
 use Rattle.advice.specs.Reading.{verdicts_of}

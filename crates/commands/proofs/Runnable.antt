@@ -1,5 +1,5 @@
 -- What files hold, and a check accepts, can be run.
-use Rattle.std.proofs.Common.{◌≡◌, ◌⊎◌, inl, inr, ℕ, ◌<◌, ◌≤◌, ◌^◌, Bool, true, false, cond, Result, Ok, Err, List, [], ◌∷◌, length, refl, sym, ap, ◌∙◌, subst, arith}
+use Rattle.std.proofs.Common.{◌≡◌, inl, inr, ℕ, ◌<◌, ◌≤◌, ◌^◌, Bool, true, false, cond, Result, Ok, Err, List, [], ◌∷◌, length, sym, ap, ◌∙◌, subst, arith}
 use Rattle.std.specs.List.{AllByRecursion}
 use Rattle.std.specs.List.Sorted.{IsStrictlyIncreasing}
 use Rattle.std.specs.Prelude.{map}
@@ -21,7 +21,6 @@ use Rattle.mdl_parse.proofs.SmallItems.{small_conf}
 use Rattle.mdl_plan.specs.Fitting.{HasLowObjects}
 use Rattle.mdl_shipped.proofs.ShippedSmall.{shipped_small}
 use Rattle.mdl_shipped.specs.Shipped.{shipped_conf}
-use Rattle.outside.specs.Outside.{IsBytes}
 use Rattle.pn_types.specs.Images.{IsImage}
 use Rattle.pn_types.specs.declared.code.Point.{Point}
 use Rattle.pn_types.specs.declared.code.Proc.{Proc}
@@ -36,7 +35,7 @@ use Rattle.rv_asm.specs.declared.fault.AsmFault.{AsmFault}
 use Rattle.rv_mem.specs.Start.{program_of}
 use Rattle.commands.specs.Found.{AreFound, resources_of}
 use Rattle.commands.specs.Given.{CanRun, IsUnscratched}
-use Rattle.commands.specs.Inputs.{begins_elf, image_of, or_bad_elf, or_bad_text}
+use Rattle.commands.specs.Inputs.{begins_elf, or_bad_elf, or_bad_text}
 use Rattle.commands.specs.Runnable.{IsConfOf, IsImageOf, MakesOf}
 use Rattle.commands.specs.declared.finding.Found.{Found}
 use Rattle.commands.proofs.Directed.{applied_few}

@@ -5,7 +5,7 @@ ghost use Rattle.command_words.specs.Asked.{asked_session, asked_stress};
 ghost use Rattle.command_words.specs.Requests.{IsOrderInRange};
 ghost use Rattle.outside.specs.SureFiles.{content_of};
 ghost use Rattle.commands.specs.Preparing.{Gives};
-ghost use Rattle.commands.specs.Runs.{IsInOrder, IsPrepared, IsSession, IsStressDue, stress_order, stress_session, stress_sight, summary_of};
+ghost use Rattle.commands.specs.Runs.{IsInOrder, IsPrepared, IsSession, IsStressDue, stress_session, stress_sight, summary_of};
 ghost use Rattle.refusals.specs.Refusals.{Comes};
 ghost use Rattle.session.specs.Given.{AreGiven};
 ghost use Rattle.stress_run.specs.Configuration.{configuration_text};
