@@ -18,11 +18,11 @@ use Rattle.session_spec.specs.Told.{AreEnded}
 use Rattle.session_spec.specs.Work.{closed, work}
 use Rattle.w3_search.specs.History.{IsHistory}
 
--- the state of a session behind its quanta and its end
+-- the state of a session after its quanta and its end
 abbrev pub end_of : Inputs → List Quantum → State
 end_of i quanta = closed i (work i quanta)
 
--- The program that was never patched, behind the ticks of the session: those of its turns that weren't taken in trampolines.
+-- The program that was never patched, after the session's ticks: those of its turns that weren't taken in trampolines.
 abbrev pub alone : Inputs → List Quantum → Plain
 alone i quanta = run i.image i.settings.harts (end_of i quanta).owns
 
@@ -34,7 +34,7 @@ pub record AreVerdicts (i : Inputs) (quanta : List Quantum) (printed : SearchPar
   pub rules : (end_of i quanta).kept.search.rules ≡ rules_of i
   pub history : IsHistory (end_of i quanta).kept.search
   pub verdicts : AreEnded i quanta (end_of i quanta)
-  pub costs : (before behind : List Quantum) → quanta ≡ before ++ behind → AreWithin i (work i before)
+  pub costs : (before after : List Quantum) → quanta ≡ before ++ after → AreWithin i (work i before)
 
 -- Each event of the patched machine could happen when it came, and its ticks are turns that the harts of the program alone could take.
 -- It has that program's memory, output, ticks and stops. The printed harts and output are that program's. The bins of a pair follow one

@@ -31,7 +31,7 @@ pub fn one_owed<F: Files>()
 
 /// Where texts are owed for words and files, they tell of these files what the headline says of the command. For one that runs a program
 /// there are an image, a configuration that the check accepts, settings, and a whole list of quanta in its order, such that harts and
-/// output are those of the program that was never patched, behind the ticks that are left of these quanta; each bin is what its metric's
+/// output are those of the program that was never patched, after the ticks of these quanta; each bin is what its metric's
 /// plan measures over its ticks; and each verdict is the test on that.
 pub fn owed_is_honest<F: Files>()
     ensures { OwedIsHonest F.holds F.faults }
