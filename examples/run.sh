@@ -1,6 +1,7 @@
 #!/usr/bin/env bash
 # Makes the ELF file of each example anew, runs it, and compares both, and a plan, with what stands here. The program is
-# ../crates/paradyn/out/paradyn, or what PARADYN names.
+# ../crates/paradyn/out/paradyn, or what PARADYN names. The C programs are built and compared where the compiler that made
+# their ELF files is installed; another one, or another version, makes other bytes.
 set -u
 cd "$(dirname "$0")"
 paradyn=${PARADYN:-../crates/paradyn/out/paradyn}
@@ -40,6 +41,22 @@ check_plan() {
   shift
   "$paradyn" plan "$name.elf" metrics.conf "$@" >"$made" && cmp "$made" "$name.plan" || failed=1
 }
+compiler=riscv64-unknown-elf-gcc
+version=$("$compiler" --version 2>/dev/null | sed -n '1s/^[^(]*/GCC: /p')
+check_build() {
+  folder=$1
+  shift
+  for name; do
+    if [ -z "$version" ] || ! grep -aqF "$version" "$folder/$name.elf"; then
+      echo "$folder/$name.elf: not built anew: the $compiler that made it isn't installed"
+    elif said=$(cd "$folder" && CC=$compiler ../runtime/pdcc -o "$made" "$name.c" 2>&1); then
+      cmp "$made" "$folder/$name.elf" || failed=1
+    else
+      echo "$said"
+      failed=1
+    fi
+  done
+}
 check crc --width 500
 check tickets --harts 4 --width 10000
 check rounds --harts 4 --quantum 25 --width 5000
@@ -49,5 +66,7 @@ check_blocks crc
 check_views tickets --harts 4 --width 10000
 check_advice tickets --harts 4 --width 5000
 check_plan tickets sync_wait /SyncObject/lock_tickets
+check_build words words words2 words3
+check_build recipes sorts
 [ "$failed" = 0 ] && echo "all examples print what they should"
 exit "$failed"

@@ -7,20 +7,22 @@ The crates are those that have rows: top_cases, language_rows, machine_rows and 
 `stdout` is written; with --check it is compared, the rows that differ are told, and the status is 1 where there are
 some. `reference/by_hand.txt` lists the rows whose expectation the reference doesn't make whole.
 
-With --check of top_cases the examples are held against its rows too: a file of a row that has the name of a file of
-examples/ has the same bytes, and the commands of README.md and of examples/ print what the rows with their words do."""
+With --check of top_cases the examples are held against its rows too: the rows have the files of examples/ (tools/example_files.py), and
+the commands of the documents and of examples/run.sh print what the rows with their words do. With --check of language_rows one of its
+rows has to say that the text in docs/METRICS.md means what is shipped."""
 
 import argparse
 import os
 import pathlib
+import re
 import subprocess
 import sys
+import urllib.parse
 
 TOP = pathlib.Path(__file__).resolve().parent.parent
 sys.dont_write_bytecode = True
 sys.path.insert(0, str(TOP / "reference"))
 
-from rows import calls  # noqa: E402
 from rows.tables import CRATES  # noqa: E402
 
 MOST_SHOWN = 10
@@ -69,26 +71,28 @@ def check(crate, rows):
     return differ
 
 
-def other_files():
-    """The names of files of examples/ that files of rows have with other bytes."""
-    names = set()
-    for _, _, case in calls.calls((TOP / "crates/top_cases/stdin").read_bytes()):
-        for name, file in case.files.items():
-            example = TOP / "examples" / os.fsdecode(name)
-            if example.is_file() and example.read_bytes() != file.content:
-                names.add(example.name)
-    return sorted(names)
-
-
-def are_shown():
-    """Whether the examples are what the rows say, which is told where they aren't."""
-    names = other_files()
-    for name in names:
-        print(f"examples/{name}: a file of a row has other bytes")
+def are_shown(_):
+    """Whether the examples are what the rows of top_cases say, which is told where they aren't."""
     row = str(TOP / "tools/row.py")
-    shown = subprocess.run([TOP / "tools/shown.py", row], check=False).returncode
-    run = subprocess.run([TOP / "examples/run.sh"], env=dict(os.environ, PARADYN=row), check=False).returncode
-    return not names and shown == 0 and run == 0
+    tools = [[TOP / "tools/example_files.py", "--check"], [TOP / "tools/shown.py", row], [TOP / "examples/run.sh"]]
+    statuses = [subprocess.run(tool, env=dict(os.environ, PARADYN=row), check=False).returncode for tool in tools]
+    return not any(statuses)
+
+
+def is_shipped(rows):
+    """Whether a row of language_rows says that the text in METRICS.md means what is shipped, which is told where none does."""
+    document = (TOP / "docs/METRICS.md").read_text()
+    blocks = re.findall(r"`include (?:metrics|hypotheses);` stands for.*\n\n((?:    .*\n)+)", document)
+    blocks = [re.sub("^    ", "", block, flags=re.M) for block in blocks]
+    kinds = [set(re.findall(r"^\w+", block, re.M)) for block in blocks]
+    texts = [urllib.parse.unquote(row) for row, text in rows if text.endswith(b"\nsame true again true\n")]
+    holds = kinds == [{"sync", "constraint", "metric"}, {"hypothesis"}] and "language ships " + "".join(blocks) in texts
+    if not holds:
+        print("docs/METRICS.md: no row of language_rows says that its text means what is shipped")
+    return holds
+
+
+HELD = {"top_cases": are_shown, "language_rows": is_shipped}
 
 
 def main():
@@ -105,8 +109,8 @@ def main():
             differ = check(crate, rows)
             failed = failed or differ > 0
             print(f"{line}; {len(rows) - differ} agree, {differ} differ", flush=True)
-            if crate == "top_cases":
-                failed = not are_shown() or failed
+            if crate in HELD:
+                failed = not HELD[crate](rows) or failed
         else:
             (TOP / "crates" / crate / "stdout").write_bytes(b"".join(text for _, text in rows))
             print(line)

@@ -1,12 +1,13 @@
 #!/usr/bin/env python3
-"""Runs the commands that README.md and examples/README.md show, and compares what they print with what stands below them.
+"""Runs the commands that the documents show, and compares what they print with what stands below them.
 
-    tools/shown.py [PARADYN]
+    tools/shown.py [--make] [PARADYN]
 
-A command is an indented line that begins with `$`; what it prints are the indented lines below it, up to the next command. Those of
-a text are run one after another in one temporary folder, which has a copy of the files of examples/ and where `paradyn` is PARADYN,
-or crates/paradyn/out/paradyn where left out. Each that prints something else is told, and the status is 1 where there are some.
-With tools/row.py as PARADYN they are held against the rows of top_cases."""
+A command is an indented line of a document that begins with `$`, and goes on below where it ends in `\\`; what it prints are the indented
+lines below it, up to the next command. All of a document are run one after another in a copy of one folder of examples/, where
+`paradyn` is PARADYN, or crates/paradyn/out/paradyn where left out. Each that prints something else is told, and the status is 1 where
+there are some. With --make what they print is put into the documents instead. With tools/row.py as PARADYN they are held against the
+rows of top_cases. Where the GNU compiler for RISC-V isn't installed, the commands that call it are left out, and told."""
 
 import os
 import pathlib
@@ -16,54 +17,96 @@ import sys
 import tempfile
 
 TOP = pathlib.Path(__file__).resolve().parent.parent
-PARADYN = pathlib.Path(sys.argv[1] if len(sys.argv) > 1 else TOP / "crates/paradyn/out/paradyn").resolve()
-TEXTS = ["README.md", "examples/README.md"]
+# Each document, with the folder of examples/ that its commands are run in.
+DOCUMENTS = [("README.md", "words"), ("examples/README.md", "."), ("docs/GUIDE.md", "words"), ("docs/METRICS.md", "recipes")]
+COMPILERS = ("pdcc", "riscv64-unknown-elf-")
 INDENT = "    "
-SECONDS = 120
+SECONDS = 300
 
 
-def shown(text):
-    """The commands of a text, each with what stands below it."""
-    pairs, is_shown = [], False
-    for line in text.split("\n"):
-        if line.startswith(INDENT + "$ "):
-            pairs.append((line.removeprefix(INDENT + "$ "), []))
+class Command:
+    """A command of a document: its words, and the numbers of the lines that stand below it."""
+
+    def __init__(self, words, first):
+        self.words, self.first, self.end = words, first, first
+
+    def goes_on(self, number):
+        """Whether the line of this number belongs to it."""
+        return number == self.first and self.words.endswith("\\")
+
+    def go_on(self, words):
+        self.words += "\n" + words
+        self.first = self.end = self.first + 1
+
+    def shown(self, lines):
+        return "".join(line.removeprefix(INDENT) + "\n" for line in lines[self.first:self.end])
+
+
+def commands(lines):
+    """The commands of a document's lines."""
+    found, is_shown = [], False
+    for number, line in enumerate(lines):
+        if is_shown and found[-1].goes_on(number):
+            found[-1].go_on(line.removeprefix(INDENT))
+        elif line.startswith(INDENT + "$ "):
+            found.append(Command(line.removeprefix(INDENT + "$ "), number + 1))
             is_shown = True
         elif not line.startswith(INDENT):
             is_shown = False
         elif is_shown:
-            pairs[-1][1].append(line.removeprefix(INDENT) + "\n")
-    return [(command, "".join(lines)) for command, lines in pairs]
+            found[-1].end = number + 1
+    return found
 
 
-def printed(command, folder, path):
+def printed(words, folder, path):
     """What a command prints in the folder."""
-    done = subprocess.run(["bash", "-c", command], cwd=folder, env=dict(os.environ, PATH=path), stdin=subprocess.DEVNULL,
+    done = subprocess.run(["bash", "-c", words], cwd=folder, env=dict(os.environ, PATH=path), stdin=subprocess.DEVNULL,
                           stdout=subprocess.PIPE, stderr=subprocess.STDOUT, timeout=SECONDS)
     return done.stdout.decode()
 
 
-def check(text):
-    """How many commands a text shows, and how many of them print something else."""
-    differ, pairs = 0, shown(text)
-    with tempfile.TemporaryDirectory() as name:
-        folder, programs = pathlib.Path(name) / "examples", pathlib.Path(name) / "programs"
-        shutil.copytree(TOP / "examples", folder)
+def run_document(name, folder, paradyn):
+    """What each command of a document shows and prints; nothing for those that are left out."""
+    has_compiler = shutil.which("riscv64-unknown-elf-gcc") is not None
+    lines = (TOP / name).read_text().split("\n")
+    answers = []
+    with tempfile.TemporaryDirectory() as scratch:
+        examples, programs = pathlib.Path(scratch) / "examples", pathlib.Path(scratch) / "programs"
+        shutil.copytree(TOP / "examples", examples)
         programs.mkdir()
-        (programs / "paradyn").symlink_to(PARADYN)
-        for command, expected in pairs:
-            got = printed(command, folder, f"{programs}:{os.environ['PATH']}")
-            if got != expected:
-                differ += 1
-                print(f"differs: {command}\n{got:.500}")
-    return len(pairs), differ
+        (programs / "paradyn").symlink_to(paradyn)
+        for command in commands(lines):
+            if has_compiler or not any(compiler in command.words for compiler in COMPILERS):
+                answers.append((command, printed(command.words, examples / folder, f"{programs}:{os.environ['PATH']}")))
+            else:
+                answers.append((command, None))
+    return lines, answers
+
+
+def put(name, lines, answers):
+    """Writes what was printed into the document."""
+    for command, got in reversed(answers):
+        if got is not None:
+            lines[command.first:command.end] = [(INDENT + line).rstrip() or INDENT for line in got.split("\n")[:-1]]
+    (TOP / name).write_text("\n".join(lines))
 
 
 def main():
-    counts = [check((TOP / name).read_text()) for name in TEXTS]
-    commands, differ = (sum(column) for column in zip(*counts))
-    print(f"{commands} commands, {differ} differ")
-    return 1 if differ or not all(count for count, _ in counts) else 0
+    words = [word for word in sys.argv[1:] if word != "--make"]
+    paradyn = pathlib.Path(words[0] if words else TOP / "crates/paradyn/out/paradyn").resolve()
+    count, differ, left = 0, 0, 0
+    for name, folder in DOCUMENTS:
+        lines, answers = run_document(name, folder, paradyn)
+        count += len(answers)
+        left += sum(got is None for _, got in answers)
+        for command, got in answers:
+            if got is not None and got != command.shown(lines):
+                differ += 1
+                print(f"{name}: differs: {command.words}\n{got:.500}")
+        if "--make" in sys.argv:
+            put(name, lines, answers)
+    print(f"{count} commands, {differ} differ, {left} left out")
+    return 1 if differ or not count else 0
 
 
 sys.exit(main())

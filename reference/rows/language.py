@@ -86,7 +86,7 @@ def with_configuration(text, answer):
     try:
         conf = configuration.parse(bytes_of(text))
     except tokens.ParseFault as f:
-        return ["At { line: %d, col: %d, kind: %s }" % (f.line, f.col, debug.FAULTS[f.kind])]
+        return ["Fault(ParseFault { line: %d, col: %d, kind: %s })" % (f.line, f.col, debug.FAULTS[f.kind])]
     return answer(conf)
 
 
@@ -166,7 +166,7 @@ def checked_lines(conf):
     try:
         c = checking.check(conf, small(), focus_of)
     except checking.CheckFault as f:
-        return ["At { line: %d, kind: %s }" % (f.line, debug.FAULTS[f.kind])]
+        return ["Fault(CheckFault { line: %d, kind: %s })" % (f.line, debug.FAULTS[f.kind])]
     wish = "CheckedWish { at: %d, show: %s, metric: %d, focus: %s }"
     return ["metric %s line %d" % (shown(m.name), m.line) for m in c.metrics] + [
         wish % (w.at, debug.truth(w.show), w.metric, debug.focus(w.focus)) for w in c.wishes]
@@ -190,7 +190,7 @@ def plan(rest):
     try:
         p = plans.plan(checked, int(metric), f, plans.World(tree, procs, POINTS))
     except plans.PlanFault as fault:
-        return [debug.cause(fault.cause)]
+        return ["Fault(%s)" % debug.cause(fault.cause)]
     return (["variable " + shown(v.name) for v in p.vars]
             + ["at %#x statements %d" % (at, len(stmts)) for at, stmts in p.sites]
             + ["open %#x length %d statements %d" % (start, length, len(stmts)) for start, length, stmts in p.opens])

@@ -1,2 +1,2 @@
-mod Writable
-mod MeantAgain
+pub mod Writable
+pub mod MeantAgain

@@ -5,8 +5,8 @@ use Rattle.std.specs.Option.{option_and_then}
 use Rattle.std.specs.Str.{bytes_eq}
 use Rattle.command_words.specs.Commands.{commands, form_of}
 use Rattle.command_words.specs.Grammar.{Text, Given, given_in, taken_of}
-use Rattle.command_words.specs.Numbers.{number_between, number_given, seed_option, quantum_option, budget_option, harts_option}
-use Rattle.command_words.specs.Requests.{Request, begins_threaded, IsUnthreaded, place_in, request_from, request_of, settings_of}
+use Rattle.command_words.specs.Numbers.{number_between, number_given, budget_option, harts_option}
+use Rattle.command_words.specs.Requests.{Request, begins_threaded, IsUnthreaded, place_in, request_from, request_of, session_of, order_of}
 use Rattle.command_words.specs.declared.commands.CommandName.{CommandName}
 use Rattle.command_words.specs.declared.commands.CommandName.TheVariants.{Run, Live, Replay, Asm, Points, Plan, Stress, Relog, Blocks, Visi, Advise, Direct}
 
@@ -25,7 +25,7 @@ chained f (Some a) h = h a
 module _ (given : Given) where
   run_begins_none : AskUnthreaded (request_from Run given)
   run_begins_none =
-      chained _ (settings_of given) (λ settings. chained _ (number_given given seed_option) (λ seed. mapped _ (number_given given quantum_option) (λ quantum. tt)))
+      chained _ (session_of given) (λ session. mapped _ (order_of given) (λ order. tt))
 
   plan_begins_none : AskUnthreaded (request_from Plan given)
   plan_begins_none = mapped _ (number_given given harts_option) (λ harts. tt)
@@ -36,12 +36,11 @@ module _ (given : Given) where
 
   blocks_begin_none : AskUnthreaded (request_from Blocks given)
   blocks_begin_none =
-      chained _ (number_given given harts_option) (λ harts. chained _ (number_given given budget_option) (λ budget.
-      chained _ (number_given given seed_option) (λ seed. mapped _ (number_given given quantum_option) (λ quantum. tt))))
+      chained _ (number_given given harts_option) (λ harts. chained _ (number_given given budget_option) (λ budget. mapped _ (order_of given) (λ order. tt)))
 
   direct_begins_none : AskUnthreaded (request_from Direct given)
   direct_begins_none =
-      chained _ (settings_of given) (λ settings. chained _ (number_given given seed_option) (λ seed. mapped _ (number_given given quantum_option) (λ quantum. tt)))
+      chained _ (session_of given) (λ session. mapped _ (order_of given) (λ order. tt))
 
 module _ (word : Text) (words : List Text) (other : bytes_eq (codes "live") word || bytes_eq (codes "visi") word ≡ false) where
   abbrev asked_as : CommandName → Option Request

@@ -6,6 +6,7 @@ use Rattle.command_words.specs.Grammar.{Text, Form, Given, Taken, given_in, take
 use Rattle.command_words.specs.Requests as request
 use Rattle.command_words.specs.declared.requests.Request.{Request}
 use Rattle.command_words.specs.declared.requests.Request.TheVariants.{Run, Live, Replay, Plan, Asm, Points, Relog, Stress, Blocks, Visi, Advise, Direct}
+use Rattle.command_words.specs.declared.requests.SessionRequest.{SessionRequest}
 use Rattle.command_words.specs.declared.requests.RunRequest.{RunRequest}
 use Rattle.command_words.specs.declared.requests.LiveRequest.{LiveRequest}
 use Rattle.command_words.specs.declared.requests.ReplayRequest.{ReplayRequest}
@@ -15,40 +16,43 @@ use Rattle.command_words.specs.declared.requests.BlocksRequest.{BlocksRequest}
 use Rattle.command_words.specs.declared.requests.VisiRequest.{VisiRequest}
 use Rattle.command_words.specs.declared.requests.DirectRequest.{DirectRequest}
 
+abbrev pub asked_session : SessionRequest → request.SessionRequest
+asked_session r = record { program = r.program.now; conf = r.conf.now; settings = r.settings }
+
 abbrev pub asked_run : RunRequest → request.RunRequest
-asked_run r = record { program = r.program.now; conf = r.conf.now; settings = r.settings; seed = r.seed; quantum = r.quantum; log = option_map (λ s. s.now) r.log }
+asked_run r = record { session = asked_session r.session; order = r.order; log = option_map (λ s. s.now) r.log }
 
 abbrev pub asked_live : LiveRequest → request.LiveRequest
-asked_live r = record { program = r.program.now; conf = r.conf.now; settings = r.settings; workers = r.workers; quantum = r.quantum; log = option_map (λ s. s.now) r.log }
+asked_live r = record { session = asked_session r.session; workers = r.workers; quantum = r.quantum; log = option_map (λ s. s.now) r.log }
 
 abbrev pub asked_replay : ReplayRequest → request.ReplayRequest
 asked_replay r = record { program = r.program.now; conf = r.conf.now; log = r.log.now }
 
 abbrev pub asked_plan : PlanRequest → request.PlanRequest
-asked_plan p = record { program = p.program.now; conf = p.conf.now; metric = p.metric.now; focus = p.focus.now; harts = p.harts }
+asked_plan r = record { program = r.program.now; conf = r.conf.now; metric = r.metric.now; focus = r.focus.now; harts = r.harts }
 
 abbrev pub asked_stress : StressRequest → request.StressRequest
 asked_stress r = record { procs = r.procs; seed = r.seed }
 
 abbrev pub asked_blocks : BlocksRequest → request.BlocksRequest
-asked_blocks r = record { program = r.program.now; harts = r.harts; budget = r.budget; seed = r.seed; quantum = r.quantum }
+asked_blocks r = record { program = r.program.now; harts = r.harts; budget = r.budget; order = r.order }
 
 abbrev pub asked_visi : VisiRequest → request.VisiRequest
-asked_visi r = record { program = r.program.now; conf = r.conf.now; settings = r.settings; seed = r.seed; quantum = r.quantum; views = r.views }
+asked_visi r = record { session = asked_session r.session; order = r.order; views = r.views }
 
 abbrev pub asked_direct : DirectRequest → request.DirectRequest
-asked_direct r = record { program = r.program.now; conf = r.conf.now; directives = r.directives.now; settings = r.settings; seed = r.seed; quantum = r.quantum }
+asked_direct r = record { session = asked_session r.session; directives = r.directives.now; order = r.order }
 
 abbrev pub asked : Request → request.Request
 asked (Run r) = request.run (asked_run r)
 asked (Live r) = request.live (asked_live r)
 asked (Replay r) = request.replay (asked_replay r)
-asked (Plan p) = request.make_plan (asked_plan p)
-asked (Asm text) = request.assemble text.now
-asked (Points program) = request.list_points program.now
+asked (Plan r) = request.plan (asked_plan r)
+asked (Asm text) = request.asm text.now
+asked (Points program) = request.points program.now
 asked (Relog log) = request.relog log.now
 asked (Stress r) = request.stress (asked_stress r)
-asked (Blocks r) = request.count_blocks (asked_blocks r)
+asked (Blocks r) = request.blocks (asked_blocks r)
 asked (Visi r) = request.visi (asked_visi r)
 asked (Advise report) = request.advise report.now
 asked (Direct r) = request.direct (asked_direct r)

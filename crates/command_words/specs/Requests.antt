@@ -12,6 +12,7 @@ use Rattle.command_words.specs.Commands.{form_of, command_named}
 use Rattle.command_words.specs.Numbers.{number_between, number_given, harts_option, workers_option, seed_option, quantum_option, budget_option, bins_option, width_option, instruments_option, views_option}
 use Rattle.command_words.specs.declared.commands.CommandName.{CommandName}
 use Rattle.command_words.specs.declared.commands.CommandName.TheVariants.{Run, Live, Replay, Asm, Points, Plan, Stress, Relog, Blocks, Visi, Advise, Direct}
+use Rattle.command_words.specs.declared.requests.TurnOrder.{TurnOrder}
 
 -- ---- values
 
@@ -37,26 +38,27 @@ settings_told harts budget bins width instruments start =
 -- The settings of a run.
 abbrev pub settings_of : Given → Option Settings
 settings_of given =
-    settings_told (number_given given harts_option) (number_given given budget_option) (number_given given bins_option) (number_given given width_option)
-    (number_given given instruments_option) (start_given given)
+    settings_told (number_given given harts_option) (number_given given budget_option) (number_given given bins_option)
+    (number_given given width_option) (number_given given instruments_option) (start_given given)
 
 -- ---- requests
 
-pub record RunRequest : Type 0 where
+-- What a session is made of: the files of a program and of a configuration, and the numbers of the run.
+pub record SessionRequest : Type 0 where
   pub program : Text
   pub conf : Text
   pub settings : Settings
-  -- the seed of the order of quanta
-  pub seed : ℕ
-  pub quantum : ℕ
+
+pub record RunRequest : Type 0 where
+  pub session : SessionRequest
+  pub order : TurnOrder
   pub log : Option Text
 
 pub record LiveRequest : Type 0 where
-  pub program : Text
-  pub conf : Text
-  pub settings : Settings
+  pub session : SessionRequest
   -- how many workers there are
   pub workers : ℕ
+  -- the most turns of a quantum
   pub quantum : ℕ
   pub log : Option Text
 
@@ -83,102 +85,108 @@ pub record BlocksRequest : Type 0 where
   pub harts : ℕ
   -- the ticks of each hart, at most
   pub budget : ℕ
-  -- the seed of the order of quanta
-  pub seed : ℕ
-  pub quantum : ℕ
+  pub order : TurnOrder
 
 pub record VisiRequest : Type 0 where
-  pub program : Text
-  pub conf : Text
-  pub settings : Settings
-  -- the seed of the order of quanta
-  pub seed : ℕ
-  pub quantum : ℕ
+  pub session : SessionRequest
+  pub order : TurnOrder
   -- how many threads view the run
   pub views : ℕ
 
 pub record DirectRequest : Type 0 where
-  pub program : Text
-  pub conf : Text
+  pub session : SessionRequest
   pub directives : Text
-  pub settings : Settings
-  -- the seed of the order of quanta
-  pub seed : ℕ
-  pub quantum : ℕ
+  pub order : TurnOrder
 
+-- What each command is asked for, by the command's word.
 pub data Request : Type 0 where
   run : RunRequest → Request
   live : LiveRequest → Request
   replay : ReplayRequest → Request
-  make_plan : PlanRequest → Request
-  assemble : Text → Request
-  list_points : Text → Request
-  -- to write the log of this name anew
+  plan : PlanRequest → Request
+  asm : Text → Request
+  points : Text → Request
   relog : Text → Request
   stress : StressRequest → Request
-  -- to count how often each basic block is executed
-  count_blocks : BlocksRequest → Request
+  blocks : BlocksRequest → Request
   visi : VisiRequest → Request
-  -- to tell what the report of this name advises
   advise : Text → Request
   direct : DirectRequest → Request
 
+-- ---- from values to requests
+
+abbrev pub session_of : Given → Option SessionRequest
+session_of given =
+    option_map (λ settings. record { program = place_in given (codes "program"); conf = place_in given (codes "conf"); settings = settings })
+    (settings_of given)
+
+abbrev pub order_of : Given → Option TurnOrder
+order_of given =
+    option_and_then (λ seed. option_map (λ quantum. record { seed = seed; quantum = quantum }) (number_given given quantum_option))
+    (number_given given seed_option)
+
 abbrev pub run_request : Given → Option Request
 run_request given =
-    option_and_then (λ settings. option_and_then (λ seed. option_map (λ quantum.
-    run (record { program = place_in given (codes "program"); conf = place_in given (codes "conf"); settings = settings; seed = seed; quantum = quantum; log = given (codes "log") }))
-    (number_given given quantum_option))
-    (number_given given seed_option))
-    (settings_of given)
+    option_and_then (λ session. option_map (λ order. run (record { session = session; order = order; log = given (codes "log") })) (order_of given))
+    (session_of given)
 
 abbrev pub live_request : Given → Option Request
 live_request given =
-    option_and_then (λ settings. option_and_then (λ quantum. option_map (λ workers.
-    live (record { program = place_in given (codes "program"); conf = place_in given (codes "conf"); settings = settings; workers = workers; quantum = quantum; log = given (codes "log") }))
+    option_and_then (λ session. option_and_then (λ quantum. option_map (λ workers.
+    live (record { session = session; workers = workers; quantum = quantum; log = given (codes "log") }))
     (number_given given workers_option))
     (number_given given quantum_option))
-    (settings_of given)
+    (session_of given)
+
+abbrev pub replay_request : Given → Request
+replay_request given =
+    replay (record { program = place_in given (codes "program"); conf = place_in given (codes "conf"); log = place_in given (codes "record") })
 
 abbrev pub plan_request : Given → Option Request
-plan_request given = option_map (λ harts. make_plan (record { program = place_in given (codes "program"); conf = place_in given (codes "conf"); metric = place_in given (codes "metric"); focus = place_in given (codes "focus"); harts = harts })) (number_given given harts_option)
+plan_request given =
+    option_map (λ harts. plan (record {
+      program = place_in given (codes "program");
+      conf = place_in given (codes "conf");
+      metric = place_in given (codes "metric");
+      focus = place_in given (codes "focus");
+      harts = harts;
+    }))
+    (number_given given harts_option)
 
 abbrev pub stress_request : Given → Option Request
 stress_request given =
-    option_and_then (λ procs. option_map (λ seed. stress (record { procs = procs; seed = seed })) (number_between 0 4294967295 (place_in given (codes "seed"))))
+    option_and_then (λ procs. option_map (λ seed. stress (record { procs = procs; seed = seed }))
+    (number_between 0 4294967295 (place_in given (codes "seed"))))
     (number_between 1 200 (place_in given (codes "procs")))
 
 abbrev pub blocks_request : Given → Option Request
 blocks_request given =
-    option_and_then (λ harts. option_and_then (λ budget. option_and_then (λ seed. option_map (λ quantum.
-    count_blocks (record { program = place_in given (codes "program"); harts = harts; budget = budget; seed = seed; quantum = quantum }))
-    (number_given given quantum_option))
-    (number_given given seed_option))
+    option_and_then (λ harts. option_and_then (λ budget. option_map (λ order.
+    blocks (record { program = place_in given (codes "program"); harts = harts; budget = budget; order = order }))
+    (order_of given))
     (number_given given budget_option))
     (number_given given harts_option)
 
 abbrev pub visi_request : Given → Option Request
 visi_request given =
-    option_and_then (λ settings. option_and_then (λ seed. option_and_then (λ quantum. option_map (λ views.
-    visi (record { program = place_in given (codes "program"); conf = place_in given (codes "conf"); settings = settings; seed = seed; quantum = quantum; views = views }))
+    option_and_then (λ session. option_and_then (λ order. option_map (λ views. visi (record { session = session; order = order; views = views }))
     (number_given given views_option))
-    (number_given given quantum_option))
-    (number_given given seed_option))
-    (settings_of given)
+    (order_of given))
+    (session_of given)
 
 abbrev pub direct_request : Given → Option Request
 direct_request given =
-    option_and_then (λ settings. option_and_then (λ seed. option_map (λ quantum.
-    direct (record { program = place_in given (codes "program"); conf = place_in given (codes "conf"); directives = place_in given (codes "directives"); settings = settings; seed = seed; quantum = quantum }))
-    (number_given given quantum_option))
-    (number_given given seed_option))
-    (settings_of given)
+    option_and_then (λ session. option_map (λ order.
+    direct (record { session = session; directives = place_in given (codes "directives"); order = order }))
+    (order_of given))
+    (session_of given)
 
 abbrev pub request_from : CommandName → Given → Option Request
 request_from Run given = run_request given
 request_from Live given = live_request given
-request_from Replay given = Some (replay (record { program = place_in given (codes "program"); conf = place_in given (codes "conf"); log = place_in given (codes "record") }))
-request_from Asm given = Some (assemble (place_in given (codes "text")))
-request_from Points given = Some (list_points (place_in given (codes "program")))
+request_from Replay given = Some (replay_request given)
+request_from Asm given = Some (asm (place_in given (codes "text")))
+request_from Points given = Some (points (place_in given (codes "program")))
 request_from Plan given = plan_request given
 request_from Stress given = stress_request given
 request_from Relog given = Some (relog (place_in given (codes "record")))
@@ -190,7 +198,8 @@ request_from Direct given = direct_request given
 -- What the words ask for; none where they are no command.
 abbrev pub request_of : List Text → Option Request
 request_of [] = None
-request_of (word ∷ words) = option_and_then (λ name. option_and_then (λ taken. request_from name (given_in taken)) (taken_of (form_of name) words)) (command_named word)
+request_of (word ∷ words) =
+    option_and_then (λ name. option_and_then (λ taken. request_from name (given_in taken)) (taken_of (form_of name) words)) (command_named word)
 
 -- The words begin with that of a command that begins threads.
 abbrev pub begins_threaded : List Text → Bool
@@ -202,27 +211,35 @@ abbrev pub IsUnthreaded : Request → Type 0
 IsUnthreaded (run r) = Unit {0}
 IsUnthreaded (live r) = ⊥
 IsUnthreaded (replay r) = Unit {0}
-IsUnthreaded (make_plan p) = Unit {0}
-IsUnthreaded (assemble text) = Unit {0}
-IsUnthreaded (list_points program) = Unit {0}
+IsUnthreaded (plan r) = Unit {0}
+IsUnthreaded (asm text) = Unit {0}
+IsUnthreaded (points program) = Unit {0}
 IsUnthreaded (relog log) = Unit {0}
 IsUnthreaded (stress r) = Unit {0}
-IsUnthreaded (count_blocks r) = Unit {0}
+IsUnthreaded (blocks r) = Unit {0}
 IsUnthreaded (visi r) = ⊥
 IsUnthreaded (advise report) = Unit {0}
 IsUnthreaded (direct r) = Unit {0}
 
+-- ---- ranges
+
+abbrev pub IsQuantum : ℕ → Type 0
+IsQuantum turns = (1 ≤ turns) × (turns ≤ MAX_QUANTUM)
+
+abbrev pub IsOrderInRange : TurnOrder → Type 0
+IsOrderInRange order = (order.seed < 2 ^ 32) × IsQuantum order.quantum
+
 -- the numbers of a request are in their ranges
 abbrev pub HasRanges : Request → Type 0
-HasRanges (run r) = AreInRange r.settings × (1 ≤ r.quantum) × (r.quantum ≤ MAX_QUANTUM)
-HasRanges (live r) = AreInRange r.settings × ((1 ≤ r.workers) × (r.workers ≤ MAX_WORKERS)) × ((1 ≤ r.quantum) × (r.quantum ≤ MAX_QUANTUM))
+HasRanges (run r) = AreInRange r.session.settings × IsOrderInRange r.order
+HasRanges (live r) = AreInRange r.session.settings × ((1 ≤ r.workers) × (r.workers ≤ MAX_WORKERS)) × IsQuantum r.quantum
 HasRanges (replay r) = Unit {0}
-HasRanges (make_plan p) = (1 ≤ p.harts) × (p.harts ≤ MAX_HARTS)
-HasRanges (assemble text) = Unit {0}
-HasRanges (list_points program) = Unit {0}
+HasRanges (plan r) = (1 ≤ r.harts) × (r.harts ≤ MAX_HARTS)
+HasRanges (asm text) = Unit {0}
+HasRanges (points program) = Unit {0}
 HasRanges (relog log) = Unit {0}
 HasRanges (stress r) = ((1 ≤ r.procs) × (r.procs ≤ 200)) × (r.seed < 2 ^ 32)
-HasRanges (count_blocks r) = ((1 ≤ r.harts) × (r.harts ≤ MAX_HARTS)) × ((1 ≤ r.budget) × (r.budget ≤ MAX_BUDGET)) × ((r.seed < 2 ^ 32) × ((1 ≤ r.quantum) × (r.quantum ≤ MAX_QUANTUM)))
-HasRanges (visi r) = AreInRange r.settings × ((1 ≤ r.quantum) × (r.quantum ≤ MAX_QUANTUM)) × ((1 ≤ r.views) × (r.views ≤ 8))
+HasRanges (blocks r) = ((1 ≤ r.harts) × (r.harts ≤ MAX_HARTS)) × ((1 ≤ r.budget) × (r.budget ≤ MAX_BUDGET)) × IsOrderInRange r.order
+HasRanges (visi r) = AreInRange r.session.settings × IsOrderInRange r.order × ((1 ≤ r.views) × (r.views ≤ 8))
 HasRanges (advise report) = Unit {0}
-HasRanges (direct r) = AreInRange r.settings × (1 ≤ r.quantum) × (r.quantum ≤ MAX_QUANTUM)
+HasRanges (direct r) = AreInRange r.session.settings × IsOrderInRange r.order

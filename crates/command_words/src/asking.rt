@@ -1,9 +1,9 @@
 //! From words to what they ask for.
 
 ghost use Rattle.std.specs.Prelude.{◌≡◌, ◌≤◌, MatchResult, IfOk, IfSome, Some, None, map, option_map, string_bytes};
-ghost use Rattle.command_words.specs.Asked.{asked};
+ghost use Rattle.command_words.specs.Asked.{asked, asked_session};
 ghost use Rattle.command_words.specs.Numbers.{number_between, number_given};
-ghost use Rattle.command_words.specs.Requests.{place_in, settings_of, start_given, start_named, run_request, live_request, plan_request, stress_request, blocks_request, visi_request, direct_request, request_from, request_of, begins_threaded, HasRanges};
+ghost use Rattle.command_words.specs.Requests.{place_in, session_of, settings_of, order_of, start_given, start_named, run_request, live_request, plan_request, stress_request, blocks_request, visi_request, direct_request, request_from, request_of, begins_threaded, HasRanges, IsOrderInRange};
 ghost use Rattle.command_words.specs.Walked.{option_seen};
 ghost use Rattle.pn_types.specs.Settings.{AreInRange};
 
@@ -15,7 +15,7 @@ use crate::numbers::{
 };
 use crate::requests::{
     BlocksRequest, DirectRequest, LiveRequest, PlanRequest, ReplayRequest, Request, RunRequest,
-    StressRequest, VisiRequest,
+    SessionRequest, StressRequest, TurnOrder, VisiRequest,
 };
 use pn_text::number;
 use pn_types::{Settings, Start};
@@ -92,19 +92,39 @@ fn settings<'a, G: Given<'a>>(given: &G) -> Option<Settings>
     })
 }
 
+fn session<'a, G: Given<'a>>(given: &G) -> Option<SessionRequest<'a>>
+    ensures session { option_map asked_session result ≡ session_of (G.given given.now) }
+    ensures ranges { IfSome result (λ session. AreInRange session.settings) }
+{
+    let settings = settings(given)?;
+    Some(SessionRequest {
+        program: place(given, "program"),
+        conf: place(given, "conf"),
+        settings,
+    })
+}
+
+fn order<'a, G: Given<'a>>(given: &G) -> Option<TurnOrder>
+    ensures order { result ≡ order_of (G.given given.now) }
+    ensures range { IfSome result IsOrderInRange }
+{
+    let seed = number_given(given, SEED)?;
+    let quantum = number_given(given, QUANTUM)?;
+    Some(TurnOrder {
+        seed: seed as u32,
+        quantum: quantum as u32,
+    })
+}
+
 fn run_request<'a, G: Given<'a>>(given: &G) -> Option<Request<'a>>
     ensures request { option_map asked result ≡ run_request (G.given given.now) }
     ensures ranges { IfSome result (λ request. HasRanges (asked request)) }
 {
-    let settings = settings(given)?;
-    let seed = number_given(given, SEED)?;
-    let quantum = number_given(given, QUANTUM)?;
+    let session = session(given)?;
+    let order = order(given)?;
     Some(Request::Run(RunRequest {
-        program: place(given, "program"),
-        conf: place(given, "conf"),
-        settings,
-        seed: seed as u32,
-        quantum: quantum as u32,
+        session,
+        order,
         log: given.value("log"),
     }))
 }
@@ -113,13 +133,11 @@ fn live_request<'a, G: Given<'a>>(given: &G) -> Option<Request<'a>>
     ensures request { option_map asked result ≡ live_request (G.given given.now) }
     ensures ranges { IfSome result (λ request. HasRanges (asked request)) }
 {
-    let settings = settings(given)?;
+    let session = session(given)?;
     let quantum = number_given(given, QUANTUM)?;
     let workers = number_given(given, WORKERS)?;
     Some(Request::Live(LiveRequest {
-        program: place(given, "program"),
-        conf: place(given, "conf"),
-        settings,
+        session,
         workers: workers as u32,
         quantum: quantum as u32,
         log: given.value("log"),
@@ -158,14 +176,12 @@ fn blocks_request<'a, G: Given<'a>>(given: &G) -> Option<Request<'a>>
 {
     let harts = number_given(given, HARTS)?;
     let budget = number_given(given, BUDGET)?;
-    let seed = number_given(given, SEED)?;
-    let quantum = number_given(given, QUANTUM)?;
+    let order = order(given)?;
     Some(Request::Blocks(BlocksRequest {
         program: place(given, "program"),
         harts: harts as u32,
         budget,
-        seed: seed as u32,
-        quantum: quantum as u32,
+        order,
     }))
 }
 
@@ -173,16 +189,12 @@ fn visi_request<'a, G: Given<'a>>(given: &G) -> Option<Request<'a>>
     ensures request { option_map asked result ≡ visi_request (G.given given.now) }
     ensures ranges { IfSome result (λ request. HasRanges (asked request)) }
 {
-    let settings = settings(given)?;
-    let seed = number_given(given, SEED)?;
-    let quantum = number_given(given, QUANTUM)?;
+    let session = session(given)?;
+    let order = order(given)?;
     let views = number_given(given, VIEWS)?;
     Some(Request::Visi(VisiRequest {
-        program: place(given, "program"),
-        conf: place(given, "conf"),
-        settings,
-        seed: seed as u32,
-        quantum: quantum as u32,
+        session,
+        order,
         views: views as u32,
     }))
 }
@@ -191,16 +203,12 @@ fn direct_request<'a, G: Given<'a>>(given: &G) -> Option<Request<'a>>
     ensures request { option_map asked result ≡ direct_request (G.given given.now) }
     ensures ranges { IfSome result (λ request. HasRanges (asked request)) }
 {
-    let settings = settings(given)?;
-    let seed = number_given(given, SEED)?;
-    let quantum = number_given(given, QUANTUM)?;
+    let session = session(given)?;
+    let order = order(given)?;
     Some(Request::Direct(DirectRequest {
-        program: place(given, "program"),
-        conf: place(given, "conf"),
+        session,
         directives: place(given, "directives"),
-        settings,
-        seed: seed as u32,
-        quantum: quantum as u32,
+        order,
     }))
 }
 

@@ -22,5 +22,5 @@ pub use matching::WordFault;
 pub use numbers::MAX_VIEWS;
 pub use requests::{
     BlocksRequest, DirectRequest, LiveRequest, PlanRequest, ReplayRequest, Request, RunRequest,
-    StressRequest, VisiRequest,
+    SessionRequest, StressRequest, TurnOrder, VisiRequest,
 };

@@ -2,19 +2,31 @@
 
 use pn_types::Settings;
 
-/// What `run` is asked for.
+/// What a session is made of.
 #[derive(Clone, Copy, Drop)]
-pub struct RunRequest<'a> {
+pub struct SessionRequest<'a> {
     /// The name of the program's file.
     pub program: &'a str,
     /// The name of the configuration's file.
     pub conf: &'a str,
     /// The numbers of the run.
     pub settings: Settings,
-    /// The seed of the order of quanta; 0 goes round.
+}
+
+/// An order in which harts take their turns.
+#[derive(Clone, Copy, Drop)]
+pub struct TurnOrder {
+    /// The seed from which each next hart is drawn; 0 goes round.
     pub seed: u32,
     /// The most turns of a quantum, from 1 to [`pn_types::MAX_QUANTUM`].
     pub quantum: u32,
+}
+
+/// What `run` is asked for.
+#[derive(Clone, Copy, Drop)]
+pub struct RunRequest<'a> {
+    pub session: SessionRequest<'a>,
+    pub order: TurnOrder,
     /// The name of the log's file, where one is wanted.
     pub log: Option<&'a str>,
 }
@@ -22,12 +34,7 @@ pub struct RunRequest<'a> {
 /// What `live` is asked for.
 #[derive(Clone, Copy, Drop)]
 pub struct LiveRequest<'a> {
-    /// The name of the program's file.
-    pub program: &'a str,
-    /// The name of the configuration's file.
-    pub conf: &'a str,
-    /// The numbers of the run.
-    pub settings: Settings,
+    pub session: SessionRequest<'a>,
     /// How many workers there are, from 1 to [`pn_types::MAX_WORKERS`].
     pub workers: u32,
     /// The most turns of a quantum, from 1 to [`pn_types::MAX_QUANTUM`].
@@ -80,25 +87,14 @@ pub struct BlocksRequest<'a> {
     pub harts: u32,
     /// The ticks of each hart, at most, from 1 to [`pn_types::MAX_BUDGET`].
     pub budget: u64,
-    /// The seed of the order of quanta; 0 goes round.
-    pub seed: u32,
-    /// The most turns of a quantum, from 1 to [`pn_types::MAX_QUANTUM`].
-    pub quantum: u32,
+    pub order: TurnOrder,
 }
 
 /// What `visi` is asked for.
 #[derive(Clone, Copy, Drop)]
 pub struct VisiRequest<'a> {
-    /// The name of the program's file.
-    pub program: &'a str,
-    /// The name of the configuration's file.
-    pub conf: &'a str,
-    /// The numbers of the run.
-    pub settings: Settings,
-    /// The seed of the order of quanta; 0 goes round.
-    pub seed: u32,
-    /// The most turns of a quantum, from 1 to [`pn_types::MAX_QUANTUM`].
-    pub quantum: u32,
+    pub session: SessionRequest<'a>,
+    pub order: TurnOrder,
     /// How many threads view the run, from 1 to [`MAX_VIEWS`](crate::MAX_VIEWS).
     pub views: u32,
 }
@@ -106,18 +102,10 @@ pub struct VisiRequest<'a> {
 /// What `direct` is asked for.
 #[derive(Clone, Copy, Drop)]
 pub struct DirectRequest<'a> {
-    /// The name of the program's file.
-    pub program: &'a str,
-    /// The name of the configuration's file.
-    pub conf: &'a str,
+    pub session: SessionRequest<'a>,
     /// The name of the directives' file.
     pub directives: &'a str,
-    /// The numbers of the run.
-    pub settings: Settings,
-    /// The seed of the order of quanta; 0 goes round.
-    pub seed: u32,
-    /// The most turns of a quantum, from 1 to [`pn_types::MAX_QUANTUM`].
-    pub quantum: u32,
+    pub order: TurnOrder,
 }
 
 /// What the words ask for.
@@ -143,7 +131,7 @@ pub enum Request<'a> {
     Blocks(BlocksRequest<'a>),
     /// To run a program before views.
     Visi(VisiRequest<'a>),
-    /// To tell what the report of this name advises.
+    /// To print the directives that the report of this name advises.
     Advise(&'a str),
     /// To run a program under search directives.
     Direct(DirectRequest<'a>),

@@ -13,3 +13,5 @@ pub mod OneDue
 pub mod Rising
 mod Procs
 mod Runnable
+mod Opened
+mod Prepared

@@ -11,6 +11,7 @@ use Rattle.mdl_check.specs.Names.{metric_number}
 use Rattle.mdl_check.specs.Rules.{fault_of, is_cyclic, is_search, parents_of}
 use Rattle.mdl_check.specs.Placed.{PlacedItem, Entry, entry, is_taken, placed, placed_items, with_included}
 use Rattle.mdl_check.specs.declared.checked.Checked.{Checked}
+use Rattle.mdl_check.specs.declared.fault.CheckFault.{CheckFault}
 use Rattle.mdl_check.specs.declared.fault.CheckKind.{CheckKind}
 use Rattle.mdl_check.specs.declared.fault.CheckKind.TheVariants.{TwiceNamed, WrongKind, CyclicParent}
 use Rattle.mdl_shipped.specs.Shipped.{shipped_conf}
@@ -152,10 +153,10 @@ not_wrong true wrong rest e = cc
 not_wrong false true rest e = cc
 not_wrong false false rest e = cc
 
-abbrev or_later : Option CheckKind → ℕ → Option (ℕ × CheckKind) → Option (ℕ × CheckKind)
-or_later fault line rest = elim fault [ None ↦ rest | Some kind ↦ Some (line, kind) ]
+abbrev or_later : Option CheckKind → ℕ → Option CheckFault → Option CheckFault
+or_later kind line rest = elim kind [ None ↦ rest | Some kind ↦ Some (record { line = line; kind = kind }) ]
 
-no_fault_first : (fault : Option CheckKind) (line : ℕ) (rest : Option (ℕ × CheckKind)) → or_later fault line rest ≡ None → (fault ≡ None) × (rest ≡ None)
+no_fault_first : (kind : Option CheckKind) (line : ℕ) (rest : Option CheckFault) → or_later kind line rest ≡ None → (kind ≡ None) × (rest ≡ None)
 no_fault_first None line rest e = (cc, e)
 no_fault_first (Some kind) line rest e = cc
 

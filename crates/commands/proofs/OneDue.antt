@@ -1,20 +1,18 @@
 -- What is due is unique where each file was seen as one thing.
 use Rattle.std.proofs.Common.{◌≡◌, ℕ, Bool, true, false, List, Option, Some, None, Result, Ok, Err, refl, sym, ap, ◌∙◌}
 use Rattle.std.specs.Prelude.{codes}
-use Rattle.command_words.specs.Requests.{Request, RunRequest, LiveRequest, ReplayRequest, PlanRequest, StressRequest, VisiRequest, DirectRequest, run, live, replay, make_plan, assemble, list_points, relog, stress, count_blocks, visi, advise, direct, request_of}
+use Rattle.command_words.specs.Requests.{Request, SessionRequest, LiveRequest, ReplayRequest, PlanRequest, DirectRequest, run, live, replay, plan, asm, points, relog, stress, blocks, visi, advise, direct, request_of}
+use Rattle.command_words.specs.declared.requests.TurnOrder.{TurnOrder}
 use Rattle.advice.specs.Reading.{verdicts_of}
 use Rattle.directives.specs.Acts.{applied}
 use Rattle.directives.specs.Meaning.{OneDirectives, OneFault as OneDirectivesFault, DirectivesOrFault}
 use Rattle.directives.specs.declared.directive.Directive.{Directive}
 use Rattle.directives.specs.declared.fault.DirectiveKind.{DirectiveKind}
 use Rattle.elf_form.specs.declared.limits.TheConstants.{MAX_PROGRAM_LEN}
-use Rattle.live_run.specs.ByWorkers.{IsShared}
 use Rattle.mdl_ast.specs.declared.items.Conf.{Conf}
 use Rattle.mdl_check.specs.Checking.{OneAnswer}
 use Rattle.mdl_check.specs.declared.checked.Checked.{Checked}
 use Rattle.mdl_check.specs.declared.fault.CheckFault.{CheckFault}
-use Rattle.mdl_check.specs.declared.fault.CheckFault.TheVariants.{NoMemory, At}
-use Rattle.mdl_check.specs.declared.fault.CheckKind.{CheckKind}
 use Rattle.mdl_parse.specs.Meaning.{OneConf, OneFault, ConfOrFault}
 use Rattle.mdl_shipped.specs.Shipped.{shipped_conf}
 use Rattle.mdl_parse.specs.declared.fault.SyntaxKind.{SyntaxKind}
@@ -24,7 +22,6 @@ use Rattle.mdl_plan.specs.declared.fault.PlanFault.TheVariants as cause
 use Rattle.pn_types.specs.declared.code.Proc.{Proc}
 use Rattle.pn_types.specs.declared.image.Image.{Image}
 use Rattle.pn_types.specs.declared.plan.Plan.{Plan}
-use Rattle.pn_types.specs.declared.settings.Settings.{Settings}
 use Rattle.pn_types.specs.declared.code.Point.{Point}
 use Rattle.quanta_log.specs.Meaning.{meaning_of}
 use Rattle.pn_types.specs.declared.quantum.Quantum.{Quantum}
@@ -42,18 +39,19 @@ use Rattle.session_spec.specs.Inputs.{Inputs as SessionInputs}
 use Rattle.session_spec.specs.Opening.{bad_pick}
 use Rattle.session_spec.specs.declared.data.RefusedWish.{RefusedWish}
 use Rattle.whole_run.specs.Replayed.{misfit_of}
-use Rattle.whole_run.specs.Seeded.{IsSeeded, OneSeeded}
-use Rattle.commands.specs.Advising.{advised, IsAdviceDue, IsReportContent}
+use Rattle.whole_run.specs.Seeded.{OneSeeded}
+use Rattle.commands.specs.Advising.{advised, IsAdviseDue, IsReportContent}
 use Rattle.commands.specs.Output.{output}
 use Rattle.commands.specs.Blocks.{AreCounted}
-use Rattle.commands.specs.Directing.{MeansDirectives, AreDirectives, IsDirected, IsDirectDue, IsDirection, IsDirectivesContent, IsDirectRun, IsDirectWith, conf_with, directed_texts, or_bad_directives}
+use Rattle.commands.specs.Directing.{MeansDirectives, AreDirectives, IsDirected, IsDirectDue, IsDirection, IsDirectivesContent, IsDirectRun, conf_with, or_bad_directives}
 use Rattle.commands.specs.Found.{resources_of, IsCheck, IsFound}
 use Rattle.commands.specs.Given.{inputs_with}
 use Rattle.commands.specs.Inputs.{image_of, file_of, MeansConf, IsProgramContent, IsProgram, IsElfFile, IsConfContent, IsConfiguration, AreInputs}
 use Rattle.commands.specs.Logs.{or_bad_log, IsLog, IsLogContent, MeansLog}
 use Rattle.commands.specs.Replays.{replayed, IsReplay, IsReplayDue, IsReplayOf, IsReplayWith}
-use Rattle.commands.specs.Runs.{texts_of_run, IsPrepared, IsOpened, IsRunWith, IsRunDue, IsLiveWith, IsLiveDue, IsVisiWith, IsVisiDue, views_of, IsStressWith, IsStressDue, stress_settings, stress_sight, summary_of}
-use Rattle.commands.specs.Plans.{metric_named, or_unknown, or_bad_focus, IsSelected, IsPlanned, IsPlanAt, IsPlan}
+use Rattle.commands.specs.Runs.{AreTexts, IsByWorkers, IsInOrder, IsLiveDue, IsOpened, IsPrepared, IsSession, IsSessionOf, Order, report_alone, report_and_log, stress_order, stress_session, stress_sight, summary_of, views_of}
+use Rattle.commands.specs.Listing.{IsAsmDue}
+use Rattle.commands.specs.Plans.{metric_named, or_unknown, or_bad_focus, IsSelected, IsPlanned, IsPlanAt, IsPlan, IsPlanDue}
 use Rattle.commands.specs.Due.{AreAlike, AreOne, IsDue, IsDueFor, is_live}
 use Rattle.commands.specs.Sights.{Sight, limited, IsContent}
 use Rattle.commands.specs.declared.advising.TheConstants.{REPORT_LIMIT}
@@ -89,14 +87,16 @@ of_same (Ok x) (Err g) e = absurd (cc)
 of_same (Err f) (Ok y) e = absurd (cc)
 of_same (Err f) (Err g) e = cc
 
-opened_alike : (pick : Option RefusedWish) (i : SessionInputs) (AreRight : List Quantum → Type 0) (texts_of : List Quantum → Texts) (a b : Result Texts Fault) → IsOpened pick i AreRight texts_of a → IsOpened pick i AreRight texts_of b → AreAlike a b
-opened_alike None i AreRight texts_of (Ok x) (Ok y) d e = tt
-opened_alike None i AreRight texts_of (Ok x) (Err g) d (others, right, f) = absurd (cc)
-opened_alike None i AreRight texts_of (Err f) b (quanta, right, e) d = absurd (cc)
-opened_alike (Some wish) i AreRight texts_of a b d e = of_same a b (d ∙ sym e)
+opened_alike : (pick : Option RefusedWish) (i : SessionInputs) (InOrder : Order) (texts_of : SessionInputs → List Quantum → Texts) (a b : Result Texts Fault) →
+    IsOpened pick i (AreTexts InOrder texts_of i) a → IsOpened pick i (AreTexts InOrder texts_of i) b → AreAlike a b
+opened_alike None i InOrder texts_of (Ok x) (Ok y) d e = tt
+opened_alike None i InOrder texts_of (Ok x) (Err g) d (others, right, f) = absurd (cc)
+opened_alike None i InOrder texts_of (Err f) b (quanta, right, e) d = absurd (cc)
+opened_alike (Some wish) i InOrder texts_of a b d e = of_same a b (d ∙ sym e)
 
-live_alike : (r : LiveRequest) (i : SessionInputs) (a b : Result Texts Fault) → IsLiveWith r i a → IsLiveWith r i b → AreAlike a b
-live_alike r i = opened_alike (bad_pick i) i (IsShared i r.workers r.quantum) (texts_of_run i)
+session_alike : (InOrder : Order) (texts_of : SessionInputs → List Quantum → Texts) (i : SessionInputs) (a b : Result Texts Fault) →
+    IsSession InOrder texts_of i a → IsSession InOrder texts_of i b → AreAlike a b
+session_alike InOrder texts_of i = opened_alike (bad_pick i) i InOrder texts_of
 
 -- ---- configurations
 
@@ -129,50 +129,38 @@ module _ (laws : Laws) where
 
   -- ---- what is found
 
-  abbrev checked_fault : ℕ → CheckKind → Fault
-  checked_fault line kind = BadConf (fault_at line 0 (check_kind kind))
-
-  abbrev checked : Checked → Result Checked CheckFault
-  checked c = Ok c
-
-  abbrev refused : ℕ → CheckKind → Result Checked CheckFault
-  refused line kind = Err (At line kind)
-
-  some_checked : (c : Checked) → checked c ≡ Err NoMemory → ⊥
-  some_checked c e = cc
-
-  some_fault : (line : ℕ) (kind : CheckKind) → refused line kind ≡ Err NoMemory → ⊥
-  some_fault line kind e = cc
+  abbrev checked_fault : CheckFault → Fault
+  checked_fault found = BadConf (fault_at found.line 0 (check_kind found.kind))
 
   check_once : (t : Resources) (conf : Conf) → IsOne (IsCheck t conf)
   check_once t conf (Ok c) (Ok d) a b =
-      let same = laws.answer t shipped_conf.items conf.items (Ok c) (Ok d) a b (some_checked c) (some_checked d) in
+      let same = laws.answer t shipped_conf.items conf.items (Ok c) (Ok d) a b in
       let value : c ≡ d = cc in
       ap (λ (x : Checked). Ok x) value
-  check_once t conf (Ok c) (Err g) a (line, kind, b, e) =
-      let same = laws.answer t shipped_conf.items conf.items (Ok c) (Err (At line kind)) a b (some_checked c) (some_fault line kind) in
+  check_once t conf (Ok c) (Err g) a (found, b, e) =
+      let same = laws.answer t shipped_conf.items conf.items (Ok c) (Err found) a b in
       absurd cc
-  check_once t conf (Err f) (Ok d) (line, kind, a, e) b =
-      let same = laws.answer t shipped_conf.items conf.items (Err (At line kind)) (Ok d) a b (some_fault line kind) (some_checked d) in
+  check_once t conf (Err f) (Ok d) (found, a, e) b =
+      let same = laws.answer t shipped_conf.items conf.items (Err found) (Ok d) a b in
       absurd cc
-  check_once t conf (Err f) (Err g) (line, kind, a, e) (line', kind', b, e') =
-      let same = laws.answer t shipped_conf.items conf.items (Err (At line kind)) (Err (At line' kind')) a b (some_fault line kind) (some_fault line' kind') in
-      let one : line ≡ line' = cc in
-      let other : kind ≡ kind' = cc in
-      ap (λ (x : Fault). Err x) (e ∙ ap (λ (n : ℕ). checked_fault n kind) one ∙ ap (checked_fault line') other ∙ sym e')
+  check_once t conf (Err f) (Err g) (found, a, e) (found', b, e') =
+      let same = laws.answer t shipped_conf.items conf.items (Err found) (Err found') a b in
+      let one : found ≡ found' = cc in
+      ap (λ (x : Fault). Err x) (e ∙ ap checked_fault one ∙ sym e')
 
-  abbrev made : Resources → List Proc → List Point → Checked → Found
-  made tree procs points checked = record { tree = tree; procs = procs; points = points; checked = checked }
+  abbrev made : Resources → List Proc → ℕ → List Point → Checked → Found
+  made tree procs skipped places checked = record { tree = tree; procs = procs; skipped = skipped; points = places; checked = checked }
 
   found_once : (image : Image) (harts : ℕ) (conf : Conf) → IsOne (IsFound image harts conf)
   found_once image harts conf (Ok f) (Ok g) a b =
       let same = check_once (resources_of image harts conf) conf (Ok f.checked) (Ok g.checked) a.checked b.checked in
       let checked : f.checked ≡ g.checked = cc in
       ap (λ (x : Found). Ok x) (
-      ap (λ (x : Resources). made x f.procs f.points f.checked) (a.tree ∙ sym b.tree)
-      ∙ ap (λ (x : List Proc). made g.tree x f.points f.checked) (a.procs ∙ sym b.procs)
-      ∙ ap (λ (x : List Point). made g.tree g.procs x f.checked) (a.points ∙ sym b.points)
-      ∙ ap (made g.tree g.procs g.points) checked)
+      ap (λ (x : Resources). made x f.procs f.skipped f.points f.checked) (a.tree ∙ sym b.tree)
+      ∙ ap (λ (x : List Proc). made g.tree x f.skipped f.points f.checked) (a.procs ∙ sym b.procs)
+      ∙ ap (λ (x : ℕ). made g.tree g.procs x f.points f.checked) (a.skipped ∙ sym b.skipped)
+      ∙ ap (λ (x : List Point). made g.tree g.procs g.skipped x f.checked) (a.points ∙ sym b.points)
+      ∙ ap (made g.tree g.procs g.skipped g.points) checked)
   found_once image harts conf (Ok f) (Err e) a b =
       let same = check_once (resources_of image harts conf) conf (Ok f.checked) (Err e) a.checked b in
       absurd cc
@@ -190,8 +178,7 @@ module _ (laws : Laws) where
   selected_once t text r s (o, a, e) (p, b, f) = e ∙ ap or_bad_focus (laws.selection t text o p a b) ∙ sym f
 
   planned_once : (metric focus : List ℕ) (due : Result Plan PlanFault) → IsOne (IsPlanned metric focus due)
-  planned_once metric focus (Ok plan) a b e f = e ∙ sym f
-  planned_once metric focus (Err cause.NoMemory) a b e f = absurd e
+  planned_once metric focus (Ok made) a b e f = e ∙ sym f
   planned_once metric focus (Err (cause.NoConstraint axis)) a b e f = e ∙ sym f
   planned_once metric focus (Err (cause.TooManySites n)) a b e f = e ∙ sym f
   planned_once metric focus (Err (cause.TooManyStmts at)) a b e f = e ∙ sym f
@@ -203,35 +190,33 @@ module _ (laws : Laws) where
       (λ m. one_then (IsSelected found.tree p.focus) (IsPlanAt p.metric found m) (selected_once found.tree p.focus)
       (λ focus. planned_once p.metric (canonical found.tree focus) (plan_of found.checked.constraints m focus found.tree found.procs found.points)))
 
-  -- ---- runs
+  -- ---- sessions
 
-  opened_once : (pick : Option RefusedWish) (i : SessionInputs) (AreRight : List Quantum → Type 0) (texts_of : List Quantum → Texts) → ((quanta others : List Quantum) → AreRight quanta → AreRight others → quanta ≡ others) → IsOne (IsOpened pick i AreRight texts_of)
-  opened_once None i AreRight texts_of one a b (quanta, right, e) (others, right', f) = e ∙ ap (λ (l : List Quantum). Ok (texts_of l)) (one quanta others right right') ∙ sym f
-  opened_once (Some wish) i AreRight texts_of one a b e f = e ∙ sym f
+  opened_once : (pick : Option RefusedWish) (i : SessionInputs) (comes : Step Texts) → IsOne comes → IsOne (IsOpened pick i comes)
+  opened_once None i comes one a b e f = one a b e f
+  opened_once (Some wish) i comes one a b e f = e ∙ sym f
 
-  run_once : (r : RunRequest) (i : SessionInputs) → IsOne (IsRunWith r i)
-  run_once r i = opened_once (bad_pick i) i (IsSeeded i r.seed r.quantum) (texts_of_run i) (laws.seeded i r.seed r.quantum)
+  ordered_once : (order : TurnOrder) (texts_of : SessionInputs → List Quantum → Texts) (i : SessionInputs) → IsOne (AreTexts (IsInOrder order) texts_of i)
+  ordered_once order texts_of i a b (quanta, right, e) (others, right', f) =
+      e ∙ ap (λ (l : List Quantum). Ok (texts_of i l)) (laws.seeded i order.seed order.quantum quanta others right right') ∙ sym f
 
-  visi_once : (r : VisiRequest) (i : SessionInputs) → IsOne (IsVisiWith r i)
-  visi_once r i = opened_once (bad_pick i) i (IsSeeded i r.seed r.quantum) (views_of r.views i) (laws.seeded i r.seed r.quantum)
+  session_once : (order : TurnOrder) (texts_of : SessionInputs → List Quantum → Texts) (i : SessionInputs) → IsOne (IsSession (IsInOrder order) texts_of i)
+  session_once order texts_of i = opened_once (bad_pick i) i (AreTexts (IsInOrder order) texts_of i) (ordered_once order texts_of i)
 
   direct_run_once : (r : DirectRequest) (image : Image) (conf : Conf) → IsOne (IsDirectRun r image conf)
   direct_run_once r image conf =
-      one_then (IsFound image r.settings.harts conf) (λ found. IsDirectWith r (inputs_with image found r.settings)) (found_once image r.settings.harts conf)
-      (λ found. let i = inputs_with image found r.settings in opened_once (bad_pick i) i (IsSeeded i r.seed r.quantum) (directed_texts i) (laws.seeded i r.seed r.quantum))
-
-  stress_once : (r : StressRequest) (i : SessionInputs) → IsOne (IsStressWith r i)
-  stress_once r i = opened_once (bad_pick i) i (IsSeeded i r.seed 50) (summary_of r.procs i) (laws.seeded i r.seed 50)
+      one_then (IsFound image r.session.settings.harts conf) (λ found. IsSession (IsInOrder r.order) report_alone (inputs_with image found r.session.settings))
+      (found_once image r.session.settings.harts conf) (λ found. session_once r.order report_alone (inputs_with image found r.session.settings))
 
   -- ---- logs
 
-  replay_once : (log : Log) (image : Image) (i : SessionInputs) → IsOne (IsReplayWith log image i)
-  replay_once log image i = equal_once (replayed (bad_pick i) (misfit_of i log.quanta) log image i)
+  replay_once : (log : Log) (i : SessionInputs) → IsOne (IsReplayWith log i)
+  replay_once log i = opened_once (bad_pick i) i (λ texts. texts ≡ replayed (misfit_of i log.quanta) log i) (equal_once (replayed (misfit_of i log.quanta) log i))
 
   replay_of_once : (log : Log) (i : Inputs) → IsOne (IsReplayOf log i)
   replay_of_once log i =
       one_then (IsFound i.image log.settings.harts i.conf) (IsReplay log i.image) (found_once i.image log.settings.harts i.conf)
-      (λ found. replay_once log i.image (inputs_with i.image found log.settings))
+      (λ found. replay_once log (inputs_with i.image found log.settings))
 
   module _ (sees : Sight) (once : (name : List ℕ) → IsOne (sees name)) where
     content_once : (most : ℕ) (too_long : Fault) (name : List ℕ) → IsOne (IsContent sees most too_long name)
@@ -248,43 +233,37 @@ module _ (laws : Laws) where
         (λ image. one_then (IsConfiguration sees conf) (ended image) (one_then (IsConfContent sees conf) MeansConf (content_once CONFIGURATION_LIMIT (BadConf (fault_at 0 0 TooLongConf)) conf) conf_once)
         (λ c. equal_once (Ok (record { image = image; conf = c }))))
 
-    prepared_once : (program conf : List ℕ) (settings : Settings) → IsOne (IsPrepared program conf settings sees)
-    prepared_once program conf settings =
-        let ended : Inputs → Found → Step SessionInputs = λ read found i. i ≡ Ok (inputs_with read.image found settings) in
-        one_then (AreInputs sees program conf) (λ read. Then (IsFound read.image settings.harts read.conf) (ended read)) (inputs_once program conf)
-        (λ read. one_then (IsFound read.image settings.harts read.conf) (ended read) (found_once read.image settings.harts read.conf) (λ found. equal_once (Ok (inputs_with read.image found settings))))
+    prepared_once : (r : SessionRequest) → IsOne (IsPrepared r sees)
+    prepared_once r =
+        let ended : Inputs → Found → Step SessionInputs = λ read found i. i ≡ Ok (inputs_with read.image found r.settings) in
+        one_then (AreInputs sees r.program r.conf) (λ read. Then (IsFound read.image r.settings.harts read.conf) (ended read)) (inputs_once r.program r.conf)
+        (λ read. one_then (IsFound read.image r.settings.harts read.conf) (ended read) (found_once read.image r.settings.harts read.conf)
+        (λ found. equal_once (Ok (inputs_with read.image found r.settings))))
 
-  stress_due_once : (r : StressRequest) → IsOne (IsStressDue r)
-  stress_due_once r =
-      one_then (IsPrepared (codes "program") (codes "configuration") stress_settings (stress_sight r)) (IsStressWith r)
-      (prepared_once (stress_sight r) (λ name a b e f. e ∙ sym f) (codes "program") (codes "configuration") stress_settings) (stress_once r)
-
-  module _ (sees : Sight) (once : (name : List ℕ) → IsOne (sees name)) where
-    run_due_once : (r : RunRequest) → IsOne (IsRunDue r sees)
-    run_due_once r = one_then (IsPrepared r.program r.conf r.settings sees) (IsRunWith r) (prepared_once sees once r.program r.conf r.settings) (run_once r)
+    session_of_once : (r : SessionRequest) (order : TurnOrder) (texts_of : SessionInputs → List Quantum → Texts) → IsOne (IsSessionOf r sees (IsInOrder order) texts_of)
+    session_of_once r order texts_of = one_then (IsPrepared r sees) (IsSession (IsInOrder order) texts_of) (prepared_once r) (session_once order texts_of)
 
     live_due_alike : (r : LiveRequest) (a b : Result Texts Fault) → IsLiveDue r sees a → IsLiveDue r sees b → AreAlike a b
-    live_due_alike r = related_then AreAlike of_same (IsPrepared r.program r.conf r.settings sees) (IsLiveWith r) (prepared_once sees once r.program r.conf r.settings) (live_alike r)
+    live_due_alike r =
+        related_then AreAlike of_same (IsPrepared r.session sees) (IsSession (IsByWorkers r.workers r.quantum) report_and_log) (prepared_once r.session)
+        (session_alike (IsByWorkers r.workers r.quantum) report_and_log)
 
     log_once : (name : List ℕ) → IsOne (IsLog sees name)
-    log_once name = one_then (IsLogContent sees name) MeansLog (content_once sees once LOG_LIMIT (BadLog LOG_LIMIT TooLongLog) name) (λ bytes. equal_once (or_bad_log bytes (meaning_of bytes)))
+    log_once name = one_then (IsLogContent sees name) MeansLog (content_once LOG_LIMIT (BadLog LOG_LIMIT TooLongLog) name) (λ bytes. equal_once (or_bad_log bytes (meaning_of bytes)))
 
     replay_due_once : (r : ReplayRequest) → IsOne (IsReplayDue r sees)
     replay_due_once r =
-        one_then (AreInputs sees r.program r.conf) (λ i. Then (IsLog sees r.log) (λ log. IsReplayOf log i)) (inputs_once sees once r.program r.conf)
+        one_then (AreInputs sees r.program r.conf) (λ i. Then (IsLog sees r.log) (λ log. IsReplayOf log i)) (inputs_once r.program r.conf)
         (λ i. one_then (IsLog sees r.log) (λ log. IsReplayOf log i) (log_once r.log) (λ log. replay_of_once log i))
 
-    visi_due_once : (r : VisiRequest) → IsOne (IsVisiDue r sees)
-    visi_due_once r = one_then (IsPrepared r.program r.conf r.settings sees) (IsVisiWith r) (prepared_once sees once r.program r.conf r.settings) (visi_once r)
-
-    advice_due_once : (name : List ℕ) → IsOne (IsAdviceDue name sees)
-    advice_due_once name =
-        one_then (IsReportContent sees name) (λ bytes texts. texts ≡ advised (verdicts_of bytes)) (content_once sees once REPORT_LIMIT (BadReport REPORT_LIMIT) name)
+    advise_due_once : (name : List ℕ) → IsOne (IsAdviseDue name sees)
+    advise_due_once name =
+        one_then (IsReportContent sees name) (λ bytes texts. texts ≡ advised (verdicts_of bytes)) (content_once REPORT_LIMIT (BadReport REPORT_LIMIT) name)
         (λ bytes. equal_once (advised (verdicts_of bytes)))
 
     directions_once : (name : List ℕ) → IsOne (AreDirectives sees name)
     directions_once name =
-        one_then (IsDirectivesContent sees name) MeansDirectives (content_once sees once DIRECTIVES_LIMIT (BadDirectives (fault_at 0 0 TooLongConf)) name) directives_once
+        one_then (IsDirectivesContent sees name) MeansDirectives (content_once DIRECTIVES_LIMIT (BadDirectives (fault_at 0 0 TooLongConf)) name) directives_once
 
     direction_once : (r : DirectRequest) (i : Inputs) → IsOne (IsDirection r sees i)
     direction_once r i =
@@ -294,39 +273,49 @@ module _ (laws : Laws) where
 
     direct_due_once : (r : DirectRequest) → IsOne (IsDirectDue r sees)
     direct_due_once r =
-        one_then (AreInputs sees r.program r.conf) (λ i. Then (IsFound i.image r.settings.harts i.conf) (λ found. IsDirection r sees i)) (inputs_once sees once r.program r.conf)
-        (λ i. one_then (IsFound i.image r.settings.harts i.conf) (λ found. IsDirection r sees i) (found_once i.image r.settings.harts i.conf) (λ found. direction_once r i))
+        one_then (AreInputs sees r.session.program r.session.conf) (λ i. Then (IsFound i.image r.session.settings.harts i.conf) (λ found. IsDirection r sees i))
+        (inputs_once r.session.program r.session.conf)
+        (λ i. one_then (IsFound i.image r.session.settings.harts i.conf) (λ found. IsDirection r sees i) (found_once i.image r.session.settings.harts i.conf)
+        (λ found. direction_once r i))
 
+    plan_due_once : (r : PlanRequest) → IsOne (IsPlanDue r sees)
+    plan_due_once r =
+        one_then (AreInputs sees r.program r.conf) (λ i. Then (IsFound i.image r.harts i.conf) (IsPlan r)) (inputs_once r.program r.conf)
+        (λ i. one_then (IsFound i.image r.harts i.conf) (IsPlan r) (found_once i.image r.harts i.conf) (plan_once r))
+
+    asm_due_once : (name : List ℕ) → IsOne (IsAsmDue name sees)
+    asm_due_once name =
+        one_then (IsElfFile sees name) (λ file texts. texts ≡ Ok (output file))
+        (one_then (IsProgramContent sees name) (λ bytes file. file ≡ file_of bytes) (content_once MAX_PROGRAM_LEN (BadProgram TooLong) name)
+        (λ bytes. equal_once (file_of bytes))) (λ file. equal_once (Ok (output file)))
+
+  module _ (sees : Sight) (once : (name : List ℕ) → IsOne (sees name)) where
     due_for_once : (asked : Option Request) → is_live asked ≡ false → IsOne (IsDueFor asked sees)
     due_for_once None other = equal_once (Err Usage)
-    due_for_once (Some (run r)) other = run_due_once r
+    due_for_once (Some (run r)) other = session_of_once sees once r.session r.order report_and_log
     due_for_once (Some (live r)) other = absurd (cc)
-    due_for_once (Some (replay r)) other = replay_due_once r
-    due_for_once (Some (make_plan p)) other =
-        one_then (AreInputs sees p.program p.conf) (λ i. Then (IsFound i.image p.harts i.conf) (IsPlan p)) (inputs_once sees once p.program p.conf)
-        (λ i. one_then (IsFound i.image p.harts i.conf) (IsPlan p) (found_once i.image p.harts i.conf) (plan_once p))
-    due_for_once (Some (list_points name)) other = one_then (IsProgram sees name) _ (program_once sees once name) (λ image. equal_once _)
-    due_for_once (Some (assemble name)) other =
-        one_then (IsElfFile sees name) (λ file texts. texts ≡ Ok (output file))
-        (one_then (IsProgramContent sees name) (λ bytes file. file ≡ file_of bytes) (content_once sees once MAX_PROGRAM_LEN (BadProgram TooLong) name) (λ bytes. equal_once (file_of bytes))) (λ file. equal_once (Ok (output file)))
-    due_for_once (Some (relog name)) other = one_then (IsLog sees name) _ (log_once name) (λ log. equal_once _)
-    due_for_once (Some (stress r)) other = stress_due_once r
-    due_for_once (Some (count_blocks r)) other = one_then (IsProgram sees r.program) (AreCounted r) (program_once sees once r.program) (counted_once r)
-    due_for_once (Some (visi r)) other = visi_due_once r
-    due_for_once (Some (advise name)) other = advice_due_once name
-    due_for_once (Some (direct r)) other = direct_due_once r
+    due_for_once (Some (replay r)) other = replay_due_once sees once r
+    due_for_once (Some (plan r)) other = plan_due_once sees once r
+    due_for_once (Some (points name)) other = one_then (IsProgram sees name) _ (program_once sees once name) (λ image. equal_once _)
+    due_for_once (Some (asm name)) other = asm_due_once sees once name
+    due_for_once (Some (relog name)) other = one_then (IsLog sees name) _ (log_once sees once name) (λ log. equal_once _)
+    due_for_once (Some (stress r)) other = session_of_once (stress_sight r) (λ name a b e f. e ∙ sym f) stress_session (stress_order r) (summary_of r.procs)
+    due_for_once (Some (blocks r)) other = one_then (IsProgram sees r.program) (AreCounted r) (program_once sees once r.program) (counted_once r)
+    due_for_once (Some (visi r)) other = session_of_once sees once r.session r.order (views_of r.views)
+    due_for_once (Some (advise name)) other = advise_due_once sees once name
+    due_for_once (Some (direct r)) other = direct_due_once sees once r
 
     due_for_alike : (asked : Option Request) (a b : Result Texts Fault) → IsDueFor asked sees a → IsDueFor asked sees b → AreAlike a b
     due_for_alike None a b d e = of_same a b (due_for_once None refl a b d e)
     due_for_alike (Some (run r)) a b d e = of_same a b (due_for_once (Some (run r)) refl a b d e)
-    due_for_alike (Some (live r)) a b d e = live_due_alike r a b d e
+    due_for_alike (Some (live r)) a b d e = live_due_alike sees once r a b d e
     due_for_alike (Some (replay r)) a b d e = of_same a b (due_for_once (Some (replay r)) refl a b d e)
-    due_for_alike (Some (make_plan p)) a b d e = of_same a b (due_for_once (Some (make_plan p)) refl a b d e)
-    due_for_alike (Some (list_points name)) a b d e = of_same a b (due_for_once (Some (list_points name)) refl a b d e)
-    due_for_alike (Some (assemble name)) a b d e = of_same a b (due_for_once (Some (assemble name)) refl a b d e)
+    due_for_alike (Some (plan r)) a b d e = of_same a b (due_for_once (Some (plan r)) refl a b d e)
+    due_for_alike (Some (points name)) a b d e = of_same a b (due_for_once (Some (points name)) refl a b d e)
+    due_for_alike (Some (asm name)) a b d e = of_same a b (due_for_once (Some (asm name)) refl a b d e)
     due_for_alike (Some (relog name)) a b d e = of_same a b (due_for_once (Some (relog name)) refl a b d e)
     due_for_alike (Some (stress r)) a b d e = of_same a b (due_for_once (Some (stress r)) refl a b d e)
-    due_for_alike (Some (count_blocks r)) a b d e = of_same a b (due_for_once (Some (count_blocks r)) refl a b d e)
+    due_for_alike (Some (blocks r)) a b d e = of_same a b (due_for_once (Some (blocks r)) refl a b d e)
     due_for_alike (Some (visi r)) a b d e = of_same a b (due_for_once (Some (visi r)) refl a b d e)
     due_for_alike (Some (advise name)) a b d e = of_same a b (due_for_once (Some (advise name)) refl a b d e)
     due_for_alike (Some (direct r)) a b d e = of_same a b (due_for_once (Some (direct r)) refl a b d e)

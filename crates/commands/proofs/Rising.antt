@@ -1,6 +1,6 @@
 -- The count of faults of a file that the answer names as unread has risen.
 use Rattle.std.proofs.Common.{◌≡◌, ℕ, List, length, Option, Some, None, Bool, true, false, cond, Result, Ok, Err, sym, subst}
-use Rattle.std.specs.Prelude.{⊤, codes, nat_lt}
+use Rattle.std.specs.Prelude.{⊤, nat_lt}
 use Rattle.asm_file.specs.Made.{elf_of}
 use Rattle.advice.specs.Reading.{verdicts_of}
 use Rattle.advice.specs.declared.fault.ReportFault.{ReportFault}
@@ -9,11 +9,10 @@ use Rattle.advice.specs.declared.verdict.Verdict.{Verdict}
 use Rattle.directives.specs.Acts.{applied}
 use Rattle.directives.specs.declared.fault.DirectiveFault.{DirectiveFault}
 use Rattle.mdl_ast.specs.declared.items.Item.{Item}
-use Rattle.command_words.specs.Requests.{Request, RunRequest, LiveRequest, ReplayRequest, PlanRequest, StressRequest, VisiRequest, DirectRequest, run, live, replay, make_plan, assemble, list_points, relog, stress, count_blocks, visi, advise, direct, request_of}
+use Rattle.command_words.specs.Requests.{Request, SessionRequest, ReplayRequest, PlanRequest, StressRequest, DirectRequest, run, live, replay, plan, asm, points, relog, stress, blocks, visi, advise, direct, request_of}
 use Rattle.elf_form.specs.Meaning.{meaning_of}
 use Rattle.elf_form.specs.declared.fault.ElfFault.{ElfFault}
 use Rattle.elf_form.specs.declared.limits.TheConstants.{MAX_PROGRAM_LEN}
-use Rattle.live_run.specs.ByWorkers.{IsShared}
 use Rattle.mdl_ast.specs.declared.items.Conf.{Conf}
 use Rattle.mdl_ast.specs.declared.metric.Metric.{Metric}
 use Rattle.mdl_shipped.specs.Shipped.{shipped_conf}
@@ -32,7 +31,7 @@ use Rattle.quanta_log.specs.declared.fault.LogFault.TheVariants as log_fault
 use Rattle.pn_types.specs.declared.quantum.Quantum.{Quantum}
 use Rattle.refusals.proofs.Steps.{of_either}
 use Rattle.refusals.specs.Kinds.{fault_at}
-use Rattle.refusals.specs.Refusals.{Then}
+use Rattle.refusals.specs.Refusals.{Step, Then}
 use Rattle.refusals.specs.declared.configuration.ConfKind.TheVariants.{TooLong as TooLongConf}
 use Rattle.refusals.specs.declared.fault.Fault.{Fault}
 use Rattle.refusals.specs.declared.fault.Fault.TheVariants.{Usage, FileFault, BadProgram, BadConf, BadPick, BadLog, TooManyBlocks, BadDirectives, BadReport}
@@ -46,16 +45,15 @@ use Rattle.session_spec.specs.Inputs.{Inputs as SessionInputs}
 use Rattle.session_spec.specs.Opening.{bad_pick}
 use Rattle.session_spec.specs.declared.data.RefusedWish.{RefusedWish}
 use Rattle.whole_run.specs.Replayed.{misfit_of}
-use Rattle.whole_run.specs.Seeded.{IsSeeded}
 use Rattle.whole_run.specs.declared.misfit.Misfit.{Misfit}
 use Rattle.whole_run.specs.declared.misfit.Misfit.TheVariants as misfit
 use Rattle.commands.specs.Given.{inputs_with}
-use Rattle.commands.specs.Advising.{advised, IsAdviceDue, IsReportContent}
+use Rattle.commands.specs.Advising.{advised, IsAdviseDue, IsReportContent}
 use Rattle.commands.specs.Output.{output}
 use Rattle.commands.specs.Blocks.{AreCounted}
-use Rattle.commands.specs.Directing.{MeansDirectives, AreDirectives, IsDirected, IsDirectDue, IsDirection, IsDirectivesContent, IsDirectRun, IsDirectWith, conf_with, directed_texts, or_bad_directives}
+use Rattle.commands.specs.Directing.{MeansDirectives, AreDirectives, IsDirected, IsDirectDue, IsDirection, IsDirectivesContent, IsDirectRun, conf_with, or_bad_directives}
 use Rattle.commands.specs.Due.{IsDueFor, IsDue}
-use Rattle.commands.specs.Runs.{texts_of_run, IsPrepared, IsOpened, IsRunWith, IsRunDue, IsLiveWith, IsLiveDue, IsVisiWith, IsVisiDue, views_of, IsStressWith, IsStressDue, stress_settings, stress_sight, summary_of}
+use Rattle.commands.specs.Runs.{AreTexts, IsByWorkers, IsInOrder, IsOpened, IsPrepared, IsSession, IsSessionOf, IsStressDue, Order, report_alone, report_and_log, stress_order, stress_session, stress_sight, summary_of, views_of}
 use Rattle.commands.specs.Found.{resources_of, IsCheck, IsFound}
 use Rattle.commands.specs.Inputs.{begins_elf, or_bad_elf, or_bad_text, image_of, file_of, MeansConf, IsProgramContent, IsProgram, IsElfFile, IsConfContent, IsConfiguration, AreInputs}
 use Rattle.commands.specs.Logs.{or_bad_log, IsLog, IsLogContent, MeansLog}
@@ -114,7 +112,7 @@ conf_spared : (text : List ℕ) (name : List ℕ) → MeansConf text (Err (FileF
 conf_spared text name (line, col, kind, wrong, e) = cc
 
 check_spared : (t : Resources) (conf : Conf) (name : List ℕ) → IsCheck t conf (Err (FileFault name)) → ⊥
-check_spared t conf name (line, kind, answer, e) = cc
+check_spared t conf name (found, answer, e) = cc
 
 metric_spared : (o : Option Metric) (name : List ℕ) → Err (FileFault name) ≡ or_unknown o → ⊥
 metric_spared None name e = cc
@@ -125,15 +123,18 @@ focus_spared None name e = cc
 focus_spared (Some m) name e = cc
 
 plan_spared : (metric focus : List ℕ) (due : Result Plan PlanFault) (name : List ℕ) → IsPlanned metric focus due (Err (FileFault name)) → ⊥
-plan_spared metric focus (Ok plan) name e = cc
-plan_spared metric focus (Err cause.NoMemory) name e = e
+plan_spared metric focus (Ok made) name e = cc
 plan_spared metric focus (Err (cause.NoConstraint axis)) name e = cc
 plan_spared metric focus (Err (cause.TooManySites n)) name e = cc
 plan_spared metric focus (Err (cause.TooManyStmts at)) name e = cc
 
-opened_spared : (pick : Option RefusedWish) (i : SessionInputs) (AreRight : List Quantum → Type 0) (texts_of : List Quantum → Texts) (name : List ℕ) → IsOpened pick i AreRight texts_of (Err (FileFault name)) → ⊥
-opened_spared None i AreRight texts_of name (quanta, right, e) = cc
-opened_spared (Some wish) i AreRight texts_of name e = cc
+opened_spared : (pick : Option RefusedWish) (i : SessionInputs) (comes : Step Texts) (name : List ℕ) → (comes (Err (FileFault name)) → ⊥) →
+    IsOpened pick i comes (Err (FileFault name)) → ⊥
+opened_spared None i comes name h e = h e
+opened_spared (Some wish) i comes name h e = cc
+
+session_spared : (InOrder : Order) (texts_of : SessionInputs → List Quantum → Texts) (i : SessionInputs) (name : List ℕ) → IsSession InOrder texts_of i (Err (FileFault name)) → ⊥
+session_spared InOrder texts_of i name = opened_spared (bad_pick i) i (AreTexts InOrder texts_of i) name (λ (quanta, right, e). cc)
 
 log_spared : (bytes : List ℕ) (r : Result (Settings × List Quantum) LogFault) → Spares (or_bad_log bytes r)
 log_spared bytes (Ok log) = tt
@@ -142,15 +143,16 @@ log_spared bytes (Err (log_fault.Short n)) = tt
 log_spared bytes (Err (log_fault.BadField n)) = tt
 log_spared bytes (Err (log_fault.Trailing n)) = tt
 
-replayed_spared : (pick : Option RefusedWish) (m : Option Misfit) (log : Log) (image : Image) (i : SessionInputs) → Spares (replayed pick m log image i)
-replayed_spared (Some wish) m log image i = tt
-replayed_spared None (Some (misfit.NotRunnable number hart)) log image i = tt
-replayed_spared None (Some (misfit.OtherOwns number told owns)) log image i = tt
-replayed_spared None (Some misfit.Unfinished) log image i = tt
-replayed_spared None None log image i = tt
+replayed_spared : (m : Option Misfit) (log : Log) (i : SessionInputs) → Spares (replayed m log i)
+replayed_spared (Some (misfit.NotRunnable number hart)) log i = tt
+replayed_spared (Some (misfit.OtherOwns number told owns)) log i = tt
+replayed_spared (Some misfit.Unfinished) log i = tt
+replayed_spared None log i = tt
 
-replay_spared : (log : Log) (image : Image) (i : SessionInputs) (name : List ℕ) → IsReplayWith log image i (Err (FileFault name)) → ⊥
-replay_spared log image i name e = spared (replayed (bad_pick i) (misfit_of i log.quanta) log image i) name (replayed_spared (bad_pick i) (misfit_of i log.quanta) log image i) e
+replay_spared : (log : Log) (i : SessionInputs) (name : List ℕ) → IsReplayWith log i (Err (FileFault name)) → ⊥
+replay_spared log i name =
+    opened_spared (bad_pick i) i (λ texts. texts ≡ replayed (misfit_of i log.quanta) log i) name
+    (spared (replayed (misfit_of i log.quanta) log i) name (replayed_spared (misfit_of i log.quanta) log i))
 
 advice_spared : (r : Result (List Verdict) ReportFault) → Spares (advised r)
 advice_spared (Ok verdicts) = tt
@@ -209,30 +211,21 @@ module _ (name : List ℕ) (P : Type 0) (sees : Sight) (at_file : (other : List 
   no_usage : due_texts (FileFault name) ≡ due_texts Usage → P
   no_usage e = absurd (cc)
 
-  at_prepared : (program conf : List ℕ) (settings : Settings) → IsPrepared program conf settings sees (Err (FileFault name)) → P
-  at_prepared program conf settings =
-      let ended : Inputs → Found → Result SessionInputs Fault → Type 0 = λ read found i. i ≡ Ok (inputs_with read.image found settings) in
-      of_either P (AreInputs sees program conf) (λ read. Then (IsFound read.image settings.harts read.conf) (ended read)) (FileFault name) (at_inputs program conf)
-      (λ read. of_either P (IsFound read.image settings.harts read.conf) (ended read) (FileFault name)
-      (λ wrong. absurd (check_spared (resources_of read.image settings.harts read.conf) read.conf name wrong)) (λ found e. absurd (cc)))
+  at_prepared : (r : SessionRequest) → IsPrepared r sees (Err (FileFault name)) → P
+  at_prepared r =
+      let ended : Inputs → Found → Result SessionInputs Fault → Type 0 = λ read found i. i ≡ Ok (inputs_with read.image found r.settings) in
+      of_either P (AreInputs sees r.program r.conf) (λ read. Then (IsFound read.image r.settings.harts read.conf) (ended read)) (FileFault name) (at_inputs r.program r.conf)
+      (λ read. of_either P (IsFound read.image r.settings.harts read.conf) (ended read) (FileFault name)
+      (λ wrong. absurd (check_spared (resources_of read.image r.settings.harts read.conf) read.conf name wrong)) (λ found e. absurd (cc)))
+
+  at_session : (r : SessionRequest) (InOrder : Order) (texts_of : SessionInputs → List Quantum → Texts) → IsSessionOf r sees InOrder texts_of (Err (FileFault name)) → P
+  at_session r InOrder texts_of =
+      of_either P (IsPrepared r sees) (IsSession InOrder texts_of) (FileFault name) (at_prepared r) (λ i e. absurd (session_spared InOrder texts_of i name e))
 
 stress_spared : (r : StressRequest) (name : List ℕ) → IsStressDue r (Err (FileFault name)) → ⊥
-stress_spared r name =
-    of_either ⊥ (IsPrepared (codes "program") (codes "configuration") stress_settings (stress_sight r)) (IsStressWith r) (FileFault name)
-    (at_prepared name ⊥ (stress_sight r) (λ other e. absurd (cc)) (codes "program") (codes "configuration") stress_settings)
-    (λ i e. opened_spared (bad_pick i) i (IsSeeded i r.seed 50) (summary_of r.procs i) name e)
+stress_spared r name = at_session name ⊥ (stress_sight r) (λ other e. absurd (cc)) stress_session (IsInOrder (stress_order r)) (summary_of r.procs)
 
 module _ (name : List ℕ) (P : Type 0) (sees : Sight) (at_file : (other : List ℕ) → sees other (Err (FileFault name)) → P) where
-  at_run : (r : RunRequest) → IsRunDue r sees (Err (FileFault name)) → P
-  at_run r =
-      of_either P (IsPrepared r.program r.conf r.settings sees) (IsRunWith r) (FileFault name) (at_prepared name P sees at_file r.program r.conf r.settings)
-      (λ i e. absurd (opened_spared (bad_pick i) i (IsSeeded i r.seed r.quantum) (texts_of_run i) name e))
-
-  at_live : (r : LiveRequest) → IsLiveDue r sees (Err (FileFault name)) → P
-  at_live r =
-      of_either P (IsPrepared r.program r.conf r.settings sees) (IsLiveWith r) (FileFault name) (at_prepared name P sees at_file r.program r.conf r.settings)
-      (λ i e. absurd (opened_spared (bad_pick i) i (IsShared i r.workers r.quantum) (texts_of_run i) name e))
-
   at_log : (other : List ℕ) → IsLog sees other (Err (FileFault name)) → P
   at_log other =
       of_either P (IsLogContent sees other) MeansLog (FileFault name) (at_content name P sees at_file LOG_LIMIT (BadLog LOG_LIMIT TooLongLog) other tt)
@@ -242,19 +235,14 @@ module _ (name : List ℕ) (P : Type 0) (sees : Sight) (at_file : (other : List 
   at_replay_from log i =
       of_either P (IsFound i.image log.settings.harts i.conf) (IsReplay log i.image) (FileFault name)
       (λ wrong. absurd (check_spared (resources_of i.image log.settings.harts i.conf) i.conf name wrong))
-      (λ found e. absurd (replay_spared log i.image (inputs_with i.image found log.settings) name e))
+      (λ found e. absurd (replay_spared log (inputs_with i.image found log.settings) name e))
 
   at_replay : (r : ReplayRequest) → IsReplayDue r sees (Err (FileFault name)) → P
   at_replay r =
       of_either P (AreInputs sees r.program r.conf) (λ i. Then (IsLog sees r.log) (λ log. IsReplayOf log i)) (FileFault name) (at_inputs name P sees at_file r.program r.conf)
       (λ i. of_either P (IsLog sees r.log) (λ log. IsReplayOf log i) (FileFault name) (at_log r.log) (λ log. at_replay_from log i))
 
-  at_visi : (r : VisiRequest) → IsVisiDue r sees (Err (FileFault name)) → P
-  at_visi r =
-      of_either P (IsPrepared r.program r.conf r.settings sees) (IsVisiWith r) (FileFault name) (at_prepared name P sees at_file r.program r.conf r.settings)
-      (λ i e. absurd (opened_spared (bad_pick i) i (IsSeeded i r.seed r.quantum) (views_of r.views i) name e))
-
-  at_advice : (other : List ℕ) → IsAdviceDue other sees (Err (FileFault name)) → P
+  at_advice : (other : List ℕ) → IsAdviseDue other sees (Err (FileFault name)) → P
   at_advice other =
       of_either P (IsReportContent sees other) (λ bytes texts. texts ≡ advised (verdicts_of bytes)) (FileFault name) (at_content name P sees at_file REPORT_LIMIT (BadReport REPORT_LIMIT) other tt)
       (λ bytes e. absurd (spared (advised (verdicts_of bytes)) name (advice_spared (verdicts_of bytes)) e))
@@ -266,9 +254,9 @@ module _ (name : List ℕ) (P : Type 0) (sees : Sight) (at_file : (other : List 
 
   at_direct_run : (r : DirectRequest) (image : Image) (conf : Conf) → IsDirectRun r image conf (Err (FileFault name)) → P
   at_direct_run r image conf =
-      of_either P (IsFound image r.settings.harts conf) (λ found. IsDirectWith r (inputs_with image found r.settings)) (FileFault name)
-      (λ wrong. absurd (check_spared (resources_of image r.settings.harts conf) conf name wrong))
-      (λ found e. let i = inputs_with image found r.settings in absurd (opened_spared (bad_pick i) i (IsSeeded i r.seed r.quantum) (directed_texts i) name e))
+      of_either P (IsFound image r.session.settings.harts conf) (λ found. IsSession (IsInOrder r.order) report_alone (inputs_with image found r.session.settings)) (FileFault name)
+      (λ wrong. absurd (check_spared (resources_of image r.session.settings.harts conf) conf name wrong))
+      (λ found e. absurd (session_spared (IsInOrder r.order) report_alone (inputs_with image found r.session.settings) name e))
 
   at_direction : (r : DirectRequest) (i : Inputs) → IsDirection r sees i (Err (FileFault name)) → P
   at_direction r i =
@@ -279,27 +267,29 @@ module _ (name : List ℕ) (P : Type 0) (sees : Sight) (at_file : (other : List 
 
   at_direct : (r : DirectRequest) → IsDirectDue r sees (Err (FileFault name)) → P
   at_direct r =
-      of_either P (AreInputs sees r.program r.conf) (λ i. Then (IsFound i.image r.settings.harts i.conf) (λ found. IsDirection r sees i)) (FileFault name) (at_inputs name P sees at_file r.program r.conf)
-      (λ i. of_either P (IsFound i.image r.settings.harts i.conf) (λ found. IsDirection r sees i) (FileFault name)
-      (λ wrong. absurd (check_spared (resources_of i.image r.settings.harts i.conf) i.conf name wrong)) (λ found. at_direction r i))
+      let harts = r.session.settings.harts in
+      of_either P (AreInputs sees r.session.program r.session.conf) (λ i. Then (IsFound i.image harts i.conf) (λ found. IsDirection r sees i)) (FileFault name)
+      (at_inputs name P sees at_file r.session.program r.session.conf)
+      (λ i. of_either P (IsFound i.image harts i.conf) (λ found. IsDirection r sees i) (FileFault name)
+      (λ wrong. absurd (check_spared (resources_of i.image harts i.conf) i.conf name wrong)) (λ found. at_direction r i))
 
   at_request : (asked : Option Request) → IsDueFor asked sees (Err (FileFault name)) → P
   at_request None = no_usage name P sees at_file
-  at_request (Some (run r)) = at_run r
-  at_request (Some (live r)) = at_live r
+  at_request (Some (run r)) = at_session name P sees at_file r.session (IsInOrder r.order) report_and_log
+  at_request (Some (live r)) = at_session name P sees at_file r.session (IsByWorkers r.workers r.quantum) report_and_log
   at_request (Some (replay r)) = at_replay r
-  at_request (Some (make_plan p)) =
+  at_request (Some (plan p)) =
       of_either P (AreInputs sees p.program p.conf) (λ i. Then (IsFound i.image p.harts i.conf) (IsPlan p)) (FileFault name) (at_inputs name P sees at_file p.program p.conf)
       (λ i. of_either P (IsFound i.image p.harts i.conf) (IsPlan p) (FileFault name)
       (λ wrong. absurd (check_spared (resources_of i.image p.harts i.conf) i.conf name wrong)) (λ found e. absurd (at_plan name P sees at_file p found e)))
-  at_request (Some (list_points other)) = of_either P (IsProgram sees other) _ (FileFault name) (at_program name P sees at_file other) (λ image e. absurd (cc))
-  at_request (Some (assemble other)) = of_either P (IsElfFile sees other) (λ file texts. texts ≡ Ok (output file)) (FileFault name) (at_text name P sees at_file other) (λ file e. absurd (cc))
+  at_request (Some (points other)) = of_either P (IsProgram sees other) _ (FileFault name) (at_program name P sees at_file other) (λ image e. absurd (cc))
+  at_request (Some (asm other)) = of_either P (IsElfFile sees other) (λ file texts. texts ≡ Ok (output file)) (FileFault name) (at_text name P sees at_file other) (λ file e. absurd (cc))
   at_request (Some (relog other)) = of_either P (IsLog sees other) _ (FileFault name) (at_log other) (λ log e. absurd (cc))
   at_request (Some (stress r)) = λ e. absurd (stress_spared r name e)
-  at_request (Some (visi r)) = at_visi r
+  at_request (Some (visi r)) = at_session name P sees at_file r.session (IsInOrder r.order) (views_of r.views)
   at_request (Some (advise other)) = at_advice other
   at_request (Some (direct r)) = at_direct r
-  at_request (Some (count_blocks r)) =
+  at_request (Some (blocks r)) =
       of_either P (IsProgram sees r.program) (AreCounted r) (FileFault name) (at_program name P sees at_file r.program) (λ image e. absurd (counted_spared r image name e))
 
   at_words : (words : List (List ℕ)) → IsDue words sees (Err (FileFault name)) → P

@@ -5,11 +5,10 @@ use Rattle.std.proofs.lemmas.Bool.{cases_lt, lt-ltb, le-ltb, cond-true, cond-fal
 use Rattle.std.proofs.lemmas.List.{get_or-replicate, get_or_past, length-replicate}
 use Rattle.outside.specs.Causes.{Rose}
 use Rattle.outside.specs.Outside.{Holding, IsBytes, IsWhole, IsLonger}
-use Rattle.command_words.specs.Requests.{DirectRequest}
+use Rattle.command_words.specs.Requests.{DirectRequest, SessionRequest}
 use Rattle.directives.specs.declared.directive.Directive.{Directive}
 use Rattle.mdl_ast.specs.declared.items.Conf.{Conf}
 use Rattle.pn_types.specs.declared.image.Image.{Image}
-use Rattle.pn_types.specs.declared.settings.Settings.{Settings}
 use Rattle.refusals.specs.Refusals.{Comes, Refuses, Step}
 use Rattle.refusals.specs.declared.fault.Fault.{Fault}
 use Rattle.refusals.specs.declared.refusal.Refusal.{Refusal}
@@ -82,9 +81,9 @@ inputs_from : (sees also : Sight) (program conf : List ℕ) → ((r : Result (Li
 inputs_from sees also program conf more most i (Ok image, p, (c, q, is)) = (Ok image, program_from sees also program more (Ok image) p, (c, configuration_from sees also conf most c q, is))
 inputs_from sees also program conf more most i (Err fault, p, is) = (Err fault, program_from sees also program more (Err fault) p, is)
 
-pub prepared_from : (sees also : Sight) (program conf : List ℕ) (settings : Settings) → ((r : Result (List ℕ) Fault) → sees program r → also program r) → ((r : Result (List ℕ) Fault) → sees conf r → also conf r) →
-    (i : Result SessionInputs Fault) → IsPrepared program conf settings sees i → IsPrepared program conf settings also i
-prepared_from sees also program conf settings more most i (read, h, rest) = (read, inputs_from sees also program conf more most read h, rest)
+pub prepared_from : (sees also : Sight) (r : SessionRequest) → ((x : Result (List ℕ) Fault) → sees r.program x → also r.program x) →
+    ((x : Result (List ℕ) Fault) → sees r.conf x → also r.conf x) → (i : Result SessionInputs Fault) → IsPrepared r sees i → IsPrepared r also i
+prepared_from sees also r more most i (read, h, rest) = (read, inputs_from sees also r.program r.conf more most read h, rest)
 
 pub comes_as : {A : Type 0} (step other : Step A) → ((a : Result A Fault) → step a → other a) → (r : Result A Refusal) → Comes r step → Comes r other
 comes_as step other more (Ok a) h = more (Ok a) h

@@ -22,5 +22,5 @@ abbrev pub IsReportContent : Sight → List ℕ → Step (List ℕ)
 IsReportContent sees = IsContent sees 33554432 (BadReport 33554432)
 
 -- what the report of a name advises
-abbrev pub IsAdviceDue : List ℕ → Sight → Step Texts
-IsAdviceDue name sees = Then (IsReportContent sees name) (λ bytes texts. texts ≡ advised (verdicts_of bytes))
+abbrev pub IsAdviseDue : List ℕ → Sight → Step Texts
+IsAdviseDue name sees = Then (IsReportContent sees name) (λ bytes texts. texts ≡ advised (verdicts_of bytes))

@@ -17,7 +17,7 @@ use Rattle.commands.specs.Sights.{Sight}
 use Rattle.commands.specs.declared.texts.Texts.{Texts}
 
 abbrev pub pace_of : BlocksRequest → Pace
-pace_of r = record { harts = r.harts; turns = r.quantum; seed = r.seed }
+pace_of r = record { harts = r.harts; turns = r.order.quantum; seed = r.order.seed }
 
 -- What is counted of the image's blocks, or that more of them can be counted than a hart has slots.
 abbrev pub AreCounted : BlocksRequest → Image → Step Texts
@@ -25,5 +25,5 @@ AreCounted r image (Ok texts) =
     (counts : Counts) × IsCounted image (procedures_of image) r.budget (pace_of r) counts × (texts ≡ output (blocks_text (heads_of image (procedures_of image)) counts))
 AreCounted r image (Err why) = (count : ℕ) × IsFault image (procedures_of image) (fault.TooManyBlocks count) × (why ≡ TooManyBlocks count)
 
-abbrev pub AreBlocksDue : BlocksRequest → Sight → Step Texts
-AreBlocksDue r sees = Then (IsProgram sees r.program) (AreCounted r)
+abbrev pub IsBlocksDue : BlocksRequest → Sight → Step Texts
+IsBlocksDue r sees = Then (IsProgram sees r.program) (AreCounted r)

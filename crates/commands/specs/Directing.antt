@@ -1,6 +1,5 @@
 -- What is due for `direct`.
 use Rattle.std.specs.Prelude.{◌≡◌, ℕ, List, Result, Ok, Err}
-use Rattle.code_points.specs.Procedures.{skipped_of}
 use Rattle.command_words.specs.Requests.{DirectRequest}
 use Rattle.directives.specs.Acts.{applied}
 use Rattle.directives.specs.Meaning.{IsDirectives, IsFault}
@@ -11,21 +10,15 @@ use Rattle.mdl_ast.specs.declared.items.Conf.{Conf}
 use Rattle.mdl_ast.specs.declared.items.Item.{Item}
 use Rattle.mdl_shipped.specs.Shipped.{shipped_conf}
 use Rattle.pn_types.specs.declared.image.Image.{Image}
-use Rattle.pn_types.specs.declared.quantum.Quantum.{Quantum}
 use Rattle.refusals.specs.Kinds.{fault_at, directive_kind}
 use Rattle.refusals.specs.Refusals.{Step, Then}
 use Rattle.refusals.specs.declared.configuration.ConfKind.TheVariants.{TooLong}
 use Rattle.refusals.specs.declared.fault.Fault.{Fault}
 use Rattle.refusals.specs.declared.fault.Fault.TheVariants.{BadDirectives}
-use Rattle.session_spec.specs.Inputs.{Inputs}
-use Rattle.session_spec.specs.Opening.{bad_pick}
-use Rattle.whole_run.specs.Recorded.{report_of}
-use Rattle.whole_run.specs.Seeded.{IsSeeded}
-use Rattle.commands.specs.Output.{output}
 use Rattle.commands.specs.Found.{IsFound}
 use Rattle.commands.specs.Given.{inputs_with}
 use Rattle.commands.specs.Inputs.{AreInputs}
-use Rattle.commands.specs.Runs.{IsOpened}
+use Rattle.commands.specs.Runs.{IsInOrder, IsSession, report_alone}
 use Rattle.commands.specs.Sights.{Sight, IsContent}
 use Rattle.commands.specs.declared.inputs.Inputs.{Inputs as Read}
 use Rattle.commands.specs.declared.texts.Texts.{Texts}
@@ -65,17 +58,11 @@ IsDirected conf directives directed = directed ≡ conf_with (or_bad_directives 
 
 -- ---- direct
 
--- the report of these quanta
-abbrev pub directed_texts : Inputs → List Quantum → Texts
-directed_texts i quanta = output (report_of i quanta (skipped_of i.image))
-
--- the whole list of quanta in the order of the seed
-abbrev pub IsDirectWith : DirectRequest → Inputs → Step Texts
-IsDirectWith r i = IsOpened (bad_pick i) i (IsSeeded i r.seed r.quantum) (directed_texts i)
-
--- the run of an image under a configuration, which is checked again
+-- a whole run of an image under a configuration, which is checked again
 abbrev pub IsDirectRun : DirectRequest → Image → Conf → Step Texts
-IsDirectRun r image conf = Then (IsFound image r.settings.harts conf) (λ found. IsDirectWith r (inputs_with image found r.settings))
+IsDirectRun r image conf =
+    Then (IsFound image r.session.settings.harts conf) (λ found.
+    IsSession (IsInOrder r.order) report_alone (inputs_with image found r.session.settings))
 
 -- directives, and the run under what they make of the configuration
 abbrev pub IsDirection : DirectRequest → Sight → Read → Step Texts
@@ -84,4 +71,5 @@ IsDirection r sees i = Then (AreDirectives sees r.directives) (λ directives. Th
 -- The program and the configuration are read and checked, and then the directives.
 abbrev pub IsDirectDue : DirectRequest → Sight → Step Texts
 IsDirectDue r sees =
-    Then (AreInputs sees r.program r.conf) (λ i. Then (IsFound i.image r.settings.harts i.conf) (λ found. IsDirection r sees i))
+    Then (AreInputs sees r.session.program r.session.conf) (λ i.
+    Then (IsFound i.image r.session.settings.harts i.conf) (λ found. IsDirection r sees i))

@@ -1,13 +1,13 @@
 -- What is due for words and files.
 use Rattle.std.specs.Prelude.{◌≡◌, ℕ, Bool, true, false, List, Option, None, Some, Result, Ok, Err}
-use Rattle.command_words.specs.Requests.{Request, run, live, replay, make_plan, assemble, list_points, relog, stress, count_blocks, visi, advise, direct, request_of}
+use Rattle.command_words.specs.Requests.{Request, run, live, replay, plan, asm, points, relog, stress, blocks, visi, advise, direct, request_of}
 use Rattle.refusals.specs.Refusals.{Step}
 use Rattle.refusals.specs.declared.fault.Fault.{Fault}
 use Rattle.refusals.specs.declared.fault.Fault.TheVariants.{Usage}
-use Rattle.commands.specs.Advising.{IsAdviceDue}
-use Rattle.commands.specs.Blocks.{AreBlocksDue}
+use Rattle.commands.specs.Advising.{IsAdviseDue}
+use Rattle.commands.specs.Blocks.{IsBlocksDue}
 use Rattle.commands.specs.Directing.{IsDirectDue}
-use Rattle.commands.specs.Listing.{ArePoints, IsAssembled}
+use Rattle.commands.specs.Listing.{IsPointsDue, IsAsmDue}
 use Rattle.commands.specs.Plans.{IsPlanDue}
 use Rattle.commands.specs.Replays.{IsRelogDue, IsReplayDue}
 use Rattle.commands.specs.Runs.{IsRunDue, IsLiveDue, IsVisiDue, IsStressDue}
@@ -20,14 +20,14 @@ IsDueFor None sees texts = texts ≡ Err Usage
 IsDueFor (Some (run r)) sees texts = IsRunDue r sees texts
 IsDueFor (Some (live r)) sees texts = IsLiveDue r sees texts
 IsDueFor (Some (replay r)) sees texts = IsReplayDue r sees texts
-IsDueFor (Some (make_plan p)) sees texts = IsPlanDue p sees texts
-IsDueFor (Some (list_points name)) sees texts = ArePoints name sees texts
-IsDueFor (Some (assemble name)) sees texts = IsAssembled name sees texts
+IsDueFor (Some (plan r)) sees texts = IsPlanDue r sees texts
+IsDueFor (Some (points name)) sees texts = IsPointsDue name sees texts
+IsDueFor (Some (asm name)) sees texts = IsAsmDue name sees texts
 IsDueFor (Some (relog name)) sees texts = IsRelogDue name sees texts
 IsDueFor (Some (stress r)) sees texts = IsStressDue r texts
-IsDueFor (Some (count_blocks r)) sees texts = AreBlocksDue r sees texts
+IsDueFor (Some (blocks r)) sees texts = IsBlocksDue r sees texts
 IsDueFor (Some (visi r)) sees texts = IsVisiDue r sees texts
-IsDueFor (Some (advise name)) sees texts = IsAdviceDue name sees texts
+IsDueFor (Some (advise name)) sees texts = IsAdviseDue name sees texts
 IsDueFor (Some (direct r)) sees texts = IsDirectDue r sees texts
 
 -- What is due for words and what was seen of files: the texts that were asked for, or the first fault.

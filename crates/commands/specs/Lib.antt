@@ -7,6 +7,7 @@ pub mod Plans
 pub mod Logs
 pub mod Replays
 pub mod Runs
+pub mod Preparing
 pub mod Blocks
 pub mod Advising
 pub mod Directing

@@ -10,10 +10,10 @@ use Rattle.commands.specs.Sights.{Sight}
 use Rattle.commands.specs.declared.texts.Texts.{Texts}
 
 -- the points of the program of a name
-abbrev pub ArePoints : List ℕ → Sight → Step Texts
-ArePoints name sees =
+abbrev pub IsPointsDue : List ℕ → Sight → Step Texts
+IsPointsDue name sees =
     Then (IsProgram sees name) (λ image texts. texts ≡ Ok (output (points_text (procedures_of image) (points_of image (procedures_of image)) (skipped_of image))))
 
 -- the ELF file of the text of a name
-abbrev pub IsAssembled : List ℕ → Sight → Step Texts
-IsAssembled name sees = Then (IsElfFile sees name) (λ file texts. texts ≡ Ok (output file))
+abbrev pub IsAsmDue : List ℕ → Sight → Step Texts
+IsAsmDue name sees = Then (IsElfFile sees name) (λ file texts. texts ≡ Ok (output file))

@@ -5,7 +5,7 @@ use Rattle.command_words.specs.Requests.{PlanRequest}
 use Rattle.mdl_ast.specs.declared.metric.Metric.{Metric}
 use Rattle.mdl_plan.specs.Plans.{plan_of}
 use Rattle.mdl_plan.specs.declared.fault.PlanFault.{PlanFault}
-use Rattle.mdl_plan.specs.declared.fault.PlanFault.TheVariants.{NoMemory, NoConstraint, TooManySites, TooManyStmts}
+use Rattle.mdl_plan.specs.declared.fault.PlanFault.TheVariants.{NoConstraint, TooManySites, TooManyStmts}
 use Rattle.pn_types.specs.declared.focus.Focus.{Focus}
 use Rattle.pn_types.specs.declared.pick.PickCause.TheVariants as cause
 use Rattle.pn_types.specs.declared.plan.Plan.{Plan}
@@ -44,7 +44,6 @@ IsSelected t text focus = (o : Option Focus) × Selects t text o × (focus ≡ o
 -- the text of a plan of a metric at a focus, or why there is none
 abbrev pub IsPlanned : List ℕ → List ℕ → Result Plan PlanFault → Step Texts
 IsPlanned metric focus (Ok plan) texts = texts ≡ Ok (output (plan_text metric focus (predicted plan) plan))
-IsPlanned metric focus (Err NoMemory) texts = ⊥
 IsPlanned metric focus (Err (NoConstraint axis)) texts = texts ≡ Err (BadPick metric focus (cause.NoConstraint axis))
 IsPlanned metric focus (Err (TooManySites n)) texts = texts ≡ Err (BadPick metric focus (cause.TooManySites n))
 IsPlanned metric focus (Err (TooManyStmts at)) texts = texts ≡ Err (BadPick metric focus (cause.TooManyStmts at))

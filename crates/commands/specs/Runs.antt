@@ -1,10 +1,10 @@
--- What is due for the commands that run a program: `run`, `live`, `visi` and `stress`.
+-- What is due for the commands that run a program under a configuration: `run`, `live`, `visi` and `stress`.
 use Rattle.std.specs.Prelude.{◌≡◌, ℕ, if◌then◌else◌, List, replicate, Option, None, Some, Ok, Err, codes}
 use Rattle.std.specs.Str.{bytes_eq}
 use Rattle.code_points.specs.Procedures.{skipped_of}
-use Rattle.command_words.specs.Requests.{RunRequest, LiveRequest, VisiRequest, StressRequest}
+use Rattle.command_words.specs.Requests.{SessionRequest, RunRequest, LiveRequest, VisiRequest, StressRequest}
+use Rattle.command_words.specs.declared.requests.TurnOrder.{TurnOrder}
 use Rattle.live_run.specs.ByWorkers.{IsShared}
-use Rattle.pn_types.specs.declared.settings.Settings.{Settings}
 use Rattle.pn_types.specs.declared.settings.Start.TheVariants.{Warm}
 use Rattle.pn_types.specs.declared.quantum.Quantum.{Quantum}
 use Rattle.refusals.specs.Refusals.{Step, Then}
@@ -29,34 +29,57 @@ use Rattle.commands.specs.Sights.{Sight}
 use Rattle.commands.specs.declared.texts.Texts.{Texts}
 
 -- A program and a configuration, as a session is given them.
-abbrev pub IsPrepared : List ℕ → List ℕ → Settings → Sight → Step Inputs
-IsPrepared program conf settings sees =
-    Then (AreInputs sees program conf) (λ read. Then (IsFound read.image settings.harts read.conf) (λ found i. i ≡ Ok (inputs_with read.image found settings)))
+abbrev pub IsPrepared : SessionRequest → Sight → Step Inputs
+IsPrepared r sees =
+    Then (AreInputs sees r.program r.conf) (λ read.
+    Then (IsFound read.image r.settings.harts read.conf) (λ found i. i ≡ Ok (inputs_with read.image found r.settings)))
 
--- The texts of a list of quanta as it must be; or the first wish at tick 0 that is refused.
-abbrev pub IsOpened : Option RefusedWish → Inputs → (List Quantum → Type 0) → (List Quantum → Texts) → Step Texts
-IsOpened None i AreRight texts_of texts = (quanta : List Quantum) × AreRight quanta × (texts ≡ Ok (texts_of quanta))
-IsOpened (Some wish) i AreRight texts_of texts = texts ≡ Err (pick_fault i wish)
+-- ---- a whole run
+
+-- What comes of a session that opened; or the first wish at tick 0 that is refused, and then it doesn't open.
+abbrev pub IsOpened : Option RefusedWish → Inputs → Step Texts → Step Texts
+IsOpened None i comes texts = comes texts
+IsOpened (Some wish) i comes texts = texts ≡ Err (pick_fault i wish)
+
+-- the lists of quanta in an order
+abbrev pub Order : Type 1
+Order = Inputs → List Quantum → Type 0
+
+-- the order that is drawn from a seed
+abbrev pub IsInOrder : TurnOrder → Order
+IsInOrder order i quanta = IsSeeded i order.seed order.quantum quanta
+
+-- the order in which so many workers took quanta of at most so many turns
+abbrev pub IsByWorkers : ℕ → ℕ → Order
+IsByWorkers workers turns i quanta = IsShared i workers turns quanta
+
+-- the texts of a whole list of quanta in the order
+abbrev pub AreTexts : Order → (Inputs → List Quantum → Texts) → Inputs → Step Texts
+AreTexts InOrder texts_of i texts = (quanta : List Quantum) × InOrder i quanta × (texts ≡ Ok (texts_of i quanta))
+
+-- a session in the order, from its opening to the end of the run
+abbrev pub IsSession : Order → (Inputs → List Quantum → Texts) → Inputs → Step Texts
+IsSession InOrder texts_of i = IsOpened (bad_pick i) i (AreTexts InOrder texts_of i)
+
+-- the session that is asked for
+abbrev pub IsSessionOf : SessionRequest → Sight → Order → (Inputs → List Quantum → Texts) → Step Texts
+IsSessionOf r sees InOrder texts_of = Then (IsPrepared r sees) (IsSession InOrder texts_of)
+
+-- the report of these quanta, and nothing for the log
+abbrev pub report_alone : Inputs → List Quantum → Texts
+report_alone i quanta = output (report_of i quanta (skipped_of i.image))
 
 -- ---- run and live
 
 -- the report of these quanta, and their log
-abbrev pub texts_of_run : Inputs → List Quantum → Texts
-texts_of_run i quanta = record { out = report_of i quanta (skipped_of i.image); log = log_of i quanta }
-
--- the whole list of quanta in the order of the seed
-abbrev pub IsRunWith : RunRequest → Inputs → Step Texts
-IsRunWith r i = IsOpened (bad_pick i) i (IsSeeded i r.seed r.quantum) (texts_of_run i)
-
--- a whole list of quanta that the workers shared
-abbrev pub IsLiveWith : LiveRequest → Inputs → Step Texts
-IsLiveWith r i = IsOpened (bad_pick i) i (IsShared i r.workers r.quantum) (texts_of_run i)
+abbrev pub report_and_log : Inputs → List Quantum → Texts
+report_and_log i quanta = record { out = report_of i quanta (skipped_of i.image); log = log_of i quanta }
 
 abbrev pub IsRunDue : RunRequest → Sight → Step Texts
-IsRunDue r sees = Then (IsPrepared r.program r.conf r.settings sees) (IsRunWith r)
+IsRunDue r sees = IsSessionOf r.session sees (IsInOrder r.order) report_and_log
 
 abbrev pub IsLiveDue : LiveRequest → Sight → Step Texts
-IsLiveDue r sees = Then (IsPrepared r.program r.conf r.settings sees) (IsLiveWith r)
+IsLiveDue r sees = IsSessionOf r.session sees (IsByWorkers r.workers r.quantum) report_and_log
 
 -- ---- visi
 
@@ -64,30 +87,30 @@ IsLiveDue r sees = Then (IsPrepared r.program r.conf r.settings sees) (IsLiveWit
 abbrev pub views_of : ℕ → Inputs → List Quantum → Texts
 views_of views i quanta = output (visi_text (shown_of i quanta) (replicate views (feed_of i quanta)))
 
--- the whole list of quanta in the order of the seed
-abbrev pub IsVisiWith : VisiRequest → Inputs → Step Texts
-IsVisiWith r i = IsOpened (bad_pick i) i (IsSeeded i r.seed r.quantum) (views_of r.views i)
-
 abbrev pub IsVisiDue : VisiRequest → Sight → Step Texts
-IsVisiDue r sees = Then (IsPrepared r.program r.conf r.settings sees) (IsVisiWith r)
+IsVisiDue r sees = IsSessionOf r.session sees (IsInOrder r.order) (views_of r.views)
 
 -- ---- stress
 
--- two harts, and else what is set where no option says otherwise
-abbrev pub stress_settings : Settings
-stress_settings = record { harts = 2; budget = 1000000; bins = 64; width = 1000; start = Warm; instruments = 64 }
+-- two files that are made; two harts, and else what is set where no option says otherwise
+abbrev pub stress_session : SessionRequest
+stress_session = record {
+  program = codes "program";
+  conf = codes "configuration";
+  settings = record { harts = 2; budget = 1000000; bins = 64; width = 1000; start = Warm; instruments = 64 };
+}
 
--- its two files, which are made
+-- what the two files have
 abbrev pub stress_sight : StressRequest → Sight
 stress_sight r name content = content ≡ Ok (if bytes_eq name (codes "program") then program_text r.procs r.seed else configuration_text r.procs)
+
+-- quanta of at most 50 turns in the order of the program's own seed
+abbrev pub stress_order : StressRequest → TurnOrder
+stress_order r = record { seed = r.seed; quantum = 50 }
 
 -- the line that sums up a run of these quanta
 abbrev pub summary_of : ℕ → Inputs → List Quantum → Texts
 summary_of procs i quanta = output (summary_text procs (parts_of i (closed i (work i quanta))))
 
--- the whole list of quanta of at most 50 turns in the order of the seed
-abbrev pub IsStressWith : StressRequest → Inputs → Step Texts
-IsStressWith r i = IsOpened (bad_pick i) i (IsSeeded i r.seed 50) (summary_of r.procs i)
-
 abbrev pub IsStressDue : StressRequest → Step Texts
-IsStressDue r = Then (IsPrepared (codes "program") (codes "configuration") stress_settings (stress_sight r)) (IsStressWith r)
+IsStressDue r = IsSessionOf stress_session (stress_sight r) (IsInOrder (stress_order r)) (summary_of r.procs)

@@ -2,13 +2,13 @@
 
 ghost use Rattle.std.specs.Prelude.{◌≡◌};
 ghost use Rattle.advice.specs.Reading.{verdicts_of};
-ghost use Rattle.commands.specs.Advising.{advised, IsAdviceDue};
+ghost use Rattle.commands.specs.Advising.{advised, IsAdviseDue};
 ghost use Rattle.commands.specs.Sights.{seen, Looks};
 ghost use Rattle.refusals.specs.Refusals.{Comes};
 
 use crate::files::read_file;
 use crate::texts::Texts;
-use advice::{ReportError, ReportFault, advise, read_verdicts};
+use advice::{ReportError, ReportFault, read_verdicts};
 use outside::Files;
 use refusals::{Fault, Refusal};
 use std::alloc::Global;
@@ -22,7 +22,7 @@ fn advised(alloc: Global, report: &[u8]) -> Result<Texts, Refusal>
 {
     match read_verdicts(alloc, report) {
         Ok(verdicts) => {
-            let text = advise(alloc, &verdicts)?;
+            let text = advice::advise(alloc, &verdicts)?;
             Ok(Texts::output(alloc, text))
         }
         Err(ReportError::Fault(ReportFault::BadReport(place))) => {
@@ -33,8 +33,8 @@ fn advised(alloc: Global, report: &[u8]) -> Result<Texts, Refusal>
 }
 
 /// What is due for `advise`.
-pub fn advise_from<F: Files>(alloc: Global, name: &str, files: &mut F) -> Result<Texts, Refusal>
-    ensures due { Comes result (IsAdviceDue name.now (seen (F.holds files.old) (F.faults files.old) (F.faults files.new))) }
+pub fn advise<F: Files>(alloc: Global, name: &str, files: &mut F) -> Result<Texts, Refusal>
+    ensures due { Comes result (IsAdviseDue name.now (seen (F.holds files.old) (F.faults files.old) (F.faults files.new))) }
     ensures looks { Looks F.holds F.faults files.old files.new result }
 {
     let too_long = Fault::BadReport(REPORT_LIMIT);

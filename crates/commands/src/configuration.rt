@@ -8,7 +8,7 @@ ghost use Rattle.refusals.specs.Kinds.{fault_at};
 ghost use Rattle.refusals.specs.Refusals.{Comes};
 
 use mdl_ast::Conf;
-use mdl_parse::{ParseFault, parse};
+use mdl_parse::{ParseError, parse};
 use refusals::{ConfFault, ConfKind, Fault, Refusal, syntax_kind};
 use std::alloc::Global;
 
@@ -31,9 +31,9 @@ pub fn configuration(alloc: Global, text: &[u8]) -> Result<Conf, Refusal>
 {
     match parse(alloc, text) {
         Ok(conf) => Ok(conf),
-        Err(ParseFault::NoMemory) => Err(Refusal::NoMemory),
-        Err(ParseFault::At { line, col, kind }) => {
-            Err(bad_configuration(line, col, syntax_kind(kind)))
+        Err(ParseError::NoMemory) => Err(Refusal::NoMemory),
+        Err(ParseError::Fault(fault)) => {
+            Err(bad_configuration(fault.line, fault.col, syntax_kind(fault.kind)))
         }
     }
 }

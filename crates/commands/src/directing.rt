@@ -2,14 +2,15 @@
 
 ghost use Rattle.std.specs.Prelude.{◌≡◌, ◌≤◌, IfOk, length};
 ghost use Rattle.std.specs.List.{AllByRecursion};
-ghost use Rattle.code_points.specs.Procedures.{AreModulesGood};
+ghost use Rattle.code_points.specs.Procedures.{AreModulesGood, skipped_of};
 ghost use Rattle.command_words.specs.Asked.{asked_direct};
-ghost use Rattle.command_words.specs.Requests.{HasRanges, direct};
+ghost use Rattle.command_words.specs.Requests.{HasRanges, IsOrderInRange, direct};
 ghost use Rattle.directives.specs.Applying.{IsAccepted};
 ghost use Rattle.mdl_ast.specs.Small.{HasSmall};
 ghost use Rattle.mdl_shipped.specs.Shipped.{shipped_conf};
-ghost use Rattle.commands.specs.Directing.{MeansDirectives, AreDirectives, IsDirectDue, IsDirected, IsDirection, IsDirectRun, IsDirectWith};
+ghost use Rattle.commands.specs.Directing.{MeansDirectives, AreDirectives, IsDirectDue, IsDirected, IsDirection, IsDirectRun};
 ghost use Rattle.commands.specs.Given.{inputs_with, CanRun, IsUnscratched};
+ghost use Rattle.commands.specs.Runs.{IsInOrder, IsSession, report_alone};
 ghost use Rattle.commands.specs.Sights.{seen, Looks};
 ghost use Rattle.pn_types.specs.Images.{IsImage};
 ghost use Rattle.refusals.specs.Kinds.{fault_at};
@@ -19,20 +20,18 @@ ghost use Rattle.session.specs.Given.{AreGiven};
 use crate::files::read_file;
 use crate::finding::{Found, find};
 use crate::inputs::{Inputs, read_inputs};
-use crate::preparing::session_inputs;
-use crate::running::bad_pick;
+use crate::opening::unopened;
+use crate::preparing::{Prepared, prepare_found};
 use crate::texts::Texts;
-use code_points::procedures;
-use command_words::DirectRequest;
+use command_words::{DirectRequest, TurnOrder};
 use directives::{Directive, DirectiveError, apply, read_directives};
 use mdl_ast::Conf;
 use mdl_shipped::shipped;
 use outside::Files;
-use pn_types::{Image, MAX_QUANTUM, Seq};
+use pn_types::{Image, Seq};
 use refusals::{ConfFault, ConfKind, Fault, Refusal, directive_kind};
 use report::report;
 use resource_tree::Tree;
-use session::{Inputs as SessionInputs, StartFault};
 use std::alloc::Global;
 use whole_run::run_parts;
 
@@ -102,28 +101,23 @@ fn directed(
     }
 }
 
-/// What is due of a run with these inputs.
-fn direct_inputs(
-    alloc: Global,
-    request: &DirectRequest<'_>,
-    inputs: SessionInputs,
-) -> Result<Texts, Refusal>
-    requires given { AreGiven inputs }
-    requires quantum { (1 ≤ request.now.quantum) × (request.now.quantum ≤ MAX_QUANTUM) }
-    ensures { Comes result (IsDirectWith (asked_direct request.now) inputs) }
+/// What is due of a session in this order.
+fn direct_prepared(alloc: Global, prepared: Prepared, order: TurnOrder) -> Result<Texts, Refusal>
+    requires given { AreGiven prepared.inputs }
+    requires skipped { prepared.skipped ≡ skipped_of prepared.inputs.image }
+    requires order { IsOrderInRange order }
+    ensures { Comes result (IsSession (IsInOrder order) report_alone prepared.inputs) }
 {
-    let (_, skipped) = procedures(alloc, &inputs.image)?;
-    match run_parts(alloc, inputs, request.seed, request.quantum) {
+    match run_parts(alloc, prepared.inputs, order.seed, order.quantum) {
         Ok(parts) => {
-            let text = report(alloc, &parts, skipped)?;
+            let text = report(alloc, &parts, prepared.skipped)?;
             Ok(Texts::output(alloc, text))
         }
-        Err(StartFault::NoMemory) => Err(Refusal::NoMemory),
-        Err(StartFault::BadPick(metric, focus, cause)) => Err(bad_pick(metric, focus, cause)),
+        Err(fault) => Err(unopened(fault)),
     }
 }
 
-/// What is due of a run of the image with what was found of it.
+/// What is due of a session of the image with what was found of it.
 fn direct_found(
     alloc: Global,
     request: &DirectRequest<'_>,
@@ -131,11 +125,12 @@ fn direct_found(
     found: Found,
 ) -> Result<Texts, Refusal>
     requires ranges { HasRanges (direct (asked_direct request.now)) }
-    requires runs { CanRun image request.now.settings.harts found }
-    ensures { Comes result (IsDirectWith (asked_direct request.now) (inputs_with image found request.now.settings)) }
+    requires skipped { found.skipped ≡ skipped_of image }
+    requires runs { CanRun image request.now.session.settings.harts found }
+    ensures { Comes result (IsSession (IsInOrder request.now.order) report_alone (inputs_with image found request.now.session.settings)) }
 {
-    let inputs = session_inputs(alloc, image, found, request.settings)?;
-    direct_inputs(alloc, request, inputs)
+    let prepared = prepare_found(alloc, image, found, request.session.settings)?;
+    direct_prepared(alloc, prepared, request.order)
 }
 
 /// What is due of a run of the image under a configuration.
@@ -153,7 +148,8 @@ fn run_directed(
     requires small { AllByRecursion HasSmall conf.now.items }
     ensures { Comes result (IsDirectRun (asked_direct request.now) image conf.now) }
 {
-    let found = find(alloc, &image, request.settings.harts, conf)?;
+    let harts = request.session.settings.harts;
+    let found = find(alloc, &image, harts, conf)?;
     direct_found(alloc, request, image, found)
 }
 
@@ -190,7 +186,8 @@ pub fn direct<F: Files>(
     ensures due { Comes result (IsDirectDue (asked_direct request.now) (seen (F.holds files.old) (F.faults files.old) (F.faults files.new))) }
     ensures looks { Looks F.holds F.faults files.old files.new result }
 {
-    let inputs = read_inputs(alloc, files, request.program, request.conf)?;
-    let found = find(alloc, &inputs.image, request.settings.harts, &inputs.conf)?;
+    let session = request.session;
+    let inputs = read_inputs(alloc, files, session.program, session.conf)?;
+    let found = find(alloc, &inputs.image, session.settings.harts, &inputs.conf)?;
     follow_directions(alloc, request, inputs, &found.tree, files)
 }

@@ -3,7 +3,7 @@
 ghost use Rattle.std.specs.Prelude.{◌≡◌, ◌<◌, ◌≤◌, ◌^◌, IfOk, Ok, Err, length, map};
 ghost use Rattle.std.specs.List.{AllByRecursion};
 ghost use Rattle.std.specs.List.Sorted.{IsStrictlyIncreasing};
-ghost use Rattle.code_points.specs.Procedures.{procedures_of, AreModulesGood, AreProcsOf};
+ghost use Rattle.code_points.specs.Procedures.{procedures_of, skipped_of, AreModulesGood, AreProcsOf};
 ghost use Rattle.mdl_ast.specs.Small.{HasSmall};
 ghost use Rattle.mdl_check.specs.Sound.{IsSound};
 ghost use Rattle.mdl_check.specs.Placed.{placed_items};
@@ -18,7 +18,7 @@ ghost use Rattle.resource_tree.specs.Names.{IsNamed};
 use crate::configuration::bad_configuration;
 use code_points::{objects, points, procedures};
 use mdl_ast::Conf;
-use mdl_check::{CheckFault, Checked, check, prefixes};
+use mdl_check::{CheckError, Checked, check, prefixes};
 use mdl_shipped::shipped;
 use pn_types::{Image, MAX_HARTS, NoMemory, Point, Proc, Seq};
 use refusals::{Refusal, check_kind};
@@ -61,8 +61,10 @@ fn checked(alloc: Global, conf: &Conf, shipped: &Conf, tree: &Tree) -> Result<Ch
 {
     match check(alloc, conf, shipped, tree) {
         Ok(checked) => Ok(checked),
-        Err(CheckFault::NoMemory) => Err(Refusal::NoMemory),
-        Err(CheckFault::At { line, kind }) => Err(bad_configuration(line, 0, check_kind(kind))),
+        Err(CheckError::NoMemory) => Err(Refusal::NoMemory),
+        Err(CheckError::Fault(fault)) => {
+            Err(bad_configuration(fault.line, 0, check_kind(fault.kind)))
+        }
     }
 }
 
@@ -71,6 +73,8 @@ fn checked(alloc: Global, conf: &Conf, shipped: &Conf, tree: &Tree) -> Result<Ch
 pub struct Found {
     /// The program's procedures.
     pub procs: Seq<Proc>,
+    /// The number of its function symbols that are no procedures.
+    pub skipped: u32,
     /// Its points.
     pub points: Seq<Point>,
     /// Its resources.
@@ -93,6 +97,7 @@ pub fn find(alloc: Global, image: &Image, harts: u32, conf: &Conf) -> Result<Fou
     requires small { AllByRecursion HasSmall conf.now.items }
     ensures found { Comes result (IsFound image.now harts conf.now) }
     ensures procs { IfOk result (λ found. AreProcsOf image.now found.procs) }
+    ensures skipped { IfOk result (λ found. found.skipped ≡ skipped_of image.now) }
     // So each focus of the tree is read again from its text.
     ensures named { IfOk result (λ found. IsNamed found.tree) }
     ensures metrics { IfOk result (λ found. length found.checked.metrics < 2 ^ 32) }
@@ -104,13 +109,14 @@ pub fn find(alloc: Global, image: &Image, harts: u32, conf: &Conf) -> Result<Fou
     // So a session takes it.
     ensures runs { IfOk result (CanRun image.now harts) }
 {
-    let (procs, _) = procedures(alloc, image)?;
+    let (procs, skipped) = procedures(alloc, image)?;
     let points = points(alloc, image, &procs)?;
     let shipped = shipped(alloc)?;
     let tree = resources(alloc, image, &procs, harts, conf, &shipped)?;
     let checked = checked(alloc, conf, &shipped, &tree)?;
     Ok(Found {
         procs: Seq::from_vec(procs),
+        skipped,
         points: Seq::from_vec(points),
         tree,
         checked,

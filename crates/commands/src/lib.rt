@@ -2,36 +2,37 @@
 #![tactic(auto)]
 
 mod advising;
-mod blocks;
 mod configuration;
+mod counting;
 mod directing;
 mod files;
 mod finding;
 mod inputs;
 mod laws;
 mod listing;
-mod live;
 mod loading;
 mod logs;
+mod opening;
 mod planning;
 mod preparing;
 mod replaying;
 mod running;
+mod sharing;
 mod stressing;
 mod texts;
 mod viewing;
 
-pub use advising::advise_from;
-pub use blocks::show_blocks;
+pub use advising::advise;
+pub use counting::blocks;
 pub use directing::direct;
 pub use finding::{Found, find};
 pub use inputs::{Inputs, read_inputs};
 pub use laws::found_can_run;
-pub use listing::{list_points, write_elf};
-pub use live::run_shared;
-pub use planning::show_plan;
+pub use listing::{asm, points};
+pub use planning::plan;
 pub use replaying::{relog, replay};
 pub use running::run;
+pub use sharing::live;
 pub use stressing::stress;
 pub use texts::Texts;
-pub use viewing::view;
+pub use viewing::visi;

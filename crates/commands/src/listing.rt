@@ -3,7 +3,7 @@
 ghost use Rattle.std.specs.Prelude.{◌≡◌, IfOk};
 ghost use Rattle.code_points.specs.Points.{points_of};
 ghost use Rattle.code_points.specs.Procedures.{procedures_of, skipped_of};
-ghost use Rattle.commands.specs.Listing.{ArePoints, IsAssembled};
+ghost use Rattle.commands.specs.Listing.{IsPointsDue, IsAsmDue};
 ghost use Rattle.commands.specs.Sights.{seen, Looks};
 ghost use Rattle.pn_types.specs.Images.{IsImage};
 ghost use Rattle.refusals.specs.Refusals.{Comes};
@@ -11,7 +11,7 @@ ghost use Rattle.report.specs.Points.{points_text};
 
 use crate::inputs::{read_program, read_text};
 use crate::texts::Texts;
-use code_points::{points, procedures};
+use code_points::procedures;
 use outside::Files;
 use pn_types::{Image, NoMemory};
 use refusals::Refusal;
@@ -24,13 +24,13 @@ fn points_of_image(alloc: Global, image: &Image) -> Result<Vec<u8>, NoMemory>
     ensures { IfOk result (λ text. text.items ≡ points_text (procedures_of image.now) (points_of image.now (procedures_of image.now)) (skipped_of image.now)) }
 {
     let (procs, skipped) = procedures(alloc, image)?;
-    let points = points(alloc, image, &procs)?;
+    let points = code_points::points(alloc, image, &procs)?;
     points_text(alloc, &procs, &points, skipped)
 }
 
 /// What is due for `points`.
-pub fn list_points<F: Files>(alloc: Global, program: &str, files: &mut F) -> Result<Texts, Refusal>
-    ensures due { Comes result (ArePoints program.now (seen (F.holds files.old) (F.faults files.old) (F.faults files.new))) }
+pub fn points<F: Files>(alloc: Global, program: &str, files: &mut F) -> Result<Texts, Refusal>
+    ensures due { Comes result (IsPointsDue program.now (seen (F.holds files.old) (F.faults files.old) (F.faults files.new))) }
     ensures looks { Looks F.holds F.faults files.old files.new result }
 {
     let image = read_program(alloc, files, program)?;
@@ -39,8 +39,8 @@ pub fn list_points<F: Files>(alloc: Global, program: &str, files: &mut F) -> Res
 }
 
 /// What is due for `asm`.
-pub fn write_elf<F: Files>(alloc: Global, text: &str, files: &mut F) -> Result<Texts, Refusal>
-    ensures due { Comes result (IsAssembled text.now (seen (F.holds files.old) (F.faults files.old) (F.faults files.new))) }
+pub fn asm<F: Files>(alloc: Global, text: &str, files: &mut F) -> Result<Texts, Refusal>
+    ensures due { Comes result (IsAsmDue text.now (seen (F.holds files.old) (F.faults files.old) (F.faults files.new))) }
     ensures looks { Looks F.holds F.faults files.old files.new result }
 {
     let file = read_text(alloc, files, text)?;

@@ -3,11 +3,10 @@
 ghost use Rattle.std.specs.Prelude.{◌≡◌, ◌<◌, ◌^◌, MatchOption, length, slice_get, Some, None};
 ghost use Rattle.code_points.specs.Procedures.{AreProcsOf};
 ghost use Rattle.command_words.specs.Asked.{asked_plan};
-ghost use Rattle.command_words.specs.Requests.{HasRanges, make_plan};
+ghost use Rattle.command_words.specs.Requests.{HasRanges, plan};
 ghost use Rattle.mdl_ast.specs.declared.metric.Metric.{Metric};
 ghost use Rattle.mdl_check.specs.Sound.{IsSound};
-ghost use Rattle.commands.specs.Plans.{IsPlanDue};
-ghost use Rattle.commands.specs.Plans.{metric_named, IsSelected, IsPlanAt, IsPlan};
+ghost use Rattle.commands.specs.Plans.{metric_named, IsSelected, IsPlanAt, IsPlan, IsPlanDue};
 ghost use Rattle.commands.specs.Sights.{seen, Looks};
 ghost use Rattle.pn_types.specs.Images.{IsImage};
 ghost use Rattle.refusals.specs.Refusals.{Comes};
@@ -16,11 +15,11 @@ use crate::configuration::bad_configuration;
 use crate::files::text_of;
 use crate::finding::{Found, find};
 use crate::inputs::read_inputs;
-use crate::running::bad_pick;
+use crate::opening::bad_pick;
 use crate::texts::Texts;
 use command_words::PlanRequest;
 use mdl_ast::Metric;
-use mdl_plan::{PlanFault, PlanIndex, plan};
+use mdl_plan::{PlanError, PlanFault, PlanIndex};
 use outside::Files;
 use pn_types::{Focus, Image, PickCause};
 use prim_code::predicted;
@@ -69,20 +68,20 @@ fn plan_at(
     let text = found.tree.focus_text(alloc, focus)?;
     let metric = text_of(alloc, name)?;
     let index = PlanIndex::new(alloc, found.procs, found.points)?;
-    match plan(alloc, &found.checked, number, focus, &found.tree, &index) {
+    match mdl_plan::plan(alloc, &found.checked, number, focus, &found.tree, &index) {
         Ok(plan) => {
             let words = predicted(&plan);
             let shown = plan_text(alloc, metric.bytes(), text.bytes(), words, &plan)?;
             Ok(Texts::output(alloc, shown))
         }
-        Err(PlanFault::NoMemory) => Err(Refusal::NoMemory),
-        Err(PlanFault::NoConstraint(axis)) => {
+        Err(PlanError::NoMemory) => Err(Refusal::NoMemory),
+        Err(PlanError::Fault(PlanFault::NoConstraint(axis))) => {
             Err(bad_pick(metric, text, PickCause::NoConstraint(axis)))
         }
-        Err(PlanFault::TooManySites(count)) => {
+        Err(PlanError::Fault(PlanFault::TooManySites(count))) => {
             Err(bad_pick(metric, text, PickCause::TooManySites(count)))
         }
-        Err(PlanFault::TooManyStmts(at)) => {
+        Err(PlanError::Fault(PlanFault::TooManyStmts(at))) => {
             Err(bad_pick(metric, text, PickCause::TooManyStmts(at)))
         }
     }
@@ -105,12 +104,12 @@ fn plan_found(alloc: Global, request: &PlanRequest<'_>, found: Found) -> Result<
 }
 
 /// What is due for `plan`.
-pub fn show_plan<F: Files>(
+pub fn plan<F: Files>(
     alloc: Global,
     request: &PlanRequest<'_>,
     files: &mut F,
 ) -> Result<Texts, Refusal>
-    requires { HasRanges (make_plan (asked_plan request.now)) }
+    requires { HasRanges (plan (asked_plan request.now)) }
     ensures due { Comes result (IsPlanDue (asked_plan request.now) (seen (F.holds files.old) (F.faults files.old) (F.faults files.new))) }
     ensures looks { Looks F.holds F.faults files.old files.new result }
 {

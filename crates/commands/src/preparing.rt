@@ -1,8 +1,11 @@
 //! What a session is given.
 
 ghost use Rattle.std.specs.Prelude.{◌≡◌, ◌<◌, ◌^◌, IfOk, length};
-ghost use Rattle.commands.specs.Runs.{IsPrepared};
+ghost use Rattle.code_points.specs.Procedures.{skipped_of};
+ghost use Rattle.command_words.specs.Asked.{asked_session};
 ghost use Rattle.commands.specs.Given.{inputs_with};
+ghost use Rattle.commands.specs.Preparing.{Gives};
+ghost use Rattle.commands.specs.Runs.{IsPrepared};
 ghost use Rattle.commands.specs.Sights.{seen, Looks};
 ghost use Rattle.pn_types.specs.Settings.{AreInRange};
 ghost use Rattle.refusals.specs.Refusals.{Comes};
@@ -10,28 +13,39 @@ ghost use Rattle.session.specs.Given.{AreGiven};
 
 use crate::finding::{Found, find};
 use crate::inputs::read_inputs;
+use command_words::SessionRequest;
 use outside::Files;
 use pn_types::{Image, NoMemory, Settings};
 use refusals::Refusal;
 use session::Inputs;
 use std::alloc::Global;
 
+/// What a session is given, and what its report says of the program beside the run.
+#[derive(Drop)]
+pub struct Prepared {
+    /// What the session is given.
+    pub inputs: Inputs,
+    /// The number of the program's function symbols that are no procedures.
+    pub skipped: u32,
+}
+
 /// What a session is given: an image, what was found of it, and settings.
 ///
 /// # Errors
 ///
-/// `NoMemory` where memory is wanting.
-pub fn session_inputs(
+/// `NoMemory` where there isn't enough memory.
+pub fn prepare_found(
     alloc: Global,
     image: Image,
     found: Found,
     settings: Settings,
-) -> Result<Inputs, NoMemory>
+) -> Result<Prepared, NoMemory>
     requires procs { length found.procs < 2 ^ 32 }
     requires points { length found.points < 2 ^ 32 }
-    ensures { IfOk result (λ inputs. inputs ≡ inputs_with image found settings) }
+    ensures inputs { IfOk result (λ prepared. prepared.inputs ≡ inputs_with image found settings) }
+    ensures skipped { IfOk result (λ prepared. prepared.skipped ≡ found.skipped) }
 {
-    Inputs::new(
+    let inputs = Inputs::new(
         alloc,
         image,
         found.checked,
@@ -39,25 +53,28 @@ pub fn session_inputs(
         found.procs,
         found.points,
         settings,
-    )
+    )?;
+    Ok(Prepared {
+        inputs,
+        skipped: found.skipped,
+    })
 }
 
 /// Reads a program and a configuration, and gives what a session is given of them.
 pub fn prepare<F: Files>(
     alloc: Global,
     files: &mut F,
-    program: &str,
-    conf: &str,
-    settings: Settings,
-) -> Result<Inputs, Refusal>
-    requires range { AreInRange settings }
-    ensures prepared { Comes result (IsPrepared program.now conf.now settings (seen (F.holds files.old) (F.faults files.old) (F.faults files.new))) }
-    ensures given { IfOk result AreGiven }
-    ensures settings { IfOk result (λ inputs. inputs.settings ≡ settings) }
+    request: &SessionRequest<'_>,
+) -> Result<Prepared, Refusal>
+    requires range { AreInRange request.now.settings }
+    ensures prepared { Comes result (Gives (IsPrepared (asked_session request.now) (seen (F.holds files.old) (F.faults files.old) (F.faults files.new)))) }
+    ensures given { IfOk result (λ prepared. AreGiven prepared.inputs) }
+    ensures skipped { IfOk result (λ prepared. prepared.skipped ≡ skipped_of prepared.inputs.image) }
+    ensures settings { IfOk result (λ prepared. prepared.inputs.settings ≡ request.now.settings) }
     ensures looks { Looks F.holds F.faults files.old files.new result }
 {
-    let inputs = read_inputs(alloc, files, program, conf)?;
-    let found = find(alloc, &inputs.image, settings.harts, &inputs.conf)?;
-    let given = session_inputs(alloc, inputs.image, found, settings)?;
-    Ok(given)
+    let inputs = read_inputs(alloc, files, request.program, request.conf)?;
+    let found = find(alloc, &inputs.image, request.settings.harts, &inputs.conf)?;
+    let prepared = prepare_found(alloc, inputs.image, found, request.settings)?;
+    Ok(prepared)
 }

@@ -1,8 +1,8 @@
 //! The commands `replay` and `relog`.
 
-ghost use Rattle.std.specs.Prelude.{◌≤◌, length};
+ghost use Rattle.std.specs.Prelude.{◌≡◌, ◌≤◌, length};
 ghost use Rattle.std.specs.List.{AllByRecursion};
-ghost use Rattle.code_points.specs.Procedures.{AreModulesGood};
+ghost use Rattle.code_points.specs.Procedures.{AreModulesGood, skipped_of};
 ghost use Rattle.command_words.specs.Asked.{asked_replay};
 ghost use Rattle.mdl_ast.specs.Small.{HasSmall};
 ghost use Rattle.commands.specs.Given.{CanRun, IsUnscratched};
@@ -17,10 +17,9 @@ ghost use Rattle.session.specs.Given.{AreGiven};
 use crate::finding::{Found, find};
 use crate::inputs::{Inputs, read_inputs};
 use crate::logs::{Log, misfit_fault, read_log};
-use crate::preparing::session_inputs;
-use crate::running::bad_pick;
+use crate::opening::unopened;
+use crate::preparing::{Prepared, prepare_found};
 use crate::texts::Texts;
-use code_points::procedures;
 use command_words::ReplayRequest;
 use outside::Files;
 use pn_types::Image;
@@ -29,29 +28,30 @@ use refusals::{Fault, Refusal};
 use std::alloc::Global;
 use whole_run::{ReplayFault, replay_run};
 
-/// What is due of a run with these inputs along a log's quanta.
-fn replay_inputs(alloc: Global, log: &Log, inputs: session::Inputs) -> Result<Texts, Refusal>
-    requires given { AreGiven inputs }
-    requires spelled { CanSpell version.Two inputs.settings log.now.quanta }
-    ensures { Comes result (IsReplayWith log.now inputs.image inputs) }
+/// What is due of a session along a log's quanta.
+fn replay_prepared(alloc: Global, log: &Log, prepared: Prepared) -> Result<Texts, Refusal>
+    requires given { AreGiven prepared.inputs }
+    requires skipped { prepared.skipped ≡ skipped_of prepared.inputs.image }
+    requires spelled { CanSpell version.Two prepared.inputs.settings log.now.quanta }
+    ensures { Comes result (IsReplayWith log.now prepared.inputs) }
 {
-    let (_, skipped) = procedures(alloc, &inputs.image)?;
-    match replay_run(alloc, inputs, log.quanta.as_slice(), skipped) {
+    let quanta = log.quanta.as_slice();
+    match replay_run(alloc, prepared.inputs, quanta, prepared.skipped) {
         Ok(report) => Ok(Texts::output(alloc, report)),
-        Err(ReplayFault::NoMemory) => Err(Refusal::NoMemory),
-        Err(ReplayFault::BadPick(metric, focus, cause)) => Err(bad_pick(metric, focus, cause)),
+        Err(ReplayFault::NotOpened(fault)) => Err(unopened(fault)),
         Err(ReplayFault::Misfit(misfit)) => Err(Refusal::Fault(misfit_fault(log, misfit))),
     }
 }
 
 /// What is due of a run along a log's quanta of the image with what was found of it.
 fn replay_found(alloc: Global, log: &Log, image: Image, found: Found) -> Result<Texts, Refusal>
+    requires skipped { found.skipped ≡ skipped_of image }
     requires spelled { CanSpell version.Two log.now.settings log.now.quanta }
     requires runs { CanRun image log.now.settings.harts found }
     ensures { Comes result (IsReplay log.now image found) }
 {
-    let inputs = session_inputs(alloc, image, found, log.settings)?;
-    replay_inputs(alloc, log, inputs)
+    let prepared = prepare_found(alloc, image, found, log.settings)?;
+    replay_prepared(alloc, log, prepared)
 }
 
 /// What is due of a program and a configuration along a log's quanta.

@@ -1,40 +1,43 @@
 //! The command `stress`.
 
 ghost use Rattle.std.specs.Prelude.{◌≡◌, IfOk, codes};
-ghost use Rattle.command_words.specs.Asked.{asked_stress};
+ghost use Rattle.command_words.specs.Asked.{asked_session, asked_stress};
+ghost use Rattle.command_words.specs.Requests.{IsOrderInRange};
 ghost use Rattle.outside.specs.SureFiles.{content_of};
-ghost use Rattle.commands.specs.Runs.{IsPrepared, IsStressDue, IsStressWith, stress_settings, stress_sight};
+ghost use Rattle.commands.specs.Preparing.{Gives};
+ghost use Rattle.commands.specs.Runs.{IsInOrder, IsPrepared, IsSession, IsStressDue, stress_order, stress_session, stress_sight, summary_of};
 ghost use Rattle.refusals.specs.Refusals.{Comes};
 ghost use Rattle.session.specs.Given.{AreGiven};
 ghost use Rattle.stress_run.specs.Configuration.{configuration_text};
 ghost use Rattle.stress_run.specs.Program.{program_text};
 
-use crate::preparing::prepare;
-use crate::running::bad_pick;
+use crate::opening::unopened;
+use crate::preparing::{Prepared, prepare};
 use crate::texts::Texts;
-use command_words::StressRequest;
+use command_words::{SessionRequest, StressRequest, TurnOrder};
 use outside::SureFiles;
 use pn_types::{NoMemory, Settings, Start};
 use refusals::Refusal;
-use session::{Inputs, StartFault};
+use session::Inputs;
 use std::alloc::Global;
 use stress_run::{configuration_text, program_text, summary_text};
 use whole_run::run_parts;
 
-/// The most turns of a quantum.
-const TURNS: u32 = 50;
-
-/// The numbers of the run.
-fn settings() -> Settings
-    ensures { result ≡ stress_settings }
+/// What the session is made of.
+fn session() -> SessionRequest<'static>
+    ensures { asked_session result ≡ stress_session }
 {
-    Settings {
-        harts: 2,
-        budget: 1_000_000,
-        bins: 64,
-        width: 1_000,
-        start: Start::Warm,
-        instruments: 64,
+    SessionRequest {
+        program: "program",
+        conf: "configuration",
+        settings: Settings {
+            harts: 2,
+            budget: 1_000_000,
+            bins: 64,
+            width: 1_000,
+            start: Start::Warm,
+            instruments: 64,
+        },
     }
 }
 
@@ -52,26 +55,26 @@ fn made_files(alloc: Global, request: StressRequest) -> Result<SureFiles, NoMemo
 }
 
 /// What the session is given.
-fn inputs(alloc: Global, request: StressRequest) -> Result<Inputs, Refusal>
-    ensures prepared { Comes result (IsPrepared (codes "program") (codes "configuration") stress_settings (stress_sight (asked_stress request))) }
-    ensures given { IfOk result AreGiven }
+fn prepare_made(alloc: Global, request: StressRequest) -> Result<Prepared, Refusal>
+    ensures prepared { Comes result (Gives (IsPrepared stress_session (stress_sight (asked_stress request)))) }
+    ensures given { IfOk result (λ prepared. AreGiven prepared.inputs) }
 {
     let mut files = made_files(alloc, request)?;
-    prepare(alloc, &mut files, "program", "configuration", settings())
+    prepare(alloc, &mut files, &session())
 }
 
-/// What is due of a run with these inputs.
-fn sum_up(alloc: Global, request: StressRequest, inputs: Inputs) -> Result<Texts, Refusal>
-    requires { AreGiven inputs }
-    ensures { Comes result (IsStressWith (asked_stress request) inputs) }
+/// The line that sums up a session in this order.
+fn sum_up(alloc: Global, inputs: Inputs, order: TurnOrder, procs: u32) -> Result<Texts, Refusal>
+    requires given { AreGiven inputs }
+    requires order { IsOrderInRange order }
+    ensures { Comes result (IsSession (IsInOrder order) (summary_of procs) inputs) }
 {
-    match run_parts(alloc, inputs, request.seed, TURNS) {
+    match run_parts(alloc, inputs, order.seed, order.quantum) {
         Ok(parts) => {
-            let line = summary_text(alloc, request.procs, &parts)?;
+            let line = summary_text(alloc, procs, &parts)?;
             Ok(Texts::output(alloc, line))
         }
-        Err(StartFault::NoMemory) => Err(Refusal::NoMemory),
-        Err(StartFault::BadPick(metric, focus, cause)) => Err(bad_pick(metric, focus, cause)),
+        Err(fault) => Err(unopened(fault)),
     }
 }
 
@@ -79,6 +82,10 @@ fn sum_up(alloc: Global, request: StressRequest, inputs: Inputs) -> Result<Texts
 pub fn stress(alloc: Global, request: StressRequest) -> Result<Texts, Refusal>
     ensures { Comes result (IsStressDue (asked_stress request)) }
 {
-    let inputs = inputs(alloc, request)?;
-    sum_up(alloc, request, inputs)
+    let prepared = prepare_made(alloc, request)?;
+    let order = TurnOrder {
+        seed: request.seed,
+        quantum: 50,
+    };
+    sum_up(alloc, prepared.inputs, order, request.procs)
 }

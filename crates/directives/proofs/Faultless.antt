@@ -16,6 +16,7 @@ use Rattle.mdl_check.specs.Placed.{Entry, entry}
 use Rattle.mdl_check.specs.Names.{as_constraint, constraints_in, constraint_named, metric_name, number_from, metric_number}
 use Rattle.mdl_check.specs.Rules.{is_on, are_two_on, is_repeated, is_unknown, is_wrong, is_misused, is_astray, tick_behind, parent_place, parents_of, parent_at, leads_to, is_cyclic, fault_of}
 use Rattle.mdl_check.specs.Checking.{fault_from}
+use Rattle.mdl_check.specs.declared.fault.CheckFault.{CheckFault}
 use Rattle.mdl_check.specs.declared.fault.CheckKind.{CheckKind}
 use Rattle.mdl_check.specs.declared.fault.CheckKind.TheVariants.{TwiceNamed, UnknownName, WrongKind, CyclicParent, BadFocus}
 
@@ -60,8 +61,8 @@ abbrev pub Each : List Entry → List Entry → List Entry → Type 0
 Each all before [] = Unit {0}
 Each all before (e ∷ es) = Faultless all before e × Each all (before ++ (e ∷ [])) es
 
-abbrev found_fault : ℕ → CheckKind → Option (ℕ × CheckKind)
-found_fault line kind = Some (line, kind)
+abbrev found_fault : ℕ → CheckKind → Option CheckFault
+found_fault line kind = Some (record { line = line; kind = kind })
 
 pub each_from : (all before es : List Entry) → fault_from all before es ≡ None → Each all before es
 each_from all before [] h = tt

@@ -170,6 +170,6 @@ pub others_stay : OneAnswer → OthersStay
 others_stay one t shipped items new ds before after a e b =
     let m = made_after t shipped items ds new a.0 a.1 a.2 e in
     let whole : IsAnswer t shipped new (Ok (checked_of m.entries)) = (m.entries, m.places, m.faultless, refl) in
-    let same : answer after ≡ answer (checked_of m.entries) = one t shipped new (Ok after) (Ok (checked_of m.entries)) b whole (λ h. absurd cc) (λ h. absurd cc) in
+    let same : answer after ≡ answer (checked_of m.entries) = one t shipped new (Ok after) (Ok (checked_of m.entries)) b whole in
     let inside : after ≡ checked_of m.entries = cc in
     inside ∙ checked_alike t shipped new a.0 m ∙ ap (λ (c : Checked). record c { hypotheses = flat_map hypothesis_in new }) (sym a.3)

@@ -35,19 +35,19 @@ fn settings_text(alloc: Global, settings: Settings) -> Result<String, NoMemory> 
 
 /// What `run` is asked for.
 fn run_text(alloc: Global, run: &RunRequest<'_>) -> Result<String, NoMemory> {
-    let settings = settings_text(alloc, run.settings)?;
-    let program = run.program;
-    let conf = run.conf;
-    let seed = run.seed;
-    let quantum = run.quantum;
+    let settings = settings_text(alloc, run.session.settings)?;
+    let program = run.session.program;
+    let conf = run.session.conf;
+    let seed = run.order.seed;
+    let quantum = run.order.quantum;
     format!(in alloc; "run [{program}] [{conf}] {settings} seed {seed} quantum {quantum}")
 }
 
 /// What `live` is asked for.
 fn live_text(alloc: Global, live: &LiveRequest<'_>) -> Result<String, NoMemory> {
-    let settings = settings_text(alloc, live.settings)?;
-    let program = live.program;
-    let conf = live.conf;
+    let settings = settings_text(alloc, live.session.settings)?;
+    let program = live.session.program;
+    let conf = live.session.conf;
     let workers = live.workers;
     let quantum = live.quantum;
     format!(in alloc; "live [{program}] [{conf}] {settings} workers {workers} quantum {quantum}")
@@ -83,8 +83,8 @@ fn blocks_text(alloc: Global, blocks: &BlocksRequest<'_>) -> Result<String, NoMe
     let program = blocks.program;
     let harts = blocks.harts;
     let budget = blocks.budget;
-    let seed = blocks.seed;
-    let quantum = blocks.quantum;
+    let seed = blocks.order.seed;
+    let quantum = blocks.order.quantum;
     format!(in alloc;
         "blocks [{program}] harts {harts} budget {budget} seed {seed} quantum {quantum}"
     )
@@ -92,11 +92,11 @@ fn blocks_text(alloc: Global, blocks: &BlocksRequest<'_>) -> Result<String, NoMe
 
 /// What `visi` is asked for.
 fn visi_text(alloc: Global, visi: &VisiRequest<'_>) -> Result<String, NoMemory> {
-    let settings = settings_text(alloc, visi.settings)?;
-    let program = visi.program;
-    let conf = visi.conf;
-    let seed = visi.seed;
-    let quantum = visi.quantum;
+    let settings = settings_text(alloc, visi.session.settings)?;
+    let program = visi.session.program;
+    let conf = visi.session.conf;
+    let seed = visi.order.seed;
+    let quantum = visi.order.quantum;
     let views = visi.views;
     let files = format!(in alloc; "visi [{program}] [{conf}]")?;
     format!(in alloc; "{files} {settings} seed {seed} quantum {quantum} views {views}")
@@ -104,12 +104,12 @@ fn visi_text(alloc: Global, visi: &VisiRequest<'_>) -> Result<String, NoMemory> 
 
 /// What `direct` is asked for.
 fn direct_text(alloc: Global, direct: &DirectRequest<'_>) -> Result<String, NoMemory> {
-    let settings = settings_text(alloc, direct.settings)?;
-    let program = direct.program;
-    let conf = direct.conf;
+    let settings = settings_text(alloc, direct.session.settings)?;
+    let program = direct.session.program;
+    let conf = direct.session.conf;
     let directives = direct.directives;
-    let seed = direct.seed;
-    let quantum = direct.quantum;
+    let seed = direct.order.seed;
+    let quantum = direct.order.quantum;
     let files = format!(in alloc; "direct [{program}] [{conf}] [{directives}]")?;
     format!(in alloc; "{files} {settings} seed {seed} quantum {quantum}")
 }

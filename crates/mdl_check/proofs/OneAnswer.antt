@@ -9,22 +9,12 @@ use Rattle.mdl_check.specs.Placed.{PlacedItem, Entry, entry, placed_items}
 use Rattle.mdl_check.specs.Checking.{HasFocus, HaveFoci, AreEntries, placed_of, first_fault, checked_of, OneAnswer}
 use Rattle.mdl_check.specs.declared.checked.Checked.{Checked}
 use Rattle.mdl_check.specs.declared.fault.CheckFault.{CheckFault}
-use Rattle.mdl_check.specs.declared.fault.CheckFault.TheVariants.{NoMemory, At}
-use Rattle.mdl_check.specs.declared.fault.CheckKind.{CheckKind}
 
-abbrev found : ℕ → CheckKind → Option (ℕ × CheckKind)
-found line kind = Some (line, kind)
+abbrev refusal : CheckFault → Result Checked CheckFault
+refusal fault = Err fault
 
-abbrev refusal : ℕ → CheckKind → Result Checked CheckFault
-refusal line kind = Err (At line kind)
-
-inside : (p q : ℕ × CheckKind) → Some p ≡ Some q → p ≡ q
+inside : (p q : CheckFault) → Some p ≡ Some q → p ≡ q
 inside p q e = cc
-
-told : (l m : ℕ) (k n : CheckKind) → found l k ≡ found m n → refusal l k ≡ refusal m n
-told l m k n e =
-    let both = inside (l, k) (m, n) e in
-    ap (λ (x : ℕ). refusal x k) (ap (λ (p : ℕ × CheckKind). p.0) both) ∙ ap (refusal m) (ap (λ (p : ℕ × CheckKind). p.1) both)
 
 module _ (one : OneSelection) where
   same_focus : (t : Resources) (item : Item) (f g : Option Focus) → HasFocus t item f → HasFocus t item g → f ≡ g
@@ -57,20 +47,17 @@ module _ (one : OneSelection) where
   one_list t places ds es a b = same_entries t ds es (a.places_are ∙ sym b.places_are) a.foci b.foci
 
   pub one_answer : OneAnswer
-  one_answer t shipped items (Ok x) (Ok y) a b some other =
+  one_answer t shipped items (Ok x) (Ok y) a b =
       let same = one_list t (placed_items shipped items) a.0 b.0 a.1 b.1 in
       ap (λ (c : Checked). Ok c) (a.3 ∙ ap checked_of same ∙ sym b.3)
-  one_answer t shipped items (Ok x) (Err NoMemory) a b some other = absurd (other refl)
-  one_answer t shipped items (Ok x) (Err (At line kind)) a b some other =
+  one_answer t shipped items (Ok x) (Err fault) a b =
       let same = one_list t (placed_items shipped items) a.0 b.0 a.1 b.1 in
       let e = sym a.2 ∙ ap first_fault same ∙ b.2 in
       absurd cc
-  one_answer t shipped items (Err NoMemory) s a b some other = absurd (some refl)
-  one_answer t shipped items (Err (At line kind)) (Ok y) a b some other =
+  one_answer t shipped items (Err fault) (Ok y) a b =
       let same = one_list t (placed_items shipped items) a.0 b.0 a.1 b.1 in
       let e = sym b.2 ∙ ap first_fault (sym same) ∙ a.2 in
       absurd cc
-  one_answer t shipped items (Err (At line kind)) (Err NoMemory) a b some other = absurd (other refl)
-  one_answer t shipped items (Err (At l k)) (Err (At m n)) a b some other =
+  one_answer t shipped items (Err fault) (Err other) a b =
       let same = one_list t (placed_items shipped items) a.0 b.0 a.1 b.1 in
-      told l m k n (sym a.2 ∙ ap first_fault same ∙ b.2)
+      ap (λ (f : CheckFault). refusal f) (inside fault other (sym a.2 ∙ ap first_fault same ∙ b.2))

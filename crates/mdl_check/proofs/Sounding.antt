@@ -16,6 +16,7 @@ use Rattle.mdl_check.specs.Statements.{have}
 use Rattle.mdl_check.specs.Checking.{AreEntries, placed_of, fault_from, first_fault, metric_of, constraint_of, checked_of}
 use Rattle.mdl_check.specs.Sound.{Fits, OfEach, IsSoundMetric, IsSoundConstraint, TakesFitting, IsSound}
 use Rattle.mdl_check.proofs.Fitting.{none_of, all_map, all_zip, each_fits}
+use Rattle.mdl_check.specs.declared.fault.CheckFault.{CheckFault}
 use Rattle.mdl_check.specs.declared.fault.CheckKind.{CheckKind}
 use Rattle.mdl_check.specs.declared.fault.CheckKind.TheVariants.{TwiceNamed, UnknownName, WrongKind, CyclicParent, BadFocus}
 use Rattle.mdl_check.specs.declared.uses.Use.TheVariants as uses
@@ -38,8 +39,8 @@ right_entry all before e h = by (is_repeated all before e.item e.focus) (is_unkn
     by false false true p q g = cc
     by false false false p q g = record { known = p; right = q }
 
-abbrev found : ℕ → CheckKind → Option (ℕ × CheckKind)
-found line kind = Some (line, kind)
+abbrev found : ℕ → CheckKind → Option CheckFault
+found line kind = Some (record { line = line; kind = kind })
 
 passed : (all before : List Entry) (e : Entry) (es : List Entry) → fault_of all before e ≡ None → fault_from all before (e ∷ es) ≡ fault_from all (before ++ (e ∷ [])) es
 passed all before e es h = rw (h, fault_from) refl

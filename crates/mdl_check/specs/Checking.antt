@@ -14,9 +14,9 @@ use Rattle.resource_tree.specs.Foci.{Selects}
 use Rattle.mdl_check.specs.Placed.{PlacedItem, Entry, placed, placed_items}
 use Rattle.mdl_check.specs.Names.{metric_number}
 use Rattle.mdl_check.specs.Rules.{fault_of}
-use Rattle.mdl_check.specs.declared.fault.CheckKind.{CheckKind}
 use Rattle.mdl_check.specs.declared.fault.CheckFault.{CheckFault}
-use Rattle.mdl_check.specs.declared.fault.CheckFault.TheVariants.{NoMemory, At}
+use Rattle.mdl_check.specs.declared.fault.CheckError.{CheckError}
+use Rattle.mdl_check.specs.declared.fault.CheckError.TheVariants as error
 use Rattle.mdl_check.specs.declared.checked.Checked.{Checked}
 use Rattle.mdl_check.specs.declared.checked.CheckedWish.{CheckedWish}
 
@@ -42,14 +42,14 @@ pub record AreEntries (t : Resources) (places : List PlacedItem) (es : List Entr
 -- ---- the first fault
 
 -- the line of the first faulty item of a list and what is wrong with it, given all items and those before the list
-abbrev pub fault_from : List Entry → List Entry → List Entry → Option (ℕ × CheckKind)
+abbrev pub fault_from : List Entry → List Entry → List Entry → Option CheckFault
 fault_from all before [] = None
 fault_from all before (e ∷ es) = elim (fault_of all before e) [
   | None ↦ fault_from all (before ++ (e ∷ [])) es
-  | Some kind ↦ Some (e.line, kind)
+  | Some kind ↦ Some (record { line = e.line; kind = kind })
 ]
 
-abbrev pub first_fault : List Entry → Option (ℕ × CheckKind)
+abbrev pub first_fault : List Entry → Option CheckFault
 first_fault all = fault_from all [] all
 
 -- ---- the items of a faultless configuration, each with the line of its place, which is its include's where it is included
@@ -100,18 +100,22 @@ checked_of all = record {
 
 -- ---- the answers
 
--- a faultless configuration is checked, and of a faulty one the first fault is told; memory may run out in any
+-- a faultless configuration is checked, and of a faulty one the first fault is told
 abbrev pub IsAnswer : Resources → List Item → List Item → Result Checked CheckFault → Type 0
 IsAnswer t shipped items (Ok checked) =
     (es : List Entry) × AreEntries t (placed_items shipped items) es × (first_fault es ≡ None) × (checked ≡ checked_of es)
-IsAnswer t shipped items (Err NoMemory) = Unit {0}
-IsAnswer t shipped items (Err (At line kind)) =
-    (es : List Entry) × AreEntries t (placed_items shipped items) es × (first_fault es ≡ Some (line, kind))
+IsAnswer t shipped items (Err fault) =
+    (es : List Entry) × AreEntries t (placed_items shipped items) es × (first_fault es ≡ Some fault)
 
--- unless memory is wanting, there is one answer
+-- there is one answer
 abbrev pub OneAnswer : Type 0
 OneAnswer = (t : Resources) (shipped items : List Item) (a b : Result Checked CheckFault) →
-    IsAnswer t shipped items a → IsAnswer t shipped items b → (a ≡ Err NoMemory → ⊥) → (b ≡ Err NoMemory → ⊥) → a ≡ b
+    IsAnswer t shipped items a → IsAnswer t shipped items b → a ≡ b
+
+-- why a call was refused; want of memory is free
+abbrev pub Refuses : CheckError → (CheckFault → Type 0) → Type 0
+Refuses (error.Fault fault) why = why fault
+Refuses error.NoMemory why = Unit {0}
 
 -- the names of the items that are a `sync`
 abbrev pub sync_of : Item → List (List ℕ)

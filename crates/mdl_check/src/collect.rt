@@ -8,7 +8,7 @@ ghost use Rattle.mdl_check.specs.Judged.{IsJudged};
 
 use crate::checked::{Checked, CheckedWish};
 use crate::entry::Entry;
-use crate::fault::CheckFault;
+use crate::fault::CheckError;
 use crate::index::Index;
 use mdl_ast::{Constraint, Hypothesis, Item, Metric, PhaseDecl, SearchDecl};
 use pn_types::{Focus, NoMemory, Seq};
@@ -177,7 +177,7 @@ impl ByKind {
 }
 
 /// What faultless items are answered with, of which there are fewer than 2^32.
-pub(crate) fn checked(alloc: Global, index: &Index<'_, '_>) -> Result<Checked, CheckFault>
+pub(crate) fn checked(alloc: Global, index: &Index<'_, '_>) -> Result<Checked, CheckError>
     requires few { length index.now < 2 ^ 32 }
     requires faultless { first_fault index.now ≡ None }
     ensures { IsJudged index.now result }

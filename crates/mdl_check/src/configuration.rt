@@ -1,19 +1,19 @@
 //! The check.
 
-ghost use Rattle.std.specs.Prelude.{◌≡◌, ◌<◌, ◌^◌, ◌++◌, [], IfOk, OnOk, flat_map, length};
+ghost use Rattle.std.specs.Prelude.{◌≡◌, ◌<◌, ◌^◌, ◌++◌, [], Ok, Err, IfOk, IfErr, OnOk, flat_map, length};
 ghost use Rattle.std.specs.List.{AllByRecursion};
 ghost use Rattle.mdl_ast.specs.Small.{HasSmall};
 ghost use Rattle.mdl_check.specs.Sound.{CheckedIsSound, IsSound};
 ghost use Rattle.mdl_check.specs.Placed.{placed_items};
 ghost use Rattle.mdl_check.specs.Ancestors.{CyclicIsOwnAncestor};
-ghost use Rattle.mdl_check.specs.Checking.{IsAnswer, OneAnswer, sync_of, prefixes_of};
+ghost use Rattle.mdl_check.specs.Checking.{IsAnswer, OneAnswer, Refuses, sync_of, prefixes_of};
 ghost use Rattle.mdl_check.specs.Indexes.{IsKept};
 ghost use Rattle.mdl_check.specs.Judged.{IsJudged};
 
 use crate::checked::Checked;
 use crate::collect::checked;
 use crate::entry::{Entry, PlacedItem};
-use crate::fault::CheckFault;
+use crate::fault::CheckError;
 use crate::index::{Index, Kept};
 use crate::judge::find_fault;
 use crate::places::{entries, placed_items};
@@ -27,7 +27,7 @@ fn judged_by<'a>(
     alloc: Global,
     all: &[Entry<'a>],
     kept: &mut Kept<'a>,
-) -> Result<Checked, CheckFault>
+) -> Result<Checked, CheckError>
     requires few { length all.now < 2 ^ 32 }
     requires none { IsKept [] kept.old }
     ensures { IsJudged all.now result }
@@ -39,7 +39,7 @@ fn judged_by<'a>(
 }
 
 /// What these items are answered with.
-fn judged(alloc: Global, all: &[Entry<'_>]) -> Result<Checked, CheckFault>
+fn judged(alloc: Global, all: &[Entry<'_>]) -> Result<Checked, CheckError>
     requires { length all.now < 2 ^ 32 }
     ensures { IsJudged all.now result }
 {
@@ -66,9 +66,10 @@ fn judged(alloc: Global, all: &[Entry<'_>]) -> Result<Checked, CheckFault>
 /// - `BadFocus`: a wish whose focus selects nothing in the tree.
 ///
 /// A name leads to the first item that has it. With those of the includes there are fewer than 2^32 items.
-pub fn check(alloc: Global, conf: &Conf, shipped: &Conf, tree: &Tree) -> Result<Checked, CheckFault>
+pub fn check(alloc: Global, conf: &Conf, shipped: &Conf, tree: &Tree) -> Result<Checked, CheckError>
     requires { length (placed_items shipped.now.items conf.now.items) < 2 ^ 32 }
-    ensures answer { IsAnswer tree.now shipped.now.items conf.now.items result }
+    ensures checked { IfOk result (λ checked. IsAnswer tree.now shipped.now.items conf.now.items (Ok checked)) }
+    ensures fault { IfErr result (λ e. Refuses e (λ fault. IsAnswer tree.now shipped.now.items conf.now.items (Err fault))) }
     // A number of 32 bits counts the metrics.
     ensures few { IfOk result (λ checked. length checked.metrics < 2 ^ 32) }
     // What is parsed or shipped has small statements.
@@ -78,7 +79,7 @@ pub fn check(alloc: Global, conf: &Conf, shipped: &Conf, tree: &Tree) -> Result<
     judged(alloc, &all)
 }
 
-/// The check of a configuration has one answer, unless memory is wanting.
+/// The check of a configuration has one answer.
 pub fn one_answer()
     ensures { OneAnswer }
 {

@@ -17,27 +17,31 @@ pub enum CheckKind {
     BadFocus,
 }
 
-/// Why a configuration can't be used.
+/// The first faulty item of a configuration.
 #[derive(Clone, Copy, Debug, PartialEq, Eq, Drop)]
-pub enum CheckFault {
-    /// Memory ran out.
-    NoMemory,
-    /// The first faulty item begins at this line, from 1, and this is wrong with it.
-    At {
-        /// The line. An included item has the line of its include.
-        line: u32,
-        /// What is wrong.
-        kind: CheckKind,
-    },
+pub struct CheckFault {
+    /// The line at which it begins, from 1. An included item has the line of its include.
+    pub line: u32,
+    /// What is wrong with it.
+    pub kind: CheckKind,
 }
 
-impl From<NoMemory> for CheckFault {
+/// Why a configuration can't be used.
+#[derive(Clone, Copy, Debug, PartialEq, Eq, Drop)]
+pub enum CheckError {
+    /// Memory was wanting.
+    NoMemory,
+    /// The first faulty item.
+    Fault(CheckFault),
+}
+
+impl From<NoMemory> for CheckError {
     ghost use Rattle.std.specs.Prelude.{◌≡◌};
-    ghost use Rattle.mdl_check.specs.declared.fault.CheckFault.TheVariants.{NoMemory};
+    ghost use Rattle.mdl_check.specs.declared.fault.CheckError.TheVariants.{NoMemory};
 
-    ghost from_gives = { λ _ fault. fault ≡ NoMemory };
+    ghost from_gives = { λ _ e. e ≡ NoMemory };
 
-    fn from(_fault: NoMemory) -> CheckFault {
-        CheckFault::NoMemory
+    fn from(_error: NoMemory) -> CheckError {
+        CheckError::NoMemory
     }
 }

@@ -1,15 +1,14 @@
 //! The first faulty item.
 
-ghost use Rattle.std.specs.Prelude.{◌≡◌, [], IfErr, None, OnOk};
+ghost use Rattle.std.specs.Prelude.{◌≡◌, [], IfErr, None, OnOk, Some};
 ghost use Rattle.mdl_check.specs.Rules.{fault_of, parents_of};
-ghost use Rattle.mdl_check.specs.Checking.{first_fault};
+ghost use Rattle.mdl_check.specs.Checking.{first_fault, Refuses};
 ghost use Rattle.mdl_check.specs.Indexes.{AreNoted};
-ghost use Rattle.mdl_check.specs.Judged.{IsFirstFault};
 
 use crate::ancestors::Ancestry;
 use crate::before::{Before, Noted};
 use crate::entry::Entry;
-use crate::fault::{CheckFault, CheckKind};
+use crate::fault::{CheckError, CheckFault, CheckKind};
 use crate::index::Index;
 use crate::repeated::is_repeated;
 use crate::wrong::{is_astray, is_unknown, is_wrong};
@@ -50,20 +49,20 @@ fn find_fault_by<'a>(
     index: &Index<'_, 'a>,
     ancestry: &Ancestry,
     noted: &mut Noted<'a>,
-) -> Result<(), CheckFault>
+) -> Result<(), CheckError>
     requires parents { ancestry.now ≡ parents_of index.now }
     requires none { AreNoted [] noted.old }
     ensures none { OnOk result (first_fault index.now ≡ None) }
-    ensures fault { IfErr result (IsFirstFault index.now) }
+    ensures fault { IfErr result (λ e. Refuses e (λ fault. first_fault index.now ≡ Some fault)) }
 {
     let all = index.all();
     for (place, entry) in all.iter().enumerate() {
         let before = Before::new(&all[..place], noted);
         if let Some(kind) = fault_of(index, ancestry, &before, entry) {
-            return Err(CheckFault::At {
+            return Err(CheckError::Fault(CheckFault {
                 line: entry.line(),
                 kind,
-            });
+            }));
         }
         noted.add(alloc, entry)?;
     }
@@ -71,9 +70,9 @@ fn find_fault_by<'a>(
 }
 
 /// Looks for the first faulty item, whose line and fault are told.
-pub(crate) fn find_fault(alloc: Global, index: &Index<'_, '_>) -> Result<(), CheckFault>
+pub(crate) fn find_fault(alloc: Global, index: &Index<'_, '_>) -> Result<(), CheckError>
     ensures none { OnOk result (first_fault index.now ≡ None) }
-    ensures fault { IfErr result (IsFirstFault index.now) }
+    ensures fault { IfErr result (λ e. Refuses e (λ fault. first_fault index.now ≡ Some fault)) }
 {
     let ancestry = Ancestry::of(alloc, index)?;
     let mut noted = Noted::none(alloc);

@@ -19,4 +19,4 @@ mod wrong;
 
 pub use checked::{Checked, CheckedWish};
 pub use configuration::{check, checked_is_sound, one_answer, own_ancestors, prefixes};
-pub use fault::{CheckFault, CheckKind};
+pub use fault::{CheckError, CheckFault, CheckKind};

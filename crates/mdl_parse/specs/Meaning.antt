@@ -10,7 +10,8 @@ use Rattle.mdl_parse.specs.declared.refusal.Refusal.TheVariants as refusal
 use Rattle.mdl_parse.specs.declared.fault.SyntaxKind.{SyntaxKind}
 use Rattle.mdl_parse.specs.declared.fault.SyntaxKind.TheVariants as kind
 use Rattle.mdl_parse.specs.declared.fault.ParseFault.{ParseFault}
-use Rattle.mdl_parse.specs.declared.fault.ParseFault.TheVariants.{NoMemory, At}
+use Rattle.mdl_parse.specs.declared.fault.ParseError.{ParseError}
+use Rattle.mdl_parse.specs.declared.fault.ParseError.TheVariants as error
 use Rattle.mdl_parse.specs.WordsInText.{PlacedWord, AreWords, Spells, placed_words}
 use Rattle.mdl_parse.specs.ItemGrammar.{conf_tree_words}
 use Rattle.mdl_parse.specs.Shapes.{IsShaped}
@@ -66,10 +67,14 @@ pub data IsFault (text : List ℕ) : ℕ → ℕ → SyntaxKind → Type 0 where
   AtLast : (last : Place) → (tokens_of text).ending ≡ AtEnd last → Begin most_conditions (placed_words text) →
       ((c : Conf) → AreOf most_conditions (placed_words text) c → ⊥) → IsFault text last.line last.col kind.Unexpected
 
--- the answer is that fault, unless memory is wanting
+-- the text has that fault
 abbrev pub Faults : List ℕ → ParseFault → Type 0
-Faults text NoMemory = Unit {0}
-Faults text (At line col kind) = IsFault text line col kind
+Faults text fault = IsFault text fault.line fault.col fault.kind
+
+-- why a call was refused; want of memory is free
+abbrev pub Refuses : ParseError → (ParseFault → Type 0) → Type 0
+Refuses (error.Fault fault) why = why fault
+Refuses error.NoMemory why = Unit {0}
 
 -- ---- a text has one meaning
 

@@ -1,14 +1,13 @@
 //! What is wrong with a text.
 
 ghost use Rattle.std.specs.Prelude.{◌≡◌};
-ghost use Rattle.mdl_parse.specs.declared.fault.ParseFault.TheVariants.{NoMemory};
 ghost use Rattle.mdl_parse.specs.Meaning.{refusal_kind, lex_kind};
 ghost use Rattle.mdl_parse.specs.Ends.{lex_fault, end_fault};
 ghost use Rattle.mdl_parse.specs.Lexing.{ending_of};
 
 use crate::refusal::Refusal;
 use pn_text::{LexFault, Place};
-use std::alloc::AllocFailed;
+use std::alloc::AllocError;
 
 /// What kind of fault it is.
 #[derive(Clone, Copy, Debug, PartialEq, Eq, Drop)]
@@ -25,27 +24,34 @@ pub enum SyntaxKind {
     TooDeep,
 }
 
-/// Why a text is no configuration.
+/// The first fault of a text that is no configuration.
 #[derive(Clone, Copy, Debug, PartialEq, Eq, Drop)]
-pub enum ParseFault {
-    /// Memory is wanting.
-    NoMemory,
-    /// The first fault of the text.
-    At {
-        /// The line of its first byte, from 1.
-        line: u32,
-        /// The column of its first byte, in bytes from 1.
-        col: u32,
-        /// What it is.
-        kind: SyntaxKind,
-    },
+pub struct ParseFault {
+    /// The line of its first byte, from 1.
+    pub line: u32,
+    /// The column of its first byte, in bytes from 1.
+    pub col: u32,
+    /// What it is.
+    pub kind: SyntaxKind,
 }
 
-impl<T: Drop> From<AllocFailed<T>> for ParseFault {
+/// Why no configuration was read.
+#[derive(Clone, Copy, Debug, PartialEq, Eq, Drop)]
+pub enum ParseError {
+    /// Memory was wanting.
+    NoMemory,
+    /// The first fault of the text.
+    Fault(ParseFault),
+}
+
+impl From<AllocError> for ParseError {
+    ghost use Rattle.std.specs.Prelude.{◌≡◌};
+    ghost use Rattle.mdl_parse.specs.declared.fault.ParseError.TheVariants.{NoMemory};
+
     ghost from_gives = { λ _ e. e ≡ NoMemory };
 
-    fn from(_fault: AllocFailed<T>) -> ParseFault {
-        ParseFault::NoMemory
+    fn from(_error: AllocError) -> ParseError {
+        ParseError::NoMemory
     }
 }
 
@@ -68,7 +74,7 @@ pub(crate) fn lex_fault(fault: LexFault) -> ParseFault
         LexFault::OpenString(place) => (place, SyntaxKind::OpenString),
         LexFault::BigNumber(place) => (place, SyntaxKind::BigNumber),
     };
-    ParseFault::At {
+    ParseFault {
         line: place.line,
         col: place.col,
         kind,
@@ -80,7 +86,7 @@ pub(crate) fn end_fault(ending: Result<Place, LexFault>, why: Refusal) -> ParseF
     ensures { result ≡ end_fault (ending_of ending) why }
 {
     match ending {
-        Ok(last) => ParseFault::At {
+        Ok(last) => ParseFault {
             line: last.line,
             col: last.col,
             kind: refusal_kind(why),

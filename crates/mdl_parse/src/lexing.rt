@@ -1,11 +1,10 @@
 //! All tokens of a text.
 
-ghost use Rattle.std.specs.Prelude.{◌≡◌, ◌+◌, ◌<◌, ◌^◌, [], length, IfOk, IfErr};
-ghost use Rattle.mdl_parse.specs.declared.fault.ParseFault.TheVariants.{NoMemory};
+ghost use Rattle.std.specs.Prelude.{◌≡◌, ◌+◌, ◌<◌, ◌^◌, [], length, IfOk};
 ghost use Rattle.mdl_parse.specs.Lexing.{tokens_ahead, HasEnded, ending_of, AreTokens};
 
-use crate::fault::ParseFault;
 use pn_text::{LexFault, Place, Scanner, Token};
+use pn_types::NoMemory;
 use std::alloc::Global;
 
 /// The tokens of a text, and how they end.
@@ -41,10 +40,9 @@ fn ending(scanner: &mut Scanner) -> Result<Place, LexFault>
 }
 
 /// All tokens of the text, which is shorter than 2^32 - 1 bytes.
-pub(crate) fn tokenize(alloc: Global, text: &[u8]) -> Result<Tokens, ParseFault>
+pub(crate) fn tokenize(alloc: Global, text: &[u8]) -> Result<Tokens, NoMemory>
     requires { length text.now + 1 < 2 ^ 32 }
     ensures tokens { IfOk result (λ tokens. AreTokens text.now tokens.all.items tokens.ending) }
-    ensures memory { IfErr result (λ fault. fault ≡ NoMemory) }
 {
     let mut scanner = Scanner::new(text);
     let mut all = Vec::new(alloc);

@@ -22,6 +22,6 @@ mod statements;
 mod views;
 mod words;
 
-pub use fault::{ParseFault, SyntaxKind};
+pub use fault::{ParseError, ParseFault, SyntaxKind};
 pub use parsing::{one_meaning, parse};
 pub use printing::{print, printed_again};

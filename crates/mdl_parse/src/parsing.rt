@@ -4,9 +4,9 @@ ghost use Rattle.std.specs.Prelude.{◌+◌, ◌<◌, ◌^◌, length, IfOk, IfE
 ghost use Rattle.std.specs.List.{AllByRecursion};
 ghost use Rattle.mdl_ast.specs.Small.{HasSmall};
 ghost use Rattle.mdl_parse.specs.Lexing.{AreTokens};
-ghost use Rattle.mdl_parse.specs.Meaning.{IsConf, Faults, OneConf, OneFault, ConfOrFault};
+ghost use Rattle.mdl_parse.specs.Meaning.{IsConf, Faults, Refuses, OneConf, OneFault, ConfOrFault};
 
-use crate::fault::ParseFault;
+use crate::fault::ParseError;
 use crate::lexing::tokenize;
 use crate::refusal::Stop;
 use crate::words::Words;
@@ -23,28 +23,28 @@ fn parsed(
     text: &[u8],
     tokens: &[Token],
     ending: Result<Place, LexFault>,
-) -> Result<Conf, ParseFault>
+) -> Result<Conf, ParseError>
     requires { AreTokens text.now tokens.now ending }
     ensures conf { IfOk result (λ conf. IsConf text.now conf) }
-    ensures fault { IfErr result (λ fault. Faults text.now fault) }
+    ensures fault { IfErr result (λ e. Refuses e (Faults text.now)) }
     ensures small { IfOk result (λ conf. AllByRecursion HasSmall conf.items) }
 {
     let mut words = Words::new(text, tokens);
     match words.items(alloc, MAX_CONDITIONS) {
         Ok(items) => match words.unread(ending) {
-            Some(fault) => Err(fault),
+            Some(fault) => Err(ParseError::Fault(fault)),
             None => Ok(Conf { items }),
         },
-        Err(Stop::NoMemory) => Err(ParseFault::NoMemory),
-        Err(Stop::Refused(why)) => Err(words.fault(ending, why)),
+        Err(Stop::NoMemory) => Err(ParseError::NoMemory),
+        Err(Stop::Refused(why)) => Err(ParseError::Fault(words.fault(ending, why))),
     }
 }
 
 /// The configuration that a text spells, or its first fault. The text is shorter than 2^32 - 1 bytes.
-pub fn parse(alloc: Global, text: &[u8]) -> Result<Conf, ParseFault>
+pub fn parse(alloc: Global, text: &[u8]) -> Result<Conf, ParseError>
     requires { length text.now + 1 < 2 ^ 32 }
     ensures conf { IfOk result (λ conf. IsConf text.now conf) }
-    ensures fault { IfErr result (λ fault. Faults text.now fault) }
+    ensures fault { IfErr result (λ e. Refuses e (Faults text.now)) }
     ensures small { IfOk result (λ conf. AllByRecursion HasSmall conf.items) }
 {
     let tokens = tokenize(alloc, text)?;

@@ -110,7 +110,7 @@ impl<'a> Words<'a> {
         ensures { result ≡ fault_in self.now (ending_of ending) why }
     {
         match self.tokens {
-            [token, ..] => ParseFault::At {
+            [token, ..] => ParseFault {
                 line: token.line,
                 col: token.col,
                 kind: refusal_kind(why),

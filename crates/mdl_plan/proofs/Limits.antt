@@ -21,6 +21,7 @@ use Rattle.mdl_plan.specs.Active.{Active}
 use Rattle.mdl_plan.specs.Pieces.{counters, counting}
 use Rattle.mdl_plan.specs.Plans.{Answers, IsLimited, IsPlanOver, IsSiteOf, Scene, has_stmts, is_crowded, opens_of, or_crowded, plan_with, plan_at, site_at, sites_of, scene_of, stmts_at, counter_var, vars_of}
 use Rattle.mdl_plan.specs.declared.fault.PlanFault.{PlanFault}
+use Rattle.mdl_plan.specs.declared.fault.PlanError.{PlanError}
 use Rattle.mdl_plan.specs.declared.fault.PlanFault.TheVariants.{TooManySites}
 use Rattle.mdl_plan.proofs.FewOpens.{few_opens}
 
@@ -138,6 +139,6 @@ over points s m a plan e =
     })
 
 -- an answer that is a plan is within its limits
-pub answer_over : (t : Resources) (f : Focus) (procs : List Proc) (points : List Point) (m : Metric) (a : Active) (r : Result Plan PlanFault) → Answers r (plan_at t f procs points m (Ok a)) → IfOk r (IsPlanOver points)
+pub answer_over : (t : Resources) (f : Focus) (procs : List Proc) (points : List Point) (m : Metric) (a : Active) (r : Result Plan PlanError) → Answers r (plan_at t f procs points m (Ok a)) → IfOk r (IsPlanOver points)
 answer_over t f procs points m a (Ok plan) e = over points (scene_of (part t f) procs m a) m a plan e
 answer_over t f procs points m a (Err fault) e = tt

@@ -16,7 +16,9 @@ use Rattle.mdl_plan.specs.Plans.{Answers, Scene, is_crowded, or_crowded, plan_wi
 use Rattle.mdl_plan.specs.Statements.{Terms}
 use Rattle.mdl_plan.specs.ChosenPieces.{AreChosen, Refuses, has_numbers, opens_with, site_with, sites_with}
 use Rattle.mdl_plan.specs.declared.fault.PlanFault.{PlanFault}
-use Rattle.mdl_plan.specs.declared.fault.PlanFault.TheVariants.{NoMemory, NoConstraint, TooManySites, TooManyStmts}
+use Rattle.mdl_plan.specs.declared.fault.PlanFault.TheVariants.{NoConstraint, TooManySites, TooManyStmts}
+use Rattle.mdl_plan.specs.declared.fault.PlanError.{PlanError}
+use Rattle.mdl_plan.specs.declared.fault.PlanError.TheVariants as error
 use Rattle.mdl_plan.specs.declared.chosen_pieces.ChosenPieces.{ChosenPieces}
 use Rattle.mdl_plan.proofs.OpenList.{opens_reached}
 use Rattle.mdl_plan.proofs.PointStmts.{opens_are, sites_are}
@@ -58,20 +60,20 @@ few_enough vars due opens few =
     (false_from_ne_true (ltb 4096 (length due)) (λ (h : ltb 4096 (length due) ≡ true). omega (arith, ltb-true 4096 (length due) h)))
 
 -- the sites were refused
-pub refused : (vars : List Var) (sites due : List Site) (opens : List Open) (n : ℕ) (fault : PlanFault) (r : Result Plan PlanFault) → r ≡ Err fault
-    → sites ≡ due → length sites ≡ n → n ≤ 4096 → Refuses fault sites → Answers r (plan_with vars due opens)
-refused vars sites due opens n fault r e same len few h =
-    subst (λ (x : Result Plan PlanFault). Answers x (plan_with vars due opens)) (sym e) (by fault (subst (Refuses fault) same h))
+pub refused : (vars : List Var) (sites due : List Site) (opens : List Open) (n : ℕ) (e : PlanError) (r : Result Plan PlanError) → r ≡ Err e
+    → sites ≡ due → length sites ≡ n → n ≤ 4096 → Refuses e sites → Answers r (plan_with vars due opens)
+refused vars sites due opens n e r is same len few h =
+    subst (λ (x : Result Plan PlanError). Answers x (plan_with vars due opens)) (sym is) (by e (subst (Refuses e) same h))
   where
     crowded : (at : ℕ) (o : Option Site) → option_map (λ s. s.at) o ≡ Some at → or_crowded vars due opens o ≡ Err (TooManyStmts at)
     crowded at None g = cc
     crowded at (Some s) g = let k : s.at ≡ at = cc in ap (λ (m : ℕ). let r : Result Plan PlanFault = Err (TooManyStmts m) in r) k
 
-    by : (f : PlanFault) → Refuses f due → Answers (Err f) (plan_with vars due opens)
-    by NoMemory g = tt
-    by (NoConstraint axis) g = absurd g
-    by (TooManySites m) g = absurd g
-    by (TooManyStmts at) g = few_enough vars due opens (let k : length due ≡ n = ap length (sym same) ∙ len in omega (arith, k)) ∙ crowded at (find is_crowded due) g
+    by : (e : PlanError) → Refuses e due → Answers (Err e) (plan_with vars due opens)
+    by error.NoMemory g = tt
+    by (error.Fault (NoConstraint axis)) g = absurd g
+    by (error.Fault (TooManySites m)) g = absurd g
+    by (error.Fault (TooManyStmts at)) g = few_enough vars due opens (let k : length due ≡ n = ap length (sym same) ∙ len in omega (arith, k)) ∙ crowded at (find is_crowded due) g
 
 -- the sites are the plan's
 pub done : (vars : List Var) (sites due : List Site) (opens : List Open) (n : ℕ) → sites ≡ due → length sites ≡ n → n ≤ 4096 → find is_crowded sites ≡ None

@@ -8,7 +8,8 @@ use Rattle.prim_code.specs.Fitting.{IsMeasurable}
 use Rattle.mdl_plan.specs.Plans.{Answers, IsPlanOver}
 use Rattle.mdl_plan.specs.Starts.{started, started_if}
 use Rattle.mdl_plan.specs.declared.fault.PlanFault.{PlanFault}
-use Rattle.mdl_plan.specs.declared.fault.PlanFault.TheVariants.{NoMemory, NoConstraint, TooManySites, TooManyStmts}
+use Rattle.mdl_plan.specs.declared.fault.PlanError.{PlanError}
+use Rattle.mdl_plan.specs.declared.fault.PlanError.TheVariants.{NoMemory, Fault}
 
 pub started_measurable : (start : Start) (plan : Plan) → IsMeasurable plan → IsMeasurable (started start plan)
 started_measurable Warm plan h = h
@@ -24,9 +25,7 @@ started_over Cold points plan h = record {
 }
 
 -- what is answered starts as what is due does
-pub started_answers : (start : Start) (r due : Result Plan PlanFault) → Answers r due → Answers (started_if start r) (started_if start due)
+pub started_answers : (start : Start) (r : Result Plan PlanError) (due : Result Plan PlanFault) → Answers r due → Answers (started_if start r) (started_if start due)
 started_answers start (Ok plan) due e = ap (started_if start) e
 started_answers start (Err NoMemory) due e = tt
-started_answers start (Err (NoConstraint axis)) due e = ap (started_if start) e
-started_answers start (Err (TooManySites n)) due e = ap (started_if start) e
-started_answers start (Err (TooManyStmts at)) due e = ap (started_if start) e
+started_answers start (Err (Fault fault)) due e = ap (started_if start) e

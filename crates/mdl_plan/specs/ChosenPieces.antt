@@ -15,8 +15,9 @@ use Rattle.mdl_plan.specs.Numbers.{AreNumbers, stmts_of_number}
 use Rattle.mdl_plan.specs.Pieces.{Piece}
 use Rattle.mdl_plan.specs.Statements.{Terms}
 use Rattle.mdl_plan.specs.Plans.{is_crowded, open_if}
-use Rattle.mdl_plan.specs.declared.fault.PlanFault.{PlanFault}
-use Rattle.mdl_plan.specs.declared.fault.PlanFault.TheVariants.{NoMemory, NoConstraint, TooManySites, TooManyStmts}
+use Rattle.mdl_plan.specs.declared.fault.PlanFault.TheVariants.{NoConstraint, TooManySites, TooManyStmts}
+use Rattle.mdl_plan.specs.declared.fault.PlanError.{PlanError}
+use Rattle.mdl_plan.specs.declared.fault.PlanError.TheVariants as error
 use Rattle.mdl_plan.specs.declared.planner.Planner.{Planner}
 use Rattle.mdl_plan.specs.declared.chosen_pieces.ChosenPieces.{ChosenPieces}
 
@@ -76,11 +77,11 @@ abbrev pub opens_with : Terms → List Piece → ChosenPieces → List Proc → 
 opens_with terms pieces t procs points = flat_map (open_with terms pieces t procs) points
 
 -- why these sites are none of a plan, unless memory is wanting
-abbrev pub Refuses : PlanFault → List Site → Type 0
-Refuses NoMemory sites = Unit {0}
-Refuses (NoConstraint axis) sites = ⊥
-Refuses (TooManySites n) sites = ⊥
-Refuses (TooManyStmts at) sites = option_map (λ site. site.at) (find is_crowded sites) ≡ Some at
+abbrev pub Refuses : PlanError → List Site → Type 0
+Refuses error.NoMemory sites = Unit {0}
+Refuses (error.Fault (NoConstraint axis)) sites = ⊥
+Refuses (error.Fault (TooManySites n)) sites = ⊥
+Refuses (error.Fault (TooManyStmts at)) sites = option_map (λ site. site.at) (find is_crowded sites) ≡ Some at
 
 -- what a planner adds for piece number i, its sites, and what is open
 abbrev pub stmts_in : Planner → ℕ → List Stmt

@@ -21,7 +21,9 @@ use Rattle.mdl_plan.specs.Pieces.{Piece, pieces, replacement, counters, base_ini
 use Rattle.mdl_plan.specs.Statements.{Terms, stmts_of, guards}
 use Rattle.mdl_plan.specs.Choosing.{is_chosen, kinds_of}
 use Rattle.mdl_plan.specs.declared.fault.PlanFault.{PlanFault}
-use Rattle.mdl_plan.specs.declared.fault.PlanFault.TheVariants.{NoMemory, NoConstraint, TooManySites, TooManyStmts}
+use Rattle.mdl_plan.specs.declared.fault.PlanFault.TheVariants.{TooManySites, TooManyStmts}
+use Rattle.mdl_plan.specs.declared.fault.PlanError.{PlanError}
+use Rattle.mdl_plan.specs.declared.fault.PlanError.TheVariants as error
 
 -- a program's procedures and points
 pub record IndexedProgram : Type 0 where
@@ -125,12 +127,10 @@ abbrev pub plan_of : List Constraint → Metric → Focus → Resources → List
 plan_of cs m f t procs points = plan_at t f procs points m (active_of cs m f)
 
 -- the answer is what is due, unless memory is wanting
-abbrev pub Answers : Result Plan PlanFault → Result Plan PlanFault → Type 0
+abbrev pub Answers : Result Plan PlanError → Result Plan PlanFault → Type 0
 Answers (Ok plan) due = due ≡ Ok plan
-Answers (Err NoMemory) due = Unit {0}
-Answers (Err (NoConstraint axis)) due = due ≡ Err (NoConstraint axis)
-Answers (Err (TooManySites n)) due = due ≡ Err (TooManySites n)
-Answers (Err (TooManyStmts at)) due = due ≡ Err (TooManyStmts at)
+Answers (Err (error.Fault fault)) due = due ≡ Err fault
+Answers (Err error.NoMemory) due = Unit {0}
 
 -- at most so many sites, each with at most so many statements, and each procedure with at most as many
 pub record IsLimited (plan : Plan) : Type 0 where

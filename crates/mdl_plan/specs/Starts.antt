@@ -3,7 +3,6 @@ use Rattle.std.specs.Prelude.{Result, Ok, Err, []}
 use Rattle.pn_types.specs.declared.plan.Plan.{Plan}
 use Rattle.pn_types.specs.declared.settings.Start.{Start}
 use Rattle.pn_types.specs.declared.settings.Start.TheVariants.{Cold, Warm}
-use Rattle.mdl_plan.specs.declared.fault.PlanFault.{PlanFault}
 
 -- cold it knows of no open procedure
 abbrev pub started : Start → Plan → Plan
@@ -11,6 +10,6 @@ started Cold plan = record plan { opens = [] }
 started Warm plan = plan
 
 -- a plan, if there is one
-abbrev pub started_if : Start → Result Plan PlanFault → Result Plan PlanFault
+abbrev pub started_if : {E : Type 0} → Start → Result Plan E → Result Plan E
 started_if start (Ok plan) = Ok (started start plan)
 started_if start (Err fault) = Err fault

@@ -5,8 +5,6 @@ use pn_types::{Axis, NoMemory};
 /// Why there is no plan.
 #[derive(Clone, Copy, Debug, PartialEq, Eq, Drop)]
 pub enum PlanFault {
-    /// Memory ran out.
-    NoMemory,
     /// The focus selects a part of this hierarchy, for which the metric has no constraint.
     NoConstraint(Axis),
     /// There would be this many sites, more than 4,096.
@@ -15,13 +13,33 @@ pub enum PlanFault {
     TooManyStmts(u64),
 }
 
-impl From<NoMemory> for PlanFault {
+/// Why no plan was made.
+#[derive(Clone, Copy, Debug, PartialEq, Eq, Drop)]
+pub enum PlanError {
+    /// Memory was wanting.
+    NoMemory,
+    /// There is none.
+    Fault(PlanFault),
+}
+
+impl From<PlanFault> for PlanError {
     ghost use Rattle.std.specs.Prelude.{◌≡◌};
-    ghost use Rattle.mdl_plan.specs.declared.fault.PlanFault.TheVariants.{NoMemory};
+    ghost use Rattle.mdl_plan.specs.declared.fault.PlanError.TheVariants.{Fault};
 
-    ghost from_gives = { λ _ fault. fault ≡ NoMemory };
+    ghost from_gives = { λ fault e. e ≡ Fault fault };
 
-    fn from(_fault: NoMemory) -> PlanFault {
-        PlanFault::NoMemory
+    fn from(fault: PlanFault) -> PlanError {
+        PlanError::Fault(fault)
+    }
+}
+
+impl From<NoMemory> for PlanError {
+    ghost use Rattle.std.specs.Prelude.{◌≡◌};
+    ghost use Rattle.mdl_plan.specs.declared.fault.PlanError.TheVariants.{NoMemory};
+
+    ghost from_gives = { λ _ e. e ≡ NoMemory };
+
+    fn from(_error: NoMemory) -> PlanError {
+        PlanError::NoMemory
     }
 }

@@ -14,7 +14,7 @@ mod start;
 mod statements;
 mod variables;
 
-pub use fault::PlanFault;
+pub use fault::{PlanError, PlanFault};
 pub use index::PlanIndex;
 pub use planning::plan;
 pub use start::start_plan;

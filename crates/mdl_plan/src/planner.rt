@@ -11,7 +11,7 @@ ghost use Rattle.mdl_plan.specs.ChosenPieces.{has_numbers, numbers_at, open_with
 
 use crate::active::Active;
 use crate::chosen_pieces::{ChosenPieces, numbers_if};
-use crate::fault::PlanFault;
+use crate::fault::{PlanError, PlanFault};
 use crate::index::{PlanIndex, points_at};
 use crate::pieces::{Piece, pieces};
 use crate::scope::Scope;
@@ -183,27 +183,27 @@ impl<'a> Planner<'a> {
     }
 
     /// Adds the site of a point, if a statement stands there. A point with too many is refused.
-    fn add_site(&self, alloc: Global, sites: &mut Vec<Site>, point: &Point) -> Result<(), PlanFault>
+    fn add_site(&self, alloc: Global, sites: &mut Vec<Site>, point: &Point) -> Result<(), PlanError>
         ensures added { OnOk result (sites.new.items ≡ sites.old.items ++ sites_in self.now (point.now ∷ [])) }
         ensures few { OnOk result (find is_crowded (sites_in self.now (point.now ∷ [])) ≡ None) }
-        ensures refused { IfErr result (λ fault. Refuses fault (sites_in self.now (point.now ∷ []))) }
+        ensures refused { IfErr result (λ e. Refuses e (sites_in self.now (point.now ∷ []))) }
     {
         if !self.chosen.has_numbers(point) {
             return Ok(());
         }
         let stmts = self.stmts_at(alloc, point)?;
         if stmts.len() > MOST_STMTS {
-            return Err(PlanFault::TooManyStmts(point.at));
+            return Err(PlanError::Fault(PlanFault::TooManyStmts(point.at)));
         }
         add(sites, point.at, stmts)?;
         Ok(())
     }
 
     /// The sites of the points. The first point with too many statements is refused.
-    pub(crate) fn sites(&self, alloc: Global, points: &[&Point]) -> Result<Vec<Site>, PlanFault>
+    pub(crate) fn sites(&self, alloc: Global, points: &[&Point]) -> Result<Vec<Site>, PlanError>
         ensures all { IfOk result (λ sites. sites.items ≡ sites_in self.now (map (λ p. p.now) points.now)) }
         ensures few { OnOk result (find is_crowded (sites_in self.now (map (λ p. p.now) points.now)) ≡ None) }
-        ensures refused { IfErr result (λ fault. Refuses fault (sites_in self.now (map (λ p. p.now) points.now))) }
+        ensures refused { IfErr result (λ e. Refuses e (sites_in self.now (map (λ p. p.now) points.now))) }
     {
         let mut sites = Vec::new(alloc);
         for point in points {

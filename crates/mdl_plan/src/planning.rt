@@ -11,7 +11,7 @@ ghost use Rattle.mdl_plan.specs.Fitting.{most_words, HasFewConds, HasLowObjects}
 ghost use Rattle.mdl_plan.specs.Plans.{plan_at, plan_of, Answers, IsPlanOver};
 
 use crate::active::{Active, active_at};
-use crate::fault::PlanFault;
+use crate::fault::{PlanError, PlanFault};
 use crate::index::PlanIndex;
 use crate::planner::Planner;
 use crate::variables::vars;
@@ -32,7 +32,7 @@ fn planned(
     focus: &Focus,
     tree: &Tree,
     index: &PlanIndex,
-) -> Result<Plan, PlanFault>
+) -> Result<Plan, PlanError>
     ensures answer { Answers result (plan_at tree.now focus.now index.now.procs index.now.points metric.now (Ok active.now)) }
     ensures narrow { IfOk result (λ plan. AllByRecursion (λ v. v.initially < 2 ^ 32) plan.vars) }
 {
@@ -41,7 +41,7 @@ fn planned(
     let reached = planner.reached(alloc, index)?;
     let sites = planner.count(&reached);
     if sites > MOST_SITES {
-        return Err(PlanFault::TooManySites(sites));
+        return Err(PlanError::Fault(PlanFault::TooManySites(sites)));
     }
     let sites = planner.sites(alloc, &reached)?;
     let opens = planner.opens(alloc, index.procs(), &reached)?;
@@ -88,7 +88,7 @@ pub fn plan(
     focus: &Focus,
     tree: &Tree,
     index: &PlanIndex,
-) -> Result<Plan, PlanFault>
+) -> Result<Plan, PlanError>
     requires { metric < length checked.now.metrics }
     ensures answer { (m : Metric) → slice_get checked.now.metrics metric ≡ Some m →
         Answers result (plan_of checked.now.constraints m focus.now tree.now index.now.procs index.now.points) }

@@ -1,8 +1,8 @@
 //! The program: it makes the real files and sinks and hands them to the top call.
 #![tactic(auto)]
 
+use headline::{Words, log_name, run_program};
 use outside::{DropSink, FileSink, OpenGate, OsFiles, StdSink};
-use paradyn_top::{Words, log_name, run_program};
 use pn_types::NoMemory;
 use std::alloc::Global;
 use std::process::ExitCode;

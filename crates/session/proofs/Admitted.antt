@@ -37,7 +37,7 @@ module _ (i : Inputs) (w : CheckedWish) (ws : List CheckedWish) (k : Kept) where
   answer_beside (Ok q) plan = refl
 
   plan_beside : (r : Result Plan PlanFault) → with_plan r w (record k { wishes = ws }) ≡ record (with_plan r w k) { wishes = ws }
-  plan_beside (Err fault) = refused_beside (cause_of_plan fault)
+  plan_beside (Err fault) = refused_beside (Some (cause_of_plan fault))
   plan_beside (Ok plan) = answer_beside (admission k.machine.placer plan None) plan
 
   show_beside : (o : Option Shown) → with_show o i w (record k { wishes = ws }) ≡ record (with_show o i w k) { wishes = ws }

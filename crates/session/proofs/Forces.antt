@@ -10,7 +10,7 @@ use Rattle.instrument.specs.declared.number.State.{State}
 use Rattle.instrument.proofs.Numbers.{admissions_tell, admits}
 use Rattle.session_spec.specs.Inputs.{Inputs}
 use Rattle.session_spec.specs.Tests.{in_force, is_gone, words_of}
-use Rattle.session_laws.specs.Rosters.{AreBelow, IsRoster}
+use Rattle.session_spec.specs.Rosters.{AreBelow, IsRoster}
 use Rattle.session_kits.specs.declared.kit.Kit.{Kit}
 use Rattle.session_kits.specs.Kits.{AreLiveFrom, is_gone_test}
 use Rattle.session_kits.proofs.Dropped.{shown_in}

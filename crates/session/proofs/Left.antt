@@ -26,10 +26,10 @@ use Rattle.session_spec.specs.States.{Kept}
 use Rattle.session_spec.specs.Admission.{admitted, shown_next, shown_now, with_answer, with_plan, with_refused, with_show, with_wish}
 use Rattle.session_spec.specs.Opening.{with_all}
 use Rattle.session_spec.specs.Tests.{in_force, is_full, is_gone, must_wait, tested, tests_next, with_node, with_nodes, words_of}
-use Rattle.session_laws.specs.Rosters.{AreBelow}
-use Rattle.session_laws.proofs.Acting.{admitted_placer}
-use Rattle.session_laws.proofs.Admitting.{KeepsNode, node_kept}
-use Rattle.session_laws.proofs.Likes.{below_more, below_push}
+use Rattle.session_spec.specs.Rosters.{AreBelow}
+use Rattle.session_spec.proofs.Acting.{admitted_placer}
+use Rattle.session_spec.proofs.AdmittingSteps.{KeepsNode, node_kept}
+use Rattle.session_spec.proofs.Likes.{below_more, below_push}
 use Rattle.session.specs.Contenders.{AreWithout, MustWait}
 use Rattle.session.proofs.Forces.{lower_stay}
 use Rattle.session.proofs.Looks.{wish_shows}
@@ -78,7 +78,7 @@ module _ (i : Inputs) (force : ℕ) where
   answer_force plan w k (Ok placer) e h = more_force i force k (record (admitted plan k) { shown = k.shown ++ shown_next w k ∷ [] }) plan None placer (shown_next w k) e refl refl refl h
 
   plan_force : (r : Result Plan PlanFault) (w : CheckedWish) (k : Kept) → HasForce i force k → HasForce i force (with_plan r w k)
-  plan_force (Err fault) w k h = refused_force (cause_of_plan fault) w k h
+  plan_force (Err fault) w k h = refused_force (Some (cause_of_plan fault)) w k h
   plan_force (Ok plan) w k h = answer_force plan w k (admission k.machine.placer plan None) refl h
 
   show_force : (o : Option Shown) (w : CheckedWish) (k : Kept) → HasForce i force k → HasForce i force (with_show o i w k)

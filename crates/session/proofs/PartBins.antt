@@ -9,9 +9,9 @@ use Rattle.session_spec.specs.declared.data.Shown.{Shown}
 use Rattle.session_spec.specs.Inputs.{Inputs}
 use Rattle.session_spec.specs.States.{State}
 use Rattle.session_spec.specs.Work.{closed, work}
-use Rattle.session_laws.specs.Bins.{AreMeasured, AreRecorded}
-use Rattle.session_laws.proofs.Keeping.{bins_told}
-use Rattle.session_laws.proofs.Printing.{printed_told}
+use Rattle.session_spec.specs.Bins.{AreMeasured, AreRecorded}
+use Rattle.session_spec.proofs.Keeping.{bins_told}
+use Rattle.session_spec.proofs.Printing.{printed_told}
 use Rattle.session.specs.Bins.{IsPartOf, PartsTold}
 use Rattle.session.specs.Parts.{shown_part, shown_parts}
 

@@ -13,7 +13,7 @@ use Rattle.mdl_ast.specs.declared.metric.Metric.{Metric}
 use Rattle.mdl_plan.specs.Fitting.{most_words}
 use Rattle.mdl_plan.specs.Plans.{Answers, IsPlanOver, IsSiteOf, plan_of}
 use Rattle.mdl_plan.specs.Starts.{started, started_if}
-use Rattle.mdl_plan.specs.declared.fault.PlanFault.{PlanFault}
+use Rattle.mdl_plan.specs.declared.fault.PlanError.{PlanError}
 use Rattle.mdl_plan.specs.declared.fault.PlanFault.TheVariants.{TooManySites}
 use Rattle.mdl_plan.proofs.Starting.{started_answers, started_measurable, started_over}
 use Rattle.instrument.proofs.Armable.{armable_plan}
@@ -56,7 +56,7 @@ unfolding planned
 none_planned i metric focus l = ap (λ o. plan_by o i focus) (slice_get_past i.checked.metrics metric l)
 
 -- the plan that is due: it starts as the settings say
-pub answers_planned : (i : Inputs) (metric : ℕ) (focus : Focus) (r : Result Plan PlanFault) → metric < length i.checked.metrics
+pub answers_planned : (i : Inputs) (metric : ℕ) (focus : Focus) (r : Result Plan PlanError) → metric < length i.checked.metrics
     → ((m : Metric) → slice_get i.checked.metrics metric ≡ Some m → Answers r (plan_of i.checked.constraints m focus i.tree i.procs i.points)) → Answers (started_if i.settings.start r) (planned i metric focus)
 unfolding planned
 answers_planned i metric focus r l f = by (slice_get i.checked.metrics metric) (there i.checked.metrics metric l) f

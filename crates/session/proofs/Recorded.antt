@@ -5,14 +5,14 @@ use Rattle.pn_types.specs.declared.quantum.Quantum.{Quantum}
 use Rattle.mdl_check.specs.declared.checked.CheckedWish.{CheckedWish}
 use Rattle.machine.specs.Laws.{IsProgram}
 use Rattle.session_spec.specs.Inputs.{Inputs}
-use Rattle.session_laws.specs.Bins.{AreRecorded}
-use Rattle.session_laws.specs.Feed.{IsFeed}
-use Rattle.session_laws.specs.Printed.{AreForOpening, AreWholeRuns}
-use Rattle.session_laws.specs.Readings.{AreReadNext}
-use Rattle.session_laws.proofs.Feeding.{feed_told}
-use Rattle.session_laws.proofs.Keeping.{bins_told}
-use Rattle.session_laws.proofs.Printing.{printed_told}
-use Rattle.session_laws.proofs.Reading.{samples_read}
+use Rattle.session_spec.specs.Bins.{AreRecorded}
+use Rattle.session_spec.specs.Feed.{IsFeed}
+use Rattle.session_spec.specs.Printed.{AreForOpening, AreWholeRuns}
+use Rattle.session_spec.specs.LastReadings.{AreReadNext}
+use Rattle.session_spec.proofs.Feeding.{feed_told}
+use Rattle.session_spec.proofs.Keeping.{bins_told}
+use Rattle.session_spec.proofs.Printing.{printed_told}
+use Rattle.session_spec.proofs.Reading.{samples_read}
 use Rattle.session.specs.Bins.{AreParts, AreWholeParts}
 use Rattle.session.specs.Kept.{IsKept}
 use Rattle.session.specs.Sessions.{state_at}

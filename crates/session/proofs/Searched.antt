@@ -4,11 +4,11 @@ use Rattle.std.specs.Prelude.{Bool, List, true, false}
 use Rattle.pn_types.specs.declared.quantum.Quantum.{Quantum}
 use Rattle.mdl_ast.specs.declared.items.SearchDecl.{SearchDecl}
 use Rattle.mdl_check.specs.declared.checked.CheckedWish.{CheckedWish}
-use Rattle.session_laws.specs.Costs.{AreWithin, IsWithin}
-use Rattle.session_laws.specs.Told.{AreBarred}
-use Rattle.session_laws.proofs.Barring.{bars_told}
-use Rattle.session_laws.proofs.Moments.{costs_stay}
-use Rattle.session_laws.proofs.Nodes.{verdicts_told}
+use Rattle.session_spec.specs.Costs.{AreWithin, IsWithin}
+use Rattle.session_spec.specs.Laws.{AreBarred}
+use Rattle.session_spec.proofs.Barring.{bars_told}
+use Rattle.session_spec.proofs.Moments.{costs_stay}
+use Rattle.session_spec.proofs.Nodes.{verdicts_told}
 use Rattle.session_spec.specs.Inputs.{Inputs}
 use Rattle.session_spec.specs.Searches.{rules_by, rules_of}
 use Rattle.session_spec.specs.States.{Kept, State}

@@ -11,8 +11,8 @@ use Rattle.session_spec.specs.Inputs.{Inputs, planned}
 use Rattle.session_spec.specs.Plans.{ArePlansGood}
 use Rattle.session_spec.specs.States.{State}
 use Rattle.session_spec.specs.Work.{closed, work}
-use Rattle.session_laws.specs.Bins.{AreMeasured}
-use Rattle.session_laws.specs.Printed.{AreForOpening}
+use Rattle.session_spec.specs.Bins.{AreMeasured}
+use Rattle.session_spec.specs.Printed.{AreForOpening}
 use Rattle.session.specs.Parts.{metric_of, name_of, parts_of}
 
 -- The part of a pair that was wished. Its bins follow one another from its arming on, none is empty, and each is what its metric's plan

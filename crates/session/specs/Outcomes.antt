@@ -21,11 +21,11 @@ use Rattle.session.specs.declared.failure.Failure.TheVariants.{NoPlan, Refused}
 -- ---- causes
 
 abbrev pub pick_cause_of : Failure → Option PickCause
-pick_cause_of (NoPlan fault) = cause_of_plan fault
+pick_cause_of (NoPlan fault) = Some (cause_of_plan fault)
 pick_cause_of (Refused refused) = cause_of_refusal refused
 
 abbrev pub bar_cause_of : Failure → Option BarCause
-bar_cause_of (NoPlan fault) = bar_of_plan fault
+bar_cause_of (NoPlan fault) = Some (bar_of_plan fault)
 bar_cause_of (Refused refused) = bar_of_refusal refused
 
 -- ---- one pair

@@ -22,10 +22,10 @@ impl Failure {
         ensures { result ≡ pick_cause_of self }
     {
         match self {
-            Failure::NoPlan(PlanFault::NoMemory) | Failure::Refused(Refused::NoMemory) => None,
             Failure::NoPlan(PlanFault::NoConstraint(axis)) => Some(PickCause::NoConstraint(axis)),
             Failure::NoPlan(PlanFault::TooManySites(sites)) => Some(PickCause::TooManySites(sites)),
             Failure::NoPlan(PlanFault::TooManyStmts(at)) => Some(PickCause::TooManyStmts(at)),
+            Failure::Refused(Refused::NoMemory) => None,
             Failure::Refused(Refused::OverCost(words)) => Some(PickCause::OverCost(words)),
             Failure::Refused(Refused::TooMany) => Some(PickCause::TooMany),
             Failure::Refused(Refused::NoSlot(slots)) => Some(PickCause::NoSlot(slots)),
@@ -39,11 +39,10 @@ impl Failure {
         ensures { result ≡ bar_cause_of self }
     {
         match self {
-            Failure::NoPlan(PlanFault::NoMemory)
-            | Failure::Refused(Refused::NoMemory | Refused::TooMany) => None,
             Failure::NoPlan(PlanFault::NoConstraint(axis)) => Some(BarCause::NoConstraint(axis)),
             Failure::NoPlan(PlanFault::TooManySites(sites)) => Some(BarCause::TooManySites(sites)),
             Failure::NoPlan(PlanFault::TooManyStmts(at)) => Some(BarCause::TooManyStmts(at)),
+            Failure::Refused(Refused::NoMemory | Refused::TooMany) => None,
             Failure::Refused(Refused::OverCost(words)) => Some(BarCause::OverCost(words)),
             Failure::Refused(Refused::NoSlot(slots)) => Some(BarCause::NoSlot(slots)),
             Failure::Refused(Refused::NoRoom(words)) => Some(BarCause::NoRoom(words)),

@@ -8,18 +8,18 @@ ghost use Rattle.session.specs.Candidates.{IsPlanned, IsShort};
 ghost use Rattle.session.specs.Given.{AreGiven};
 
 use crate::inputs::Inputs;
-use mdl_plan::{PlanFault, plan, start_plan};
+use mdl_plan::{PlanError, PlanFault, plan, start_plan};
 use pn_types::{Focus, NoMemory, Plan, Seq};
 use std::alloc::Global;
 
 /// The plan of a metric at a focus, started as the settings say, or why there is none.
-fn planned(alloc: Global, inputs: &Inputs, metric: u32, focus: &Focus) -> Result<Plan, PlanFault>
+fn planned(alloc: Global, inputs: &Inputs, metric: u32, focus: &Focus) -> Result<Plan, PlanError>
     requires { AreGiven inputs.now }
     ensures answer { Answers result (planned inputs.now metric focus.now) }
     ensures short { IfOk result (IsShort inputs.now) }
 {
     if metric as usize >= inputs.checked.metrics.as_slice().len() {
-        return Err(PlanFault::TooManySites(0));
+        return Err(PlanError::Fault(PlanFault::TooManySites(0)));
     }
     let whole = plan(
         alloc,
@@ -60,7 +60,7 @@ pub(crate) fn plan_or_fault(
 {
     match planned(alloc, inputs, metric, focus) {
         Ok(plan) => Ok((plan, None)),
-        Err(PlanFault::NoMemory) => Err(NoMemory {}),
-        Err(fault) => Ok((nothing(alloc), Some(fault))),
+        Err(PlanError::NoMemory) => Err(NoMemory {}),
+        Err(PlanError::Fault(fault)) => Ok((nothing(alloc), Some(fault))),
     }
 }

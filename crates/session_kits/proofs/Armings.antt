@@ -4,9 +4,9 @@ use Rattle.std.specs.Prelude.{true}
 use Rattle.std.specs.List.{AllByRecursion}
 use Rattle.instrumented.specs.Instrumented.{Instrumented}
 use Rattle.session_spec.specs.Due.{is_ready, machine_armed}
-use Rattle.session_laws.specs.Rosters.{AreBelow, IsRoster}
-use Rattle.session_laws.proofs.Likes.{below_more}
-use Rattle.session_laws.proofs.Spending.{later_ready}
+use Rattle.session_spec.specs.Rosters.{AreBelow, IsRoster}
+use Rattle.session_spec.proofs.Likes.{below_more}
+use Rattle.session_spec.proofs.Spending.{later_ready}
 use Rattle.session_kits.specs.declared.kit.Kit.{Kit}
 use Rattle.session_kits.specs.Kits.{AreLiveFrom, HasHarts, is_gone_test, kit_armed, kits_armed, machine_of_armed}
 use Rattle.session_kits.proofs.Arms.{same, same_kit}

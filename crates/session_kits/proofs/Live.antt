@@ -13,11 +13,11 @@ use Rattle.session_spec.specs.declared.data.Shown.{Shown}
 use Rattle.session_spec.specs.Due.{arm_all, is_armed, is_ready, machine_armed}
 use Rattle.session_spec.specs.Tests.{is_gone}
 use Rattle.session_spec.specs.Verdicts.{tester_of}
-use Rattle.session_laws.specs.Rosters.{AreBelow, IsRoster}
-use Rattle.session_laws.proofs.Acting.{IsNoArming, done_since, repeated_since, taken_placer}
-use Rattle.session_laws.proofs.Counting.{Later, later_since}
-use Rattle.session_laws.proofs.Likes.{below_more, below_push}
-use Rattle.session_laws.proofs.Spending.{later_arms}
+use Rattle.session_spec.specs.Rosters.{AreBelow, IsRoster}
+use Rattle.session_spec.proofs.Acting.{IsNoArming, done_since, repeated_since, taken_placer}
+use Rattle.session_spec.proofs.TestCosts.{Later, later_since}
+use Rattle.session_spec.proofs.Likes.{below_more, below_push}
+use Rattle.session_spec.proofs.Spending.{later_arms}
 use Rattle.session_kits.specs.declared.kit.Kit.{Kit}
 use Rattle.session_kits.specs.Kits.{AreLive, AreLiveFrom, dropped_by, dropped_tests, is_gone_test, kit_armed, kit_sampled, kits_armed, live_of, machine_of_armed}
 use Rattle.session_kits.proofs.Dropped.{shown_in}

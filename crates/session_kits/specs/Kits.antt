@@ -15,7 +15,7 @@ use Rattle.session_spec.specs.Due.{is_armed, is_ready, machine_armed, place_behi
 use Rattle.session_spec.specs.Readings.{reading_by, ticks_between, ticks_of}
 use Rattle.session_spec.specs.Tests.{is_gone}
 use Rattle.session_spec.specs.Verdicts.{tester_of}
-use Rattle.session_laws.specs.Rosters.{AreBelow, IsRoster}
+use Rattle.session_spec.specs.Rosters.{AreBelow, IsRoster}
 use Rattle.session_kits.specs.declared.kit.Kit.{Kit}
 
 -- what its instrument reads

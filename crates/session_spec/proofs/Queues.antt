@@ -57,7 +57,7 @@ module _ (i : Inputs) (n : ℕ) (node : Node) (k : Kept) where
       by false = test_rest (admission k.machine.placer plan (Some (rules_of i).decl.cost)) plan
 
   plan_rest : (r : Result Plan PlanFault) → IsRest k (with_plan_of r i n node k)
-  plan_rest (Err fault) = barred_rest (bar_of_plan fault)
+  plan_rest (Err fault) = barred_rest (Some (bar_of_plan fault))
   plan_rest (Ok plan) = cost_rest plan
 
   waiting_rest : IsRest k (with_waiting (Some node) i n k)

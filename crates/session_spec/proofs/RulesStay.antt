@@ -59,7 +59,7 @@ module _ (i : Inputs) (w : CheckedWish) (k : Kept) where
   answer_search (Ok q) plan = refl
 
   plan_search : (r : Result Plan PlanFault) → (with_plan r w k).search ≡ k.search
-  plan_search (Err fault) = refused_search (cause_of_plan fault)
+  plan_search (Err fault) = refused_search (Some (cause_of_plan fault))
   plan_search (Ok plan) = answer_search (admission k.machine.placer plan None) plan
 
   show_search : (o : Option Shown) → (with_show o i w k).search ≡ k.search

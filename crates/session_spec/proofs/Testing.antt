@@ -45,7 +45,7 @@ module _ (i : Inputs) (n : ℕ) (node : Node) (k : Kept) where
       by false = test_once (admission k.machine.placer plan (Some (rules_of i).decl.cost)) plan
 
   plan_once : (r : Result Plan PlanFault) → IsAtOnce k (with_plan_of r i n node k)
-  plan_once (Err fault) = barred_once (bar_of_plan fault)
+  plan_once (Err fault) = barred_once (Some (bar_of_plan fault))
   plan_once (Ok plan) = cost_once plan
 
   waiting_once : IsAtOnce k (with_waiting (Some node) i n k)
@@ -100,7 +100,7 @@ module _ (i : Inputs) (good : ArePlansGood i) (own : List ℕ) where
           by false = test_moved plan e (admission k.machine.placer plan (Some (rules_of i).decl.cost)) refl
 
       plan_moved : (r : Result Plan PlanFault) → planned i (metric_of i node) node.focus ≡ r → Moves i own lasts k (with_plan_of r i n node k)
-      plan_moved (Err fault) e = barred_moved (bar_of_plan fault)
+      plan_moved (Err fault) e = barred_moved (Some (bar_of_plan fault))
       plan_moved (Ok plan) e = cost_moved plan e
 
       waiting_moved : Moves i own lasts k (with_waiting (Some node) i n k)

@@ -41,7 +41,7 @@ module _ (i : Inputs) (w : CheckedWish) (k : Kept) where
   answer_once (Ok q) plan = record { time = refl; last = refl }
 
   plan_once : (r : Result Plan PlanFault) → IsAtOnce k (with_plan r w k)
-  plan_once (Err fault) = refused_once (cause_of_plan fault)
+  plan_once (Err fault) = refused_once (Some (cause_of_plan fault))
   plan_once (Ok plan) = answer_once (admission k.machine.placer plan None) plan
 
   show_once : (o : Option Shown) → IsAtOnce k (with_show o i w k)
@@ -114,7 +114,7 @@ module _ (i : Inputs) (good : ArePlansGood i) (own : List ℕ) where
     answer_moved plan e (Ok q) a = admits_moved i k.machine own k.shown lasts t plan None None w.metric w.focus e (good w.metric w.focus plan e) q a
 
     plan_moved : (r : Result Plan PlanFault) → planned i w.metric w.focus ≡ r → Moves i own lasts k (with_plan r w k)
-    plan_moved (Err fault) e = refused_moved (cause_of_plan fault)
+    plan_moved (Err fault) e = refused_moved (Some (cause_of_plan fault))
     plan_moved (Ok plan) e = answer_moved plan e (admission k.machine.placer plan None) refl
 
     show_moved : (o : Option Shown) → Moves i own lasts k (with_show o i w k)

@@ -48,7 +48,7 @@ with_answer (Err refused) w plan k = with_refused (cause_of_refusal refused) w k
 with_answer (Ok placer) w plan k = record (admitted plan k) { shown = k.shown ++ shown_next w k ∷ [] }
 
 abbrev pub with_plan : Result Plan PlanFault → CheckedWish → Kept → Kept
-with_plan (Err fault) w k = with_refused (cause_of_plan fault) w k
+with_plan (Err fault) w k = with_refused (Some (cause_of_plan fault)) w k
 with_plan (Ok plan) w k = with_answer (admission k.machine.placer plan None) w plan k
 
 abbrev pub with_show : Option Shown → Inputs → CheckedWish → Kept → Kept

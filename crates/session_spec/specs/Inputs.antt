@@ -14,7 +14,7 @@ use Rattle.mdl_check.specs.declared.checked.CheckedWish.{CheckedWish}
 use Rattle.mdl_plan.specs.Plans.{plan_of}
 use Rattle.mdl_plan.specs.Starts.{started_if}
 use Rattle.mdl_plan.specs.declared.fault.PlanFault.{PlanFault}
-use Rattle.mdl_plan.specs.declared.fault.PlanFault.TheVariants.{NoMemory, NoConstraint, TooManySites, TooManyStmts}
+use Rattle.mdl_plan.specs.declared.fault.PlanFault.TheVariants.{NoConstraint, TooManySites, TooManyStmts}
 use Rattle.instrument.specs.declared.number.Refused.{Refused}
 use Rattle.instrument.specs.declared.number.Refused.TheVariants as refused
 use Rattle.resource_tree.specs.Resources.{Resources}
@@ -48,14 +48,14 @@ plan_by (Some m) i focus = started_if i.settings.start (plan_of i.checked.constr
 unfoldable pub planned : Inputs → ℕ → Focus → Result Plan PlanFault
 planned i metric focus = plan_by (slice_get i.checked.metrics metric) i focus
 
--- ---- causes; want of memory is none
+-- ---- causes
 
-abbrev pub cause_of_plan : PlanFault → Option PickCause
-cause_of_plan NoMemory = None
-cause_of_plan (NoConstraint axis) = Some (cause.NoConstraint axis)
-cause_of_plan (TooManySites n) = Some (cause.TooManySites n)
-cause_of_plan (TooManyStmts at) = Some (cause.TooManyStmts at)
+abbrev pub cause_of_plan : PlanFault → PickCause
+cause_of_plan (NoConstraint axis) = cause.NoConstraint axis
+cause_of_plan (TooManySites n) = cause.TooManySites n
+cause_of_plan (TooManyStmts at) = cause.TooManyStmts at
 
+-- want of memory is none
 abbrev pub cause_of_refusal : Refused → Option PickCause
 cause_of_refusal refused.NoMemory = None
 cause_of_refusal (refused.OverCost n) = Some (cause.OverCost n)

@@ -15,3 +15,11 @@ pub mod Plans
 pub mod Readings
 pub mod Ties
 pub mod Reads
+pub mod Bins
+pub mod LastReadings
+pub mod Feed
+pub mod Becoming
+pub mod Printed
+pub mod Costs
+pub mod Laws
+pub mod Rosters

@@ -7,7 +7,7 @@ use Rattle.mdl_ast.specs.declared.items.Hypothesis.{Hypothesis}
 use Rattle.mdl_ast.specs.declared.items.SearchDecl.{SearchDecl}
 use Rattle.mdl_ast.specs.declared.metric.Metric.{Metric}
 use Rattle.mdl_plan.specs.declared.fault.PlanFault.{PlanFault}
-use Rattle.mdl_plan.specs.declared.fault.PlanFault.TheVariants.{NoMemory, NoConstraint, TooManySites, TooManyStmts}
+use Rattle.mdl_plan.specs.declared.fault.PlanFault.TheVariants.{NoConstraint, TooManySites, TooManyStmts}
 use Rattle.instrument.specs.declared.number.Refused.{Refused}
 use Rattle.instrument.specs.declared.number.Refused.TheVariants as refused
 use Rattle.w3_search.specs.declared.node.Node.{Node}
@@ -43,15 +43,14 @@ number_by (Some h) i = number_from 0 h.metric i.checked.metrics
 unfoldable pub metric_of : Inputs → Node → ℕ
 metric_of i node = number_by (slice_get i.checked.hypotheses node.hypothesis) i
 
--- ---- why a node can't be tested; want of memory is no cause
+-- ---- why a node can't be tested
 
-abbrev pub bar_of_plan : PlanFault → Option BarCause
-bar_of_plan NoMemory = None
-bar_of_plan (NoConstraint axis) = Some (bar.NoConstraint axis)
-bar_of_plan (TooManySites n) = Some (bar.TooManySites n)
-bar_of_plan (TooManyStmts at) = Some (bar.TooManyStmts at)
+abbrev pub bar_of_plan : PlanFault → BarCause
+bar_of_plan (NoConstraint axis) = bar.NoConstraint axis
+bar_of_plan (TooManySites n) = bar.TooManySites n
+bar_of_plan (TooManyStmts at) = bar.TooManyStmts at
 
--- nor is a number of instruments that is reached: such a node isn't taken
+-- want of memory is no cause, nor is a number of instruments that is reached: such a node isn't taken
 abbrev pub bar_of_refusal : Refused → Option BarCause
 bar_of_refusal refused.NoMemory = None
 bar_of_refusal (refused.OverCost n) = Some (bar.OverCost n)

@@ -76,7 +76,7 @@ with_cost i n node plan k =
     else with_test (admission k.machine.placer plan (Some (rules_of i).decl.cost)) i n node plan k
 
 abbrev pub with_plan_of : Result Plan PlanFault → Inputs → ℕ → Node → Kept → Kept
-with_plan_of (Err fault) i n node k = barred (bar_of_plan fault) n k
+with_plan_of (Err fault) i n node k = barred (Some (bar_of_plan fault)) n k
 with_plan_of (Ok plan) i n node k = with_cost i n node plan k
 
 -- only a node that waits is taken

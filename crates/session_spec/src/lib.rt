@@ -2,5 +2,10 @@
 #![tactic(auto)]
 
 mod data;
+mod laws;
 
 pub use data::{Latest, RefusedWish, Shown};
+pub use laws::{
+    bars_told, bins_told, costs_stay, feed_told, opens_at_zero, printed_told, runs_told,
+    samples_read, verdicts_told,
+};

@@ -17,7 +17,7 @@ use Rattle.session_spec.specs.Due.{arm_all, is_ready, machine_armed, with_arms, 
 use Rattle.session_spec.specs.Admission.{with_admission}
 use Rattle.session_spec.specs.Verdicts.{tester_of, with_verdicts, without_tester, without_tests}
 use Rattle.session_spec.specs.Work.{Halted, first_state, is_due, state_admitted, state_done, state_handed, state_quiet, state_turned, state_worked, tend, tests_now, work, work_from}
-use Rattle.session_laws.proofs.Admitting.{Keeps, admission_kept}
+use Rattle.session_spec.proofs.AdmittingSteps.{Keeps, admission_kept}
 use Rattle.shared_run.proofs.Stopping.{IsStopped, arms_same, hands_all_same, quantum_taken, settling_taken, sweeps_all_same}
 
 module _ (i : Inputs) (h : ℕ) where

@@ -8,8 +8,8 @@ ghost use Rattle.commands.specs.Given.{inputs_with};
 ghost use Rattle.session.specs.Given.{AreGiven};
 
 use code_points::procedures;
+use headline::{Found, find, read_inputs};
 use outside::MemFiles;
-use paradyn_top::{Found, find, read_inputs};
 use pn_types::{Image, NoMemory, Quantum, Settings};
 use quanta_log::{LogError, read};
 use refusals::{Fault, Refusal, bad_log};

@@ -11,8 +11,8 @@ use Rattle.session_spec.specs.Inputs.{Inputs}
 use Rattle.session_spec.specs.Work.{closed, work}
 use Rattle.session_spec.specs.declared.data.Latest.{Latest}
 use Rattle.session_spec.specs.declared.data.Shown.{Shown}
-use Rattle.session_laws.specs.Bins.{AreRecorded}
-use Rattle.session_laws.specs.Feed.{IsFeed, places_behind}
+use Rattle.session_spec.specs.Bins.{AreRecorded}
+use Rattle.session_spec.specs.Feed.{IsFeed, places_behind}
 use Rattle.session.specs.Parts.{shown_part, shown_parts}
 use Rattle.visi_run.specs.Feed.{feed_of}
 use Rattle.visi_run.specs.Viewed.{shown_of}

@@ -43,7 +43,7 @@ answer_same (Err refused) w plan k = refused_same (cause_of_refusal refused) w k
 answer_same (Ok placer) w plan k = (refl, refl)
 
 plan_same : (r : Result Plan PlanFault) (w : CheckedWish) (k : Kept) → Same k (with_plan r w k)
-plan_same (Err fault) w k = refused_same (cause_of_plan fault) w k
+plan_same (Err fault) w k = refused_same (Some (cause_of_plan fault)) w k
 plan_same (Ok plan) w k = answer_same (admission k.machine.placer plan None) w plan k
 
 show_same : (o : Option Shown) (i : Inputs) (w : CheckedWish) (k : Kept) → Same k (with_show o i w k)
@@ -87,7 +87,7 @@ module _ (i : Inputs) (n : ℕ) where
       (λ _. (refl, refl)) (λ _. test_same a node plan k)
 
   plan_of_same : (r : Result Plan PlanFault) (node : Node) (k : Kept) → Same k (with_plan_of r i n node k)
-  plan_of_same (Err fault) node k = barred_same (bar_of_plan fault) k
+  plan_of_same (Err fault) node k = barred_same (Some (bar_of_plan fault)) k
   plan_of_same (Ok plan) node k = cost_same node plan k
 
   waiting_same : (o : Option Node) (k : Kept) → Same k (with_waiting o i n k)

@@ -1,5 +1,5 @@
 -- The samples that the views of a run are given, and how far they are told that it is.
-use Rattle.std.specs.Prelude.{ℕ, ◌-◌, ◌^◌, Bool, true, List, length, min}
+use Rattle.std.specs.Prelude.{◌-◌, ◌^◌, Bool, true, List, length, min}
 use Rattle.pn_types.specs.declared.quantum.Quantum.{Quantum}
 use Rattle.session_spec.specs.declared.data.Latest.{Latest}
 use Rattle.session_spec.specs.Inputs.{Inputs}

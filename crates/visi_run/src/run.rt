@@ -139,8 +139,13 @@ fn stream<R: Threads + Wait + Sync, G: Gate + Sync>(
     let seats = pair(alloc, views, readers, parkers)?;
     let rounds = Rounds::begin(alloc, &session, harts, course.seed, course.turns)?;
     let outlet = Outlet::new(publisher, writer, &session);
-    let (ran, seats) = thread::join(
+    // The run is on this thread: where there is no other, the views follow it when it has ended.
+    let (seats, ran) = thread::join(
         rt,
+        || -> Result<Vec<Seat>, NoMemory>
+            requires { AreSeatsOf board.gauge.cell seats.items }
+            ensures { IfOk result (λ v. (seat_lines v.items ≡ seat_lines seats.items) × AreSeatsOf board.gauge.cell v.items) }
+        { follow_all(rt, alloc, &board, seats, gate) },
         || -> Result<(Session, Outlet), NoMemory>
             requires { StandAt rounds session × (outlet.writer.cell ≡ board.gauge.cell) × IsTold outlet (state_of session) false }
             ensures { IfOk result (λ r. HasRun session.inputs rounds.seed rounds.turns outlet r.0 r.1) }
@@ -150,10 +155,6 @@ fn stream<R: Threads + Wait + Sync, G: Gate + Sync>(
             board.end();
             ran
         },
-        || -> Result<Vec<Seat>, NoMemory>
-            requires { AreSeatsOf board.gauge.cell seats.items }
-            ensures { IfOk result (λ v. (seat_lines v.items ≡ seat_lines seats.items) × AreSeatsOf board.gauge.cell v.items) }
-        { follow_all(rt, alloc, &board, seats, gate) },
     );
     let (session, outlet) = ran?;
     let (views, readers) = part(alloc, seats?)?;

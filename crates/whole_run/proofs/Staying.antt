@@ -25,7 +25,7 @@ use Rattle.session_spec.specs.Admission.{with_admission}
 use Rattle.session_spec.specs.Turns.{handed_at_once, with_entries, with_hart}
 use Rattle.session_spec.specs.Due.{with_next}
 use Rattle.session_spec.specs.Work.{is_due, state_admitted, state_done, state_handed, state_quiet, state_turned, state_worked, tend}
-use Rattle.session_laws.proofs.Admitting.{Keeps, admission_kept}
+use Rattle.session_spec.proofs.AdmittingSteps.{Keeps, admission_kept}
 
 -- ---- an admission leaves the machine as it is
 

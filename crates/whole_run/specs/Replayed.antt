@@ -9,8 +9,8 @@ use Rattle.session_spec.specs.Inputs.{Inputs}
 use Rattle.session_spec.specs.Opening.{bad_pick}
 use Rattle.session_spec.specs.States.{Kept, State}
 use Rattle.session_spec.specs.Work.{IsWhole, first_state, quantum_of, tend, work}
-use Rattle.session_spec.specs.declared.data.RefusedWish.{RefusedWish}
-use Rattle.session.specs.Sessions.{IsToldAs}
+use Rattle.session.specs.Sessions.{IsStartFault}
+use Rattle.session.specs.declared.fault.StartFault.TheVariants.{NoMemory, BadPick}
 use Rattle.whole_run.specs.declared.misfit.Misfit.{Misfit}
 use Rattle.whole_run.specs.declared.misfit.Misfit.TheVariants.{NotRunnable, OtherOwns, Unfinished}
 use Rattle.whole_run.specs.declared.misfit.ReplayFault.{ReplayFault}
@@ -59,12 +59,11 @@ IsWithin count Unfinished = Unit {0}
 
 -- they are none for this reason, where it isn't want of memory
 abbrev pub IsMisfit : Inputs → List Quantum → ReplayFault → Type 0
-IsMisfit i quanta fault.NoMemory = Unit {0}
-IsMisfit i quanta (fault.BadPick metric focus cause) = ⊥
+IsMisfit i quanta (fault.NotOpened NoMemory) = Unit {0}
+IsMisfit i quanta (fault.NotOpened (BadPick metric focus cause)) = ⊥
 IsMisfit i quanta (fault.Misfit misfit) = (misfit_of i quanta ≡ Some misfit) × IsWithin (length quanta) misfit
 
 -- why there is no report, where it isn't for want of memory
 abbrev pub IsReplayFault : Inputs → List Quantum → ReplayFault → Type 0
-IsReplayFault i quanta fault.NoMemory = Unit {0}
-IsReplayFault i quanta (fault.BadPick metric focus cause) = (wish : RefusedWish) × (bad_pick i ≡ Some wish) × IsToldAs i wish metric focus cause
+IsReplayFault i quanta (fault.NotOpened why) = IsStartFault i why
 IsReplayFault i quanta (fault.Misfit misfit) = (bad_pick i ≡ None) × (misfit_of i quanta ≡ Some misfit) × IsWithin (length quanta) misfit

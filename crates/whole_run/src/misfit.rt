@@ -1,4 +1,4 @@
-use pn_types::{NoMemory, PickCause, Text};
+use pn_types::NoMemory;
 use session::StartFault;
 
 /// Why quanta that are told are no whole run. Quanta are numbered from 0.
@@ -15,21 +15,31 @@ pub enum Misfit {
 /// Why a run along quanta that are told has no report.
 #[derive(Drop)]
 pub enum ReplayFault {
-    /// Memory is wanting.
-    NoMemory,
-    /// A wish of the opening is refused, the first such: the name of its metric, its focus, and why.
-    BadPick(Text, Text, PickCause),
+    /// No session could be opened, or memory was wanting later.
+    NotOpened(StartFault),
     /// The quanta are no whole run.
     Misfit(Misfit),
 }
 
 impl From<NoMemory> for ReplayFault {
     ghost use Rattle.std.specs.Prelude.{◌≡◌};
-    ghost use Rattle.whole_run.specs.declared.misfit.ReplayFault.TheVariants.{NoMemory};
+    ghost use Rattle.session.specs.declared.fault.StartFault.TheVariants.{NoMemory};
+    ghost use Rattle.whole_run.specs.declared.misfit.ReplayFault.TheVariants.{NotOpened};
 
-    ghost from_gives = { λ _ fault. fault ≡ NoMemory };
+    ghost from_gives = { λ _ fault. fault ≡ NotOpened NoMemory };
 
-    fn from(_fault: NoMemory) -> ReplayFault {
-        ReplayFault::NoMemory
+    fn from(_error: NoMemory) -> ReplayFault {
+        ReplayFault::NotOpened(StartFault::NoMemory)
+    }
+}
+
+impl From<StartFault> for ReplayFault {
+    ghost use Rattle.std.specs.Prelude.{◌≡◌};
+    ghost use Rattle.whole_run.specs.declared.misfit.ReplayFault.TheVariants.{NotOpened};
+
+    ghost from_gives = { λ why fault. fault ≡ NotOpened why };
+
+    fn from(why: StartFault) -> ReplayFault {
+        ReplayFault::NotOpened(why)
     }
 }

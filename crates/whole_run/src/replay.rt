@@ -15,7 +15,7 @@ ghost use Rattle.whole_run.specs.Replayed.{misfit_of, IsMisfit, IsReplayFault};
 use crate::misfit::{Misfit, ReplayFault};
 use pn_types::Quantum;
 use report::report;
-use session::{Inputs, Session, StartFault};
+use session::{Inputs, Session};
 use std::alloc::Global;
 
 /// Lets the harts of a session that just began take the quanta that are told.
@@ -74,8 +74,8 @@ fn run_along(
 ///
 /// # Errors
 ///
-/// `NoMemory` where memory is wanting; `BadPick` with the first wish at tick 0 that is refused, if one is; `Misfit` with the first
-/// quantum that isn't the run's, or where the quanta end before the run does.
+/// `NotOpened` with `NoMemory` where memory is wanting, and with `BadPick` and the first wish at tick 0 that is refused, if one is;
+/// `Misfit` with the first quantum that isn't the run's, or where the quanta end before the run does.
 pub fn replay_run(
     alloc: Global,
     inputs: Inputs,
@@ -90,12 +90,6 @@ pub fn replay_run(
     ensures report { IfOk result (λ report. report.items ≡ report_of inputs quanta.now skipped) }
     ensures refused { IfErr result (IsReplayFault inputs quanta.now) }
 {
-    let mut session = match Session::begin(alloc, inputs) {
-        Ok(session) => session,
-        Err(StartFault::NoMemory) => return Err(ReplayFault::NoMemory),
-        Err(StartFault::BadPick(metric, focus, cause)) => {
-            return Err(ReplayFault::BadPick(metric, focus, cause));
-        }
-    };
+    let mut session = Session::begin(alloc, inputs)?;
     run_along(alloc, &mut session, quanta, skipped)
 }

@@ -4,14 +4,14 @@ use crate::language::configurations::conf_of;
 use crate::language::programs::one_procedure;
 use crate::language::texts::shown;
 use mdl_ast::Conf;
-use mdl_check::{CheckFault, Checked, check, prefixes};
-use mdl_parse::{ParseFault, parse};
+use mdl_check::{CheckError, Checked, check, prefixes};
+use mdl_parse::{ParseError, parse};
 use resource_tree::Tree;
 use std::alloc::Global;
 use std::io;
 
 /// What is shipped here: a prefix and a metric.
-fn shipped(alloc: Global) -> Result<Conf, ParseFault> {
+fn shipped(alloc: Global) -> Result<Conf, ParseError> {
     parse(
         alloc,
         b"sync lock_; metric calls { units \"units\"; base is counter { foreach func in $all { prepend entry (* calls++; *) } } }",
@@ -25,9 +25,9 @@ pub fn checked(
     conf: &Conf,
     shipped: &Conf,
     tree: &Tree,
-) -> Result<Checked, CheckFault> {
+) -> Result<Checked, CheckError> {
     if shipped.items.as_slice().len() > 1000 || conf.items.as_slice().len() > 1000 {
-        return Err(CheckFault::NoMemory);
+        return Err(CheckError::NoMemory);
     }
     check(alloc, conf, shipped, tree)
 }
@@ -52,21 +52,21 @@ fn print_beside(rt: &impl Print, alloc: Global, conf: &Conf, shipped: &Conf) -> 
     };
     match checked(alloc, conf, shipped, &tree) {
         Ok(checked) => print_checked(rt, &checked),
-        Err(fault) => println!(rt; "{fault:?}"),
+        Err(error) => println!(rt; "{error:?}"),
     }
 }
 
 fn print_answer(rt: &impl Print, alloc: Global, conf: &Conf) -> io::Result<()> {
     match shipped(alloc) {
         Ok(shipped) => print_beside(rt, alloc, conf, &shipped),
-        Err(fault) => println!(rt; "shipped {fault:?}"),
+        Err(error) => println!(rt; "shipped {error:?}"),
     }
 }
 
 pub fn print_check(rt: &impl Print, alloc: Global, text: &str) -> io::Result<()> {
     match conf_of(alloc, text) {
         Ok(conf) => print_answer(rt, alloc, &conf),
-        Err(fault) => println!(rt; "{fault:?}"),
+        Err(error) => println!(rt; "{error:?}"),
     }
 }
 
@@ -82,13 +82,13 @@ fn print_listed(rt: &impl Print, alloc: Global, conf: &Conf, shipped: &Conf) -> 
 fn print_prefixes_of(rt: &impl Print, alloc: Global, conf: &Conf) -> io::Result<()> {
     match shipped(alloc) {
         Ok(shipped) => print_listed(rt, alloc, conf, &shipped),
-        Err(fault) => println!(rt; "shipped {fault:?}"),
+        Err(error) => println!(rt; "shipped {error:?}"),
     }
 }
 
 pub fn print_prefixes(rt: &impl Print, alloc: Global, text: &str) -> io::Result<()> {
     match conf_of(alloc, text) {
         Ok(conf) => print_prefixes_of(rt, alloc, &conf),
-        Err(fault) => println!(rt; "{fault:?}"),
+        Err(error) => println!(rt; "{error:?}"),
     }
 }

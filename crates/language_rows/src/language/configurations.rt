@@ -2,16 +2,16 @@
 
 use crate::language::texts::{bytes_of, shown};
 use mdl_ast::Conf;
-use mdl_parse::{ParseFault, parse, print};
+use mdl_parse::{ParseError, parse, print};
 use mdl_shipped::shipped;
 use std::alloc::Global;
 use std::io;
 
 /// The configuration that a text spells.
-pub fn conf_of(alloc: Global, text: &str) -> Result<Conf, ParseFault> {
+pub fn conf_of(alloc: Global, text: &str) -> Result<Conf, ParseError> {
     match bytes_of(alloc, text) {
         Ok(bytes) => parse(alloc, &bytes),
-        Err(_) => Err(ParseFault::NoMemory),
+        Err(_) => Err(ParseError::NoMemory),
     }
 }
 
@@ -21,7 +21,7 @@ pub fn print_parsed(rt: &impl Print, alloc: Global, text: &str) -> io::Result<()
             let count = conf.items.as_slice().len();
             println!(rt; "{count} items")
         }
-        Err(fault) => println!(rt; "{fault:?}"),
+        Err(error) => println!(rt; "{error:?}"),
     }
 }
 
@@ -35,7 +35,7 @@ fn print_canonical(rt: &impl Print, alloc: Global, conf: &Conf) -> io::Result<()
 pub fn print_printed(rt: &impl Print, alloc: Global, text: &str) -> io::Result<()> {
     match conf_of(alloc, text) {
         Ok(conf) => print_canonical(rt, alloc, &conf),
-        Err(fault) => println!(rt; "{fault:?}"),
+        Err(error) => println!(rt; "{error:?}"),
     }
 }
 

@@ -90,7 +90,7 @@ fn print_planned(
         asked.index,
     ) {
         Ok(plan) => print_parts(rt, &plan),
-        Err(fault) => println!(rt; "{fault:?}"),
+        Err(error) => println!(rt; "{error:?}"),
     }
 }
 
@@ -103,7 +103,7 @@ fn print_for(
 ) -> io::Result<()> {
     match checked(alloc, conf, shipped, asked.tree) {
         Ok(checked) => print_planned(rt, alloc, &checked, asked),
-        Err(fault) => println!(rt; "{fault:?}"),
+        Err(error) => println!(rt; "{error:?}"),
     }
 }
 
@@ -115,7 +115,7 @@ fn print_shipped(rt: &impl Print, alloc: Global, conf: &Conf, asked: &Asked<'_>)
 fn print_asked(rt: &impl Print, alloc: Global, asked: &Asked<'_>) -> io::Result<()> {
     match parse(alloc, b"include metrics;") {
         Ok(conf) => print_shipped(rt, alloc, &conf, asked),
-        Err(fault) => println!(rt; "{fault:?}"),
+        Err(error) => println!(rt; "{error:?}"),
     }
 }
 

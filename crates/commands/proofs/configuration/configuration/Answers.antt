@@ -1,6 +1,6 @@
 use Rattle.std.proofs.Common.{◌≡◌, Err, refl, sym, subst}
-use Rattle.mdl_parse.specs.Meaning.{Faults}
-use Rattle.mdl_parse.specs.declared.fault.ParseFault.{ParseFault}
+use Rattle.mdl_parse.specs.Meaning.{Faults, Refuses as ParseRefuses}
+use Rattle.mdl_parse.specs.declared.fault.ParseError.{ParseError}
 use Rattle.refusals.specs.Kinds.{fault_at, syntax_kind}
 use Rattle.refusals.specs.Refusals.{Refuses}
 use Rattle.refusals.specs.declared.configuration.ConfKind.{ConfKind}
@@ -13,14 +13,14 @@ use Rattle.commands.proofs.configuration.configuration.Goals as goal
 pub returns-in-Ok-clause-few : goal.returns-in-Ok-clause-few
 returns-in-Ok-clause-few c = few_items c.args.text.now c.in-Ok.conf c.in-Ok.ensures.conf c.requires
 
-pub returns-in-Err-At-clause-means : goal.returns-in-Err-At-clause-means
-returns-in-Err-At-clause-means c =
-    let line = c.in-Err-At.line in
-    let col = c.in-Err-At.col in
-    subst (λ (e : Refusal). Refuses e (λ fault. MeansConf c.args.text.now (Err fault))) (sym c.bad_configuration.ensures) (
-      line,
-      col,
-      c.in-Err-At.kind,
-      subst (λ (fault : ParseFault). Faults c.args.text.now fault) c.in-Err-At.field-0-is c.in-Err-At.ensures.fault,
-      subst (λ (kind : ConfKind). BadConf (fault_at line col kind) ≡ BadConf (fault_at line col (syntax_kind c.in-Err-At.kind))) (sym c.syntax_kind.ensures) refl,
+pub returns-in-Err-Fault-clause-means : goal.returns-in-Err-Fault-clause-means
+returns-in-Err-Fault-clause-means c =
+    let text = c.args.text.now in
+    let fault = c.in-Err-Fault.fault in
+    subst (λ (e : Refusal). Refuses e (λ fault. MeansConf text (Err fault))) (sym c.bad_configuration.ensures) (
+      fault.line,
+      fault.col,
+      fault.kind,
+      subst (λ (e : ParseError). ParseRefuses e (Faults text)) c.in-Err-Fault.field-0-is c.in-Err-Fault.ensures.fault,
+      subst (λ (kind : ConfKind). BadConf (fault_at fault.line fault.col kind) ≡ BadConf (fault_at fault.line fault.col (syntax_kind fault.kind))) (sym c.syntax_kind.ensures) refl,
     )

@@ -20,10 +20,10 @@ pub returns-in_err-found-clause-due : goal.returns-in_err-found-clause-due
 returns-in_err-found-clause-due g c =
     let r = asked_direct c.args.request.now in
     let sees : Sight = seen (g.F.Files.holds c.args.files.now) (g.F.Files.faults c.args.files.now) (g.F.Files.faults c.read_inputs.new.files) in
-    let next : Inputs → Step Texts = λ i. Then (IsFound i.image r.settings.harts i.conf) (λ found. IsDirection r sees i) in
+    let next : Inputs → Step Texts = λ i. Then (IsFound i.image r.session.settings.harts i.conf) (λ found. IsDirection r sees i) in
     let i = c.in_ok-inputs.inputs in
-    comes_then (AreInputs sees r.program r.conf) next i c.from_residual-in_err-found.result c.in_ok-inputs.ensures.inputs
-    (handed_on (IsFound i.image r.settings.harts i.conf) (λ found. IsDirection r sees i) c.in_err-found.field-0.0 c.from_residual-in_err-found.result c.from_residual-in_err-found.ensures c.in_err-found.ensures.found)
+    comes_then (AreInputs sees r.session.program r.session.conf) next i c.from_residual-in_err-found.result c.in_ok-inputs.ensures.inputs
+    (handed_on (IsFound i.image r.session.settings.harts i.conf) (λ found. IsDirection r sees i) c.in_err-found.field-0.0 c.from_residual-in_err-found.result c.from_residual-in_err-found.ensures c.in_err-found.ensures.found)
 
 pub follow_directions-requires-clause-accepted : goal.follow_directions-requires-clause-accepted
 unfolding IsAccepted
@@ -42,11 +42,11 @@ returns-clause-due g c =
     let sees : Sight = seen (holds old) (faults old) (faults new) in
     let later : Sight = seen (holds mid) (faults mid) (faults new) in
     let i = c.in_ok-inputs.inputs in
-    let next : Inputs → Step Texts = λ i. Then (IsFound i.image r.settings.harts i.conf) (λ found. IsDirection r sees i) in
-    let inputs = inputs_again (holds old) (faults old) (faults mid) (faults new) r.program r.conf i c.in_ok-inputs.ensures.inputs in
+    let next : Inputs → Step Texts = λ i. Then (IsFound i.image r.session.settings.harts i.conf) (λ found. IsDirection r sees i) in
+    let inputs = inputs_again (holds old) (faults old) (faults mid) (faults new) r.session.program r.session.conf i c.in_ok-inputs.ensures.inputs in
     let more : (x : Result (List ℕ) Fault) → later r.directives x → sees r.directives x = seen_from (holds old) (holds mid) (faults old) (faults mid) (faults new) r.directives (c.in_ok-inputs.ensures.looks.same r.directives) (c.in_ok-inputs.ensures.looks.counts r.directives) in
-    comes_then (AreInputs sees r.program r.conf) next i c.follow_directions.result inputs
-    (comes_then (IsFound i.image r.settings.harts i.conf) (λ found. IsDirection r sees i) c.in_ok-found.found c.follow_directions.result c.in_ok-found.ensures.found
+    comes_then (AreInputs sees r.session.program r.session.conf) next i c.follow_directions.result inputs
+    (comes_then (IsFound i.image r.session.settings.harts i.conf) (λ found. IsDirection r sees i) c.in_ok-found.found c.follow_directions.result c.in_ok-found.ensures.found
     (comes_as (IsDirection r later i) (IsDirection r sees i) (direction_from later sees r more i) c.follow_directions.result c.follow_directions.ensures.due))
 
 pub returns-clause-looks : goal.returns-clause-looks

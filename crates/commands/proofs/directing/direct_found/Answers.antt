@@ -1,13 +1,26 @@
-use Rattle.std.proofs.Common.{refl, subst, sym}
+use Rattle.std.proofs.Common.{◌∙◌, ap, refl, subst, sym}
+use Rattle.code_points.specs.Procedures.{skipped_of}
+use Rattle.refusals.specs.Refusals.{Comes}
 use Rattle.session.specs.Given.{AreGiven}
 use Rattle.session_spec.specs.Inputs.{Inputs}
+use Rattle.commands.specs.Runs.{IsInOrder, IsSession, report_alone}
 use Rattle.commands.proofs.directing.direct_found.Goals as goal
 
-pub session_inputs-requires-clause-procs : goal.session_inputs-requires-clause-procs
-session_inputs-requires-clause-procs c = (c.requires.runs c.args.request.now.settings c.requires.ranges.0 refl).procs
+pub prepare_found-requires-clause-procs : goal.prepare_found-requires-clause-procs
+prepare_found-requires-clause-procs c = (c.requires.runs c.args.request.now.session.settings c.requires.ranges.0 refl).procs
 
-pub session_inputs-requires-clause-points : goal.session_inputs-requires-clause-points
-session_inputs-requires-clause-points c = (c.requires.runs c.args.request.now.settings c.requires.ranges.0 refl).points
+pub prepare_found-requires-clause-points : goal.prepare_found-requires-clause-points
+prepare_found-requires-clause-points c = (c.requires.runs c.args.request.now.session.settings c.requires.ranges.0 refl).points
 
-pub direct_inputs-requires-clause-given : goal.direct_inputs-requires-clause-given
-direct_inputs-requires-clause-given c = subst (λ (i : Inputs). AreGiven i) (sym c.in_ok-inputs.ensures) (c.requires.runs c.args.request.now.settings c.requires.ranges.0 refl)
+pub direct_prepared-requires-clause-given : goal.direct_prepared-requires-clause-given
+direct_prepared-requires-clause-given c =
+    subst (λ (i : Inputs). AreGiven i) (sym c.in_ok-prepared.ensures.inputs) (c.requires.runs c.args.request.now.session.settings c.requires.ranges.0 refl)
+
+pub direct_prepared-requires-clause-skipped : goal.direct_prepared-requires-clause-skipped
+direct_prepared-requires-clause-skipped c =
+    c.in_ok-prepared.ensures.skipped ∙ c.requires.skipped ∙ ap (λ (i : Inputs). skipped_of i.image) (sym c.in_ok-prepared.ensures.inputs)
+
+pub returns : goal.returns
+returns c =
+    subst (λ (i : Inputs). Comes c.direct_prepared.result (IsSession (IsInOrder c.args.request.now.order) report_alone i)) c.in_ok-prepared.ensures.inputs
+    c.direct_prepared.ensures

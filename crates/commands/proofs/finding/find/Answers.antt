@@ -30,12 +30,13 @@ pub returns-clause-runs : goal.returns-clause-runs
 returns-clause-runs c =
     let image = c.args.image.now in
     let conf = c.args.conf.now in
-    let found : Found = record { procs = c.from_vec.result; points = c.from_vec-2.result; tree = c.in_ok-tree.tree; checked = c.in_ok-checked.checked } in
+    let found : Found = record { procs = c.from_vec.result; skipped = c.in_ok-procs.skipped; points = c.from_vec-2.result; tree = c.in_ok-tree.tree; checked = c.in_ok-checked.checked } in
     let procs : found.procs ≡ procedures_of image = c.from_vec.ensures ∙ c.in_ok-procs.ensures.procs in
     let points : found.points ≡ points_of image (procedures_of image) =
     c.from_vec-2.ensures ∙ c.in_ok-points.ensures.points ∙ ap (λ (ps : List Proc). points_of image ps) (c.deref.ensures.value ∙ c.in_ok-procs.ensures.procs) in
     let are : AreFound image c.args.harts conf found = record {
       procs = procs;
+      skipped = c.in_ok-procs.ensures.skipped;
       points = points;
       tree = c.in_ok-tree.ensures.tree;
       checked = subst (λ (t : Resources). IsCheck t conf (Ok c.in_ok-checked.checked)) c.in_ok-tree.ensures.tree c.in_ok-checked.ensures.checked;

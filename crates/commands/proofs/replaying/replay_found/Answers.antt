@@ -1,13 +1,25 @@
-use Rattle.std.proofs.Common.{refl, subst, sym}
+use Rattle.std.proofs.Common.{◌∙◌, ap, refl, subst, sym}
+use Rattle.code_points.specs.Procedures.{skipped_of}
+use Rattle.refusals.specs.Refusals.{Comes}
 use Rattle.session.specs.Given.{AreGiven}
 use Rattle.session_spec.specs.Inputs.{Inputs}
+use Rattle.commands.specs.Replays.{IsReplayWith}
 use Rattle.commands.proofs.replaying.replay_found.Goals as goal
 
-pub replay_inputs-requires-clause-given : goal.replay_inputs-requires-clause-given
-replay_inputs-requires-clause-given c = subst (λ (i : Inputs). AreGiven i) (sym c.in_ok-inputs.ensures) (c.requires.runs c.args.log.now.settings c.requires.spelled.settings refl)
+pub replay_prepared-requires-clause-given : goal.replay_prepared-requires-clause-given
+replay_prepared-requires-clause-given c =
+    subst (λ (i : Inputs). AreGiven i) (sym c.in_ok-prepared.ensures.inputs) (c.requires.runs c.args.log.now.settings c.requires.spelled.settings refl)
 
-pub session_inputs-requires-clause-procs : goal.session_inputs-requires-clause-procs
-session_inputs-requires-clause-procs c = (c.requires.runs c.args.log.now.settings c.requires.spelled.settings refl).procs
+pub replay_prepared-requires-clause-skipped : goal.replay_prepared-requires-clause-skipped
+replay_prepared-requires-clause-skipped c =
+    c.in_ok-prepared.ensures.skipped ∙ c.requires.skipped ∙ ap (λ (i : Inputs). skipped_of i.image) (sym c.in_ok-prepared.ensures.inputs)
 
-pub session_inputs-requires-clause-points : goal.session_inputs-requires-clause-points
-session_inputs-requires-clause-points c = (c.requires.runs c.args.log.now.settings c.requires.spelled.settings refl).points
+pub prepare_found-requires-clause-procs : goal.prepare_found-requires-clause-procs
+prepare_found-requires-clause-procs c = (c.requires.runs c.args.log.now.settings c.requires.spelled.settings refl).procs
+
+pub prepare_found-requires-clause-points : goal.prepare_found-requires-clause-points
+prepare_found-requires-clause-points c = (c.requires.runs c.args.log.now.settings c.requires.spelled.settings refl).points
+
+pub returns : goal.returns
+returns c =
+    subst (λ (i : Inputs). Comes c.replay_prepared.result (IsReplayWith c.args.log.now i)) c.in_ok-prepared.ensures.inputs c.replay_prepared.ensures

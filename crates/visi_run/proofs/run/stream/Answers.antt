@@ -12,16 +12,16 @@ use Rattle.visi_run.specs.Steps.{HasRun}
 use Rattle.visi_run.specs.Watching.{AreSeatsOf, seat_lines}
 use Rattle.visi_run.proofs.run.stream.Goals as goal
 
-pub join-ran-requires-after_bounds : goal.join-ran-requires-after_bounds
-join-ran-requires-after_bounds g c κs within =
+pub join-seats-requires-after_bounds : goal.join-seats-requires-after_bounds
+join-seats-requires-after_bounds g c κs within =
     let d = c.in_ok-gauge.ensures in
     let o = c.new-outlet.ensures in
     let cell = ap (λ (g : Dial). g.cell) c.in_ok-board.ensures.gauge in
-    ((c.in_ok-rounds.ensures.at, o.same.1 ∙ (d.writer.0 ∙ sym cell), o.told), (c.in_ok-seats.ensures.cell c.in_ok-board.board.gauge.cell (subst (λ (t : TableId). AreOf t c.in_ok-gauge.readers.items) (sym cell) d.fresh.0), (record { shared = c.type_bounds.sync-R.shared }, record { shared = c.type_bounds.sync-G.shared })))
+    ((c.in_ok-seats.ensures.cell c.in_ok-board.board.gauge.cell (subst (λ (t : TableId). AreOf t c.in_ok-gauge.readers.items) (sym cell) d.fresh.0), (record { shared = c.type_bounds.sync-R.shared }, record { shared = c.type_bounds.sync-G.shared })), (c.in_ok-rounds.ensures.at, o.same.1 ∙ (d.writer.0 ∙ sym cell), o.told))
 
 pub close-last-requires-clause-readers : goal.close-last-requires-clause-readers
 close-last-requires-clause-readers g c =
-    let second : (seat_lines c.in_ok-seats-2.field-0.items ≡ seat_lines c.in_ok-seats.seats.items) × AreSeatsOf c.in_ok-board.board.gauge.cell c.in_ok-seats-2.field-0.items = rw c.in_ok-seats-2.was at c.join-ran.ensures.second in
+    let second : (seat_lines c.in_ok-seats-2.field-0.items ≡ seat_lines c.in_ok-seats.seats.items) × AreSeatsOf c.in_ok-board.board.gauge.cell c.in_ok-seats-2.field-0.items = rw c.in_ok-seats-2.was at c.join-seats.ensures.first in
     let line = λ (s : Seat). s.view.line in
     let views = c.in_ok-publisher.views.items in (
       c.in_ok-views.ensures.count ∙ same_length line line _ _ second.0 ∙ same_length line (λ (w : Watch). w.line) _ _ c.in_ok-seats.ensures.lines
@@ -32,15 +32,15 @@ close-last-requires-clause-readers g c =
 
 pub returns-clause-seeded : goal.returns-clause-seeded
 returns-clause-seeded g c =
-    let first : HasRun c.args.session.inputs c.in_ok-rounds.rounds.seed c.in_ok-rounds.rounds.turns c.new-outlet.result c.in_ok-session.session c.in_ok-session.outlet = rw c.in_ok-session.was at c.join-ran.ensures.first in
+    let first : HasRun c.args.session.inputs c.in_ok-rounds.rounds.seed c.in_ok-rounds.rounds.turns c.new-outlet.result c.in_ok-session.session c.in_ok-session.outlet = rw c.in_ok-session.was at c.join-seats.ensures.second in
     seeded_by _ _ _ _ _ _ c.in_ok-session.session.quanta (λ k. c.args.session.inputs) c.in_ok-rounds.ensures.same.0 c.in_ok-rounds.ensures.same.1 first.seeded
 
 pub returns-clause-last : goal.returns-clause-last
 returns-clause-last g c =
-    let first : HasRun c.args.session.inputs c.in_ok-rounds.rounds.seed c.in_ok-rounds.rounds.turns c.new-outlet.result c.in_ok-session.session c.in_ok-session.outlet = rw c.in_ok-session.was at c.join-ran.ensures.first in
+    let first : HasRun c.args.session.inputs c.in_ok-rounds.rounds.seed c.in_ok-rounds.rounds.turns c.new-outlet.result c.in_ok-session.session c.in_ok-session.outlet = rw c.in_ok-session.was at c.join-seats.ensures.second in
     c.close-last.ensures.last ∙ first.last
 
 pub returns-clause-feed : goal.returns-clause-feed
 returns-clause-feed g c =
-    let first : HasRun c.args.session.inputs c.in_ok-rounds.rounds.seed c.in_ok-rounds.rounds.turns c.new-outlet.result c.in_ok-session.session c.in_ok-session.outlet = rw c.in_ok-session.was at c.join-ran.ensures.first in
+    let first : HasRun c.args.session.inputs c.in_ok-rounds.rounds.seed c.in_ok-rounds.rounds.turns c.new-outlet.result c.in_ok-session.session c.in_ok-session.outlet = rw c.in_ok-session.was at c.join-seats.ensures.second in
     subst (λ (l : List Latest). AllByRecursion (λ (xs : List Latest). xs ≡ l) (map (λ v. v.items) c.in_ok-lists.lists.items)) first.feed c.in_ok-lists.ensures.whole

@@ -5,8 +5,8 @@ use Rattle.std.specs.Prelude.{min, replicate}
 use Rattle.report.specs.declared.parts.ReportParts.{ReportParts}
 use Rattle.session_spec.specs.Inputs.{Inputs}
 use Rattle.session_spec.specs.Work.{closed, work}
-use Rattle.session_laws.specs.Bins.{AreRecorded}
-use Rattle.session_laws.specs.Feed.{IsFeed}
+use Rattle.session_spec.specs.Bins.{AreRecorded}
+use Rattle.session_spec.specs.Feed.{IsFeed}
 use Rattle.session.specs.Parts.{parts_of}
 use Rattle.session.specs.Sessions.{state_of}
 use Rattle.visi_run.specs.Feed.{feed_of}

@@ -9,7 +9,7 @@ use Rattle.w3_search.specs.Steps.{SearchData}
 use Rattle.session_spec.specs.Opening.{with_all}
 use Rattle.session_spec.specs.States.{Kept}
 use Rattle.session_spec.specs.Tests.{in_force, with_nodes, with_tests}
-use Rattle.session_laws.specs.Rosters.{AreBelow}
+use Rattle.session_spec.specs.Rosters.{AreBelow}
 use Rattle.session_kits.specs.declared.kit.Kit.{Kit}
 use Rattle.session_kits.proofs.Dropped.{shown_in}
 use Rattle.session.specs.Candidates.{AreOfWishes}

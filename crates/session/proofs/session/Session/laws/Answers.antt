@@ -5,12 +5,12 @@ use Rattle.session_spec.specs.Work.{AreAllowed}
 use Rattle.session_spec.specs.States.{Kept}
 use Rattle.session_spec.specs.Told.{AreEnded, AreJudged}
 use Rattle.session_spec.proofs.Runs.{is_run}
-use Rattle.session_laws.specs.Bins.{AreRecorded}
-use Rattle.session_laws.specs.Costs.{AreWithin, IsWithin}
-use Rattle.session_laws.specs.Feed.{IsFeed}
-use Rattle.session_laws.specs.Printed.{AreForOpening, AreWholeRuns}
-use Rattle.session_laws.specs.Readings.{AreReadNext}
-use Rattle.session_laws.specs.Told.{AreBarred}
+use Rattle.session_spec.specs.Bins.{AreRecorded}
+use Rattle.session_spec.specs.Costs.{AreWithin, IsWithin}
+use Rattle.session_spec.specs.Feed.{IsFeed}
+use Rattle.session_spec.specs.Printed.{AreForOpening, AreWholeRuns}
+use Rattle.session_spec.specs.LastReadings.{AreReadNext}
+use Rattle.session_spec.specs.Laws.{AreBarred}
 use Rattle.w3_search.specs.History.{IsHistory}
 use Rattle.session.specs.declared.session.Session.TheInside.{Inside}
 use Rattle.session.specs.Bins.{AreParts, AreWholeParts}

@@ -1,0 +1,8 @@
+use Rattle.commands.specs.Runs.{AreTexts, IsByWorkers, report_and_log}
+use Rattle.commands.proofs.Opened.{unopened_is}
+use Rattle.commands.proofs.sharing.share_prepared.Goals as goal
+
+pub returns-in-Err : goal.returns-in-Err
+returns-in-Err g c =
+    let i = c.args.prepared.inputs in
+    unopened_is i (AreTexts (IsByWorkers c.args.team.workers c.args.team.turns) report_and_log i) c.unopened.result (c.unopened.ensures i c.in-Err.ensures.refused)

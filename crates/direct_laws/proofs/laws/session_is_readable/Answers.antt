@@ -1,5 +1,0 @@
-use Rattle.direct_laws.proofs.Readable.{session_is_readable}
-use Rattle.direct_laws.proofs.laws.session_is_readable.Goals as goal
-
-pub returns : goal.returns
-returns c = session_is_readable c.verdicts_told.ensures

@@ -1,2 +1,0 @@
-pub mod Searched
-pub mod Readable

@@ -1,0 +1,144 @@
+-- What `paradyn` tells with status 0: for each command what its texts are to the files that it names.
+use Rattle.std.specs.Prelude.{◌≡◌, IfSome, ℕ, List, [], Option, None, Some, Ok, replicate, slice_get}
+use Rattle.advice.specs.Directives.{advice}
+use Rattle.advice.specs.Reading.{verdicts_of}
+use Rattle.advice.specs.declared.verdict.Verdict.{Verdict}
+use Rattle.asm_file.specs.Made.{IsMeantAgain, elf_of}
+use Rattle.code_points.specs.Points.{points_of}
+use Rattle.code_points.specs.Procedures.{procedures_of, skipped_of}
+use Rattle.command_words.specs.Requests.{Request, SessionRequest, run, live, replay, visi, direct, stress}
+use Rattle.command_words.specs.Requests.{blocks, points, plan, asm, relog, advise}
+use Rattle.commands.specs.Blocks.{AreCounted}
+use Rattle.commands.specs.Found.{AreFound}
+use Rattle.commands.specs.Given.{inputs_with}
+use Rattle.commands.specs.Output.{output}
+use Rattle.commands.specs.Plans.{IsPlan}
+use Rattle.commands.specs.Runnable.{IsConfOf, IsImageOf}
+use Rattle.commands.specs.Runs.{IsByWorkers, IsInOrder, Order, stress_order, stress_session, stress_sight}
+use Rattle.commands.specs.Sights.{Sight}
+use Rattle.commands.specs.declared.finding.Found.{Found}
+use Rattle.commands.specs.declared.texts.Texts.{Texts}
+use Rattle.directives.specs.Acts.{applied}
+use Rattle.directives.specs.Meaning.{IsDirectives}
+use Rattle.directives.specs.declared.directive.Directive.{Directive}
+use Rattle.mdl_ast.specs.declared.items.Conf.{Conf}
+use Rattle.mdl_shipped.specs.Shipped.{shipped_conf}
+use Rattle.pn_types.specs.declared.image.Image.{Image}
+use Rattle.pn_types.specs.declared.quantum.Quantum.{Quantum}
+use Rattle.pn_types.specs.declared.settings.Settings.{Settings}
+use Rattle.quanta_log.specs.Meaning.{meaning_of}
+use Rattle.report.specs.Text.{report_text}
+use Rattle.report.specs.Points.{points_text}
+use Rattle.report.specs.declared.parts.ReportParts.{ReportParts}
+use Rattle.report.specs.declared.parts.ShownPart.{ShownPart}
+use Rattle.session.specs.Bins.{IsPartOf}
+use Rattle.session_spec.specs.Feed.{told_at}
+use Rattle.session_spec.specs.Inputs.{Inputs}
+use Rattle.session_spec.specs.Work.{IsWhole}
+use Rattle.session_spec.specs.declared.data.Latest.{Latest}
+use Rattle.stress_run.specs.Summary.{summary_text}
+use Rattle.visi_run.specs.Texts.{visi_text}
+use Rattle.headline.specs.Followed.{AreFollowed}
+use Rattle.headline.specs.Honest.{IsHonest, end_of}
+
+-- ---- a run
+
+-- What a configuration spells, and what is made of it; what a session is given; its quanta; and what is printed of them.
+pub record Run : Type 0 where
+  pub spelled : Conf
+  pub made : Conf
+  pub inputs : Inputs
+  pub quanta : List Quantum
+  pub parts : ReportParts
+
+-- The image is what the bytes in the file of a name mean.
+abbrev pub IsProgramOf : Sight → List ℕ → Image → Type 0
+IsProgramOf sees name image = (bytes : List ℕ) × sees name (Ok bytes) × IsImageOf bytes image
+
+-- The text in the file of a name spells the configuration.
+abbrev pub IsConfigurationOf : Sight → List ℕ → Conf → Type 0
+IsConfigurationOf sees name conf = (text : List ℕ) × sees name (Ok text) × IsConfOf text conf
+
+-- The files of these names hold the program and the configuration; of that, or what is made of it, a check finds no fault. The quanta
+-- are a whole run: each could be taken when it came, and none can follow. What is printed of them is honest.
+pub record IsRunOf (sees : Sight) (program conf : List ℕ) (r : Run) : Type 0 where
+  pub holds_program : IsProgramOf sees program r.inputs.image
+  pub holds_conf : IsConfigurationOf sees conf r.spelled
+  pub found : Found
+  pub accepted : AreFound r.inputs.image r.inputs.settings.harts r.made found
+  pub given : r.inputs ≡ inputs_with r.inputs.image found r.inputs.settings
+  pub whole : IsWhole r.inputs r.quanta
+  pub honest : IsHonest r.inputs r.quanta r.parts
+
+-- It has the settings and the order that are asked for.
+abbrev pub IsAsked : Sight → SessionRequest → Order → Run → Type 0
+IsAsked sees s InOrder r = IsRunOf sees s.program s.conf r × (r.inputs.settings ≡ s.settings) × InOrder r.inputs r.quanta
+
+-- The configuration is taken as it is spelled.
+abbrev pub IsPlain : Run → Type 0
+IsPlain r = r.made ≡ r.spelled
+
+-- ---- its texts
+
+abbrev pub report_of : Run → List ℕ
+report_of r = report_text r.parts (skipped_of r.inputs.image)
+
+-- The bytes mean the settings and the quanta of the run, and nothing else.
+abbrev pub IsLogOf : List ℕ → Run → Type 0
+IsLogOf bytes r = meaning_of bytes ≡ Ok (r.inputs.settings, r.quanta)
+
+-- Each of so many views was given the same samples. Those of a pair are, in the place of its bins, what its plan measures.
+pub record AreViews (views : ℕ) (r : Run) (text : List ℕ) : Type 0 where
+  pub feed : List Latest
+  pub is : text ≡ visi_text r.parts.shown (replicate views feed)
+  pub samples : (n : ℕ) (part : ShownPart) → slice_get r.parts.shown n ≡ Some part →
+      IsPartOf r.inputs (end_of r.inputs r.quanta) (record part { bins = told_at n feed })
+
+-- The file of a name holds directives, and what is made of the configuration is what they make. What is printed follows them.
+pub record IsDirectedBy (sees : Sight) (name : List ℕ) (r : Run) : Type 0 where
+  pub text : List ℕ
+  pub told : sees name (Ok text)
+  pub directives : List Directive
+  pub spelled : IsDirectives text directives
+  pub made : applied shipped_conf.items r.spelled.items directives ≡ Ok r.made.items
+  pub followed : IfSome r.parts.search (AreFollowed r.spelled.items directives)
+
+-- ---- the commands
+
+abbrev pub Tells : Option Request → Sight → Texts → Type 0
+Tells None sees texts = ⊥
+Tells (Some (run q)) sees texts =
+    (r : Run) × IsAsked sees q.session (IsInOrder q.order) r × IsPlain r × (texts.out ≡ report_of r) × IsLogOf texts.log r
+Tells (Some (live q)) sees texts =
+    (r : Run) × IsAsked sees q.session (IsByWorkers q.workers q.quantum) r × IsPlain r × (texts.out ≡ report_of r) × IsLogOf texts.log r
+Tells (Some (replay q)) sees texts =
+    (r : Run) × IsRunOf sees q.program q.conf r × IsPlain r × ((log : List ℕ) × sees q.log (Ok log) × IsLogOf log r)
+    × (texts ≡ output (report_of r))
+Tells (Some (visi q)) sees texts =
+    (r : Run) × IsAsked sees q.session (IsInOrder q.order) r × IsPlain r × AreViews q.views r texts.out × (texts.log ≡ [])
+Tells (Some (direct q)) sees texts =
+    (r : Run) × IsAsked sees q.session (IsInOrder q.order) r × IsDirectedBy sees q.directives r × (texts ≡ output (report_of r))
+Tells (Some (stress q)) sees texts =
+    (r : Run) × IsAsked (stress_sight q) stress_session (IsInOrder (stress_order q)) r × IsPlain r
+    × (texts ≡ output (summary_text q.procs r.parts))
+-- the counts are those of positions of the program's own run
+Tells (Some (blocks q)) sees texts = (image : Image) × IsProgramOf sees q.program image × AreCounted q image (Ok texts)
+-- the procedures and points of the program
+Tells (Some (points name)) sees texts =
+    (image : Image) × IsProgramOf sees name image
+    × (texts ≡ output (points_text (procedures_of image) (points_of image (procedures_of image)) (skipped_of image)))
+-- the plan of the metric at the focus
+Tells (Some (plan q)) sees texts =
+    (image : Image) × IsProgramOf sees q.program image × (conf : Conf) × IsConfigurationOf sees q.conf conf
+    × (found : Found) × AreFound image q.harts conf found × IsPlan q found (Ok texts)
+-- an ELF file that means the program of the text
+Tells (Some (asm name)) sees texts =
+    (text : List ℕ) × sees name (Ok text) × (elf_of text ≡ Ok texts.out) × IsMeantAgain text texts.out × (texts.log ≡ [])
+-- a log that means what the file's does
+Tells (Some (relog name)) sees texts =
+    (log : List ℕ) × sees name (Ok log)
+    × (means : Settings × List Quantum) × (meaning_of log ≡ Ok means) × (meaning_of texts.out ≡ Ok means) × (texts.log ≡ [])
+-- what the verdicts of the report advise
+Tells (Some (advise name)) sees texts =
+    (report : List ℕ) × sees name (Ok report)
+    × (verdicts : List Verdict) × (verdicts_of report ≡ Ok verdicts) × (texts ≡ output (advice verdicts))

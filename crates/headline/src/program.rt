@@ -1,0 +1,60 @@
+ghost use Rattle.std.specs.Prelude.{◌≡◌, MatchOption, map, string_bytes};
+ghost use Rattle.std.specs.Process.{exit_status};
+ghost use Rattle.headline.specs.Program.{IsTold, words_read};
+
+use crate::laws::owed_is_honest;
+use crate::top::paradyn;
+use outside::{Files, Gate, Sink};
+use std::alloc::Global;
+use std::process::ExitCode;
+use std::sync::Wait;
+use std::thread::Threads;
+
+/// The words of the command line without the program's name, as far as they could be read.
+#[derive(Drop)]
+pub enum Words {
+    /// All of them.
+    Read(Vec<String>),
+    /// One isn't text, so they are no command.
+    NotText,
+    /// Memory for them was wanting.
+    NoMemory,
+}
+
+/// What `paradyn` does, and what its texts tell.
+fn tell<R: Threads + Wait + Sync, F: Files, K: Sink, L: Sink, G: Gate + Sync>(
+    rt: &R,
+    alloc: Global,
+    words: &[String],
+    files: &mut F,
+    out: &mut K,
+    log: &mut L,
+    gate: &G,
+) -> u8
+    ensures { IsTold F.holds F.faults files.old files.new (map string_bytes words.now) K.has K.faults out.old out.new L.has L.faults log.old log.new result }
+{
+    owed_is_honest::<F>();
+    paradyn(rt, alloc, words, files, out, log, gate)
+}
+
+/// Serves the words of a command line, and gives the status with which the program ends. With status 0 the texts that the sinks gained
+/// tell of the files that the words name what the headline says of the command.
+pub fn run_program<R: Threads + Wait + Sync, F: Files, K: Sink, L: Sink, G: Gate + Sync>(
+    rt: &R,
+    alloc: Global,
+    words: &Words,
+    files: &mut F,
+    out: &mut K,
+    log: &mut L,
+    gate: &G,
+) -> ExitCode
+    // Where the words could not be read for want of memory, nothing was read or written.
+    ensures { MatchOption (words_read words.now) ((exit_status result ≡ 8) × (out.new ≡ out.old) × (log.new ≡ log.old) × (files.new ≡ files.old))
+        (λ read. IsTold F.holds F.faults files.old files.new read K.has K.faults out.old out.new L.has L.faults log.old log.new (exit_status result)) }
+{
+    match words {
+        Words::Read(words) => ExitCode::from(tell(rt, alloc, words, files, out, log, gate)),
+        Words::NotText => ExitCode::from(tell(rt, alloc, &Vec::new(alloc), files, out, log, gate)),
+        Words::NoMemory => ExitCode::from(8),
+    }
+}

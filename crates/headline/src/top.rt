@@ -1,0 +1,127 @@
+ghost use Rattle.std.specs.Prelude.{◌≡◌, ◌≢◌, false, IfOk, Result, Err, Some, map, string_bytes};
+ghost use Rattle.command_words.specs.Requests.{begins_threaded};
+ghost use Rattle.headline.specs.Answers.{status_of, texts_of};
+ghost use Rattle.headline.specs.Serving.{IsReply, IsServed, AreGained, AreTorn, told_of};
+ghost use Rattle.commands.specs.declared.texts.Texts.{Texts as texts};
+ghost use Rattle.refusals.specs.declared.fault.Fault.{Fault as fault};
+
+use crate::answering::{answer, answer_threaded};
+use crate::delivery::deliver;
+use crate::laws::one_owed;
+use command_words::begin_threaded;
+use commands::Texts;
+use outside::{Files, Gate, Sink};
+use pn_types::NoMemory;
+use refusals::{Fault, Refusal, faults_text};
+use std::alloc::Global;
+use std::sync::Wait;
+use std::thread::Threads;
+
+/// A status with the bytes that go with it.
+#[derive(Drop)]
+pub struct Reply {
+    pub status: u8,
+    pub texts: Texts,
+}
+
+/// The reply of a fault.
+fn refuse(alloc: Global, fault: &Fault) -> Result<Reply, NoMemory>
+    ensures { IfOk result (IsReply (Err fault.now)) }
+{
+    Ok(Reply {
+        status: fault.status(),
+        texts: Texts::output(alloc, faults_text(alloc, fault)?),
+    })
+}
+
+/// The reply for an answer.
+fn reply_to(alloc: Global, answered: Result<Texts, Refusal>) -> Result<Reply, NoMemory>
+    ensures { IfOk result (λ reply. (answer : Result texts fault) × (told_of answered ≡ Some answer) × IsReply answer reply) }
+{
+    match answered {
+        Ok(texts) => Ok(Reply { status: 0, texts }),
+        Err(Refusal::Fault(fault)) => refuse(alloc, &fault),
+        Err(Refusal::NoMemory) => Err(NoMemory {}),
+    }
+}
+
+/// Gives an answer to the sinks, and tells the status.
+fn give<K: Sink, L: Sink>(
+    alloc: Global,
+    answered: Result<Texts, Refusal>,
+    out: &mut K,
+    log: &mut L,
+) -> u8
+    ensures answered { result ≢ 7 → result ≢ 8 → (answer : Result texts fault)
+        × (told_of answered ≡ Some answer)
+        × (result ≡ status_of answer)
+        × AreGained K.has K.faults out.old out.new L.has L.faults log.old log.new (texts_of answer) }
+    ensures torn { result ≡ 7 → (answer : Result texts fault)
+        × (told_of answered ≡ Some answer)
+        × AreTorn K.has K.faults out.old out.new L.has L.faults log.old log.new (texts_of answer) }
+    ensures memory { result ≡ 8 → (out.new ≡ out.old) × (log.new ≡ log.old) }
+{
+    match reply_to(alloc, answered) {
+        Err(_) => 8,
+        Ok(reply) => match deliver(&reply.texts, out, log) {
+            Ok(()) => reply.status,
+            Err(_) => 7,
+        },
+    }
+}
+
+/// What [`paradyn`] does, for words that begin with neither `live` nor `visi`. It waits for nothing.
+pub fn serve<F: Files, K: Sink, L: Sink>(
+    alloc: Global,
+    words: &[String],
+    files: &mut F,
+    out: &mut K,
+    log: &mut L,
+) -> u8
+    requires { begins_threaded (map string_bytes words.now) ≡ false }
+    ensures { IsServed F.holds F.faults files.old files.new (map string_bytes words.now) K.has K.faults out.old out.new L.has L.faults log.old log.new result }
+{
+    one_owed::<F>();
+    let answered = answer(alloc, words, files);
+    give(alloc, answered, out, log)
+}
+
+/// All that the program does: it takes the words of the command line without the program's name, reads the files that
+/// they name, and writes to the output and the log. It answers the program's status:
+///
+/// - 0: the output gained what was asked for: the report of the program's whole run in the order of a seed, of one that workers share
+///   or of one along the quanta of a log, the plan of a metric, the program's points, the ELF file of an assembly text, a log as it is
+///   written now, the line that sums up the run of a program that was made from a seed, how often each basic block of a program was
+///   executed, what each view of a run was given, the directives that a report advises, or the report of the run under directives.
+///   The log of a run gained its quanta where one was asked for.
+/// - 2: the words are no command, and the output gained the line of that fault.
+/// - 3: a file could not be read, and the output gained a line with its name.
+/// - 4: the program is faulty, and the output gained the line of that fault.
+/// - 5: the configuration is faulty, and the output gained the line of that fault.
+/// - 6: a metric can't be measured at a focus, the plan's or one of the configuration at tick 0, and the output gained the line of
+///   that fault.
+/// - 7: a sink failed; each sink has a prefix of what was due, and the log came first.
+/// - 8: memory was wanting; both sinks are as before.
+/// - 9: the log is faulty, or its quanta aren't those of a whole run, and the output gained the line of that fault.
+/// - 11: more basic blocks have a first word that can be moved than a hart has slots, and the output gained the line of that fault.
+/// - 12: the directives are faulty, and the output gained the line of that fault.
+/// - 13: the report is faulty, and the output gained the line of that fault.
+pub fn paradyn<R: Threads + Wait + Sync, F: Files, K: Sink, L: Sink, G: Gate + Sync>(
+    rt: &R,
+    alloc: Global,
+    words: &[String],
+    files: &mut F,
+    out: &mut K,
+    log: &mut L,
+    gate: &G,
+) -> u8
+    ensures { IsServed F.holds F.faults files.old files.new (map string_bytes words.now) K.has K.faults out.old out.new L.has L.faults log.old log.new result }
+{
+    one_owed::<F>();
+    if begin_threaded(words) {
+        let answered = answer_threaded(rt, alloc, words, files, gate);
+        give(alloc, answered, out, log)
+    } else {
+        serve(alloc, words, files, out, log)
+    }
+}

@@ -1,3 +1,0 @@
-mod OneOwed
-mod Served
-mod Complete

@@ -1,8 +1,0 @@
-use Rattle.std.specs.Prelude.{map, string_bytes}
-use Rattle.paradyn_top.proofs.Complete.{given}
-use Rattle.paradyn_top.proofs.top.serve.Goals as goal
-
-pub returns : goal.returns
-returns g c =
-    given g.F.Files.holds g.F.Files.faults c.args.files.now c.answer-answered.new.files (map string_bytes c.args.words.now) g.K.Sink.has g.K.Sink.faults c.args.out.now c.give.new.out g.L.Sink.has g.L.Sink.faults c.args.log.now c.give.new.log c.give.result
-    c.answer-answered.result c.one_owed.ensures c.answer-answered.ensures.due c.answer-answered.ensures.looks c.give.ensures.answered c.give.ensures.torn c.give.ensures.memory

@@ -1,0 +1,143 @@
+#!/usr/bin/env python3
+"""Lists what must be believed for what `paradyn` tells: from the headline on each definition that it names, in reading order.
+
+    tools/reading.py            writes docs/READING.md, and fails where more must be believed than before
+    tools/reading.py --more     writes it also then
+    tools/reading.py --check    writes nothing, and fails where docs/READING.md isn't what would be written
+
+It fails too where a definition that is reached is marked as for proofs alone, and where a file of specs/ is neither reached, nor from a
+file that docs/PROOF.md names, nor marked.
+"""
+import re
+import sys
+
+from antt_definitions import ALONE, TOP, Definition, Library
+
+PAGE = TOP / "docs" / "READING.md"
+PROOF = TOP / "docs" / "PROOF.md"
+HEADLINE = "headline.Headline"
+PROGRAM = "headline.Program"
+
+
+def reading_of(library, roots, read):
+    """The roots and all that they name and that wasn't read before: first what stands nearest."""
+    order, next_ones = [], list(roots)
+    while next_ones:
+        now, next_ones = next_ones, []
+        for definition in now:
+            if definition in read:
+                continue
+            read.append(definition)
+            order.append(definition)
+            next_ones += library.named_by(definition)
+    return order
+
+
+def clauses_of(definition):
+    """The clauses of a definition by cases of a request, by the command's word, and what stands before them."""
+    head, clauses, word = [], {}, None
+    for line in definition.lines:
+        found = re.match(rf"{definition.name} \((?:Some )?\(?(\w+) ", line)
+        if found:
+            word = found[1]
+        elif re.match(rf"{definition.name} ", line):
+            word = None
+        (clauses.setdefault(word, []) if word else head).append(line)
+    return head, clauses
+
+
+def sections_of(library):
+    """The parts of the page: a title, and the definitions that it adds."""
+    tells = library.modules[HEADLINE].definitions["Tells"]
+    call = library.modules[PROGRAM].definitions["IsTold"]
+    read, sections = [], []
+    head, clauses = clauses_of(tells)
+    for word, lines in clauses.items():
+        part = Definition(f"{tells.name} of `{word}`", tells.file, tells.line + tells.lines.index(lines[0]), lines)
+        part.named = library.named_by(tells, lines)
+        order = [part, *reading_of(library, part.named, read)]
+        sections.append((f"`{word}`", order))
+    read.append(tells)
+    rest = reading_of(library, [call, library.modules[PROGRAM].definitions["words_read"]], read)
+    sections.append(("The words, the sinks, and the refusals", rest))
+    return sections
+
+
+def claimed(library):
+    """The files that the table of claims names, each as a crate and then its files."""
+    text = PROOF.read_text(encoding="utf-8") if PROOF.is_file() else ""
+    found = []
+    for row in re.findall(r"^\|.*\|.*\|(.*)\|$", text, re.M):
+        for crate, names in re.findall(r"(\w+) ((?:`\w+`(?: \([^)]*\))?(?:, )?)+)", row):
+            keys = [f"{crate}.{name}" for name in re.findall(r"`(\w+)`", re.sub(r"\([^)]*\)", "", names))]
+            found += [library.modules[key] for key in keys if key in library.modules]
+    return found
+
+
+def page_of(sections):
+    total = sum(definition.count for _, order in sections for definition in order)
+    many = sum(len(order) for _, order in sections)
+    out = [
+        "# What must be believed",
+        "",
+        "The headline (crates/headline/specs/Headline.antt) says for each command what its texts are to the files that it names, and",
+        "`run_program`, which `main` calls, ensures it. The prover shows that it is so. What the sentence means is in the definitions that it",
+        "names, and in those that these name: they are listed here, for each command, first what stands nearest; what an earlier command had",
+        "isn't listed again. Words of the standard library's own specs are not in it. `tools/reading.py` makes this page.",
+        "",
+        f"**{total} lines** in {many} definitions. The number may fall; where it would rise, `tools/reading.py` fails.",
+        "",
+        "| | definitions | lines |",
+        "|---|---|---|",
+    ]
+    for title, order in sections:
+        out.append(f"| {title} | {len(order)} | {sum(d.count for d in order)} |")
+    for title, order in sections:
+        out += ["", f"## {title}", ""]
+        if not order:
+            out.append("Nothing more.")
+        for d in order:
+            out.append(f"- {d.name}: {d.file.relative_to(TOP).as_posix()}:{d.line}, {d.count}")
+    return "\n".join(out) + "\n", total
+
+
+def faults_of(library, sections):
+    reached = [d for _, order in sections for d in order]
+    files = {d.file for d in reached}
+    faults = []
+    for module in library.modules.values():
+        for d in module.definitions.values():
+            marked = module.alone or d.comment.lower().startswith(ALONE)
+            if marked and d in reached:
+                faults.append(f"{module.path.relative_to(TOP)}:{d.line}: {d.name} is reached, and marked as for proofs alone")
+    claims = claimed(library)
+    faults += [f"docs/PROOF.md names {module.key}, which is marked as for proofs alone" for module in claims if module.alone]
+    also = {d.file for d in reading_of(library, [d for module in claims for d in module.definitions.values()], [])}
+    for module in library.modules.values():
+        if module.path not in files and module.path not in also and not module.alone:
+            faults.append(f"{module.path.relative_to(TOP)}: neither reached nor marked as for proofs alone")
+    return faults
+
+
+def main(words):
+    library = Library()
+    sections = sections_of(library)
+    page, total = page_of(sections)
+    faults = faults_of(library, sections)
+    old = PAGE.read_text(encoding="utf-8") if PAGE.is_file() else ""
+    before = re.search(r"\*\*(\d+) lines\*\*", old)
+    if before and total > int(before[1]) and "--more" not in words:
+        faults.append(f"{total} lines must be believed, {before[1]} before")
+    if "--check" in words:
+        if page != old:
+            faults.append("docs/READING.md isn't what tools/reading.py writes")
+    elif not (before and total > int(before[1]) and "--more" not in words):
+        PAGE.write_text(page, encoding="utf-8")
+    for fault in faults:
+        print(fault, file=sys.stderr)
+    print(f"{total} lines must be believed")
+    return 1 if faults else 0
+
+
+if __name__ == "__main__":
+    sys.exit(main(sys.argv[1:]))
