@@ -1,6 +1,6 @@
 """The test programs with rows: what each of their lines prints."""
 from paradyn import commands
-from . import calls, language, machine, records
+from . import calls, language, machine, patched, records
 
 
 def text(lines):
@@ -29,7 +29,8 @@ def language_rows(folder):
 
 def machine_rows(folder):
     judge = machine.Judge()
-    tables = {"admissions": machine.admissions, "code": machine.code, "conformance": judge.answer}
+    tables = {"admissions": machine.admissions, "code": machine.code, "conformance": judge.answer,
+              "patched": patched.answer}
     for line, table, row in table_rows(folder):
         yield line, text(tables[table](row) if table in tables else ["no table"])
     yield "the counts at the end", text(judge.end())

@@ -2,7 +2,8 @@
 //!
 //! - `admissions`: plans that are admitted up to the first refusal ([`admissions`]);
 //! - `code`: calls on moved words, blocks and the store of code ([`code`]);
-//! - `conformance`: what words mean, compared with answers from outside ([`conformance`]).
+//! - `conformance`: what words mean, compared with answers from outside ([`conformance`]);
+//! - `patched`: what is done with a patched machine, in order ([`patched`]).
 //!
 //! A line that begins with `#` says nothing. At the end the rows of `conformance` are counted; the status is 0 exactly where each of
 //! them agrees.
@@ -11,6 +12,7 @@
 mod admissions;
 mod code;
 mod conformance;
+mod patched;
 
 use crate::conformance::Judge;
 use std::alloc::Global;
@@ -23,6 +25,7 @@ enum Table {
     Admissions,
     Code,
     Conformance,
+    Patched,
 }
 
 impl Table {
@@ -32,6 +35,7 @@ impl Table {
             "admissions" => Some(Table::Admissions),
             "code" => Some(Table::Code),
             "conformance" => Some(Table::Conformance),
+            "patched" => Some(Table::Patched),
             _ => None,
         }
     }
@@ -47,6 +51,7 @@ fn answer(rt: &impl Print, alloc: Global, judge: &mut Judge, line: &str) -> io::
         Some(Table::Admissions) => admissions::answer(rt, alloc, row),
         Some(Table::Code) => code::answer(rt, alloc, row),
         Some(Table::Conformance) => judge.answer(rt, alloc, row),
+        Some(Table::Patched) => patched::answer(rt, alloc, row),
         None => println!(rt; "no table"),
     }
 }

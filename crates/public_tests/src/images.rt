@@ -1,8 +1,7 @@
 //! Programs of a few words.
 
-ghost use Rattle.std.specs.Prelude.{◌≡◌, IfOk};
+ghost use Rattle.std.specs.Prelude.{IfOk};
 ghost use Rattle.pn_types.specs.Images.{IsImage};
-ghost use Rattle.machine_examples.specs.LoopCounted as example;
 
 use pn_types::{Image, NoMemory, Segment, Seq};
 use std::alloc::Global;
@@ -29,25 +28,6 @@ pub fn image(alloc: Global) -> Result<Image, NoMemory>
         segments: Seq::from_vec(segments),
         text_at: 0x10000,
         text_len: 12,
-        entry: 0x10000,
-        symbols: Seq::from_vec(Vec::new(alloc)),
-    })
-}
-
-/// A jump to itself.
-pub fn loop_image(alloc: Global) -> Result<Image, NoMemory>
-    ensures { IfOk result (λ image. image ≡ example.loop) }
-{
-    let mut segments = Vec::new(alloc);
-    segments.push(Segment {
-        at: 0x10000,
-        bytes: Seq::from_vec(vec![in alloc; 0x6f, 0, 0, 0]?),
-        size: 4,
-    })?;
-    Ok(Image {
-        segments: Seq::from_vec(segments),
-        text_at: 0x10000,
-        text_len: 4,
         entry: 0x10000,
         symbols: Seq::from_vec(Vec::new(alloc)),
     })

@@ -4,25 +4,17 @@
 #[cfg(test)]
 mod assembly;
 #[cfg(test)]
-mod blocks;
-#[cfg(test)]
 mod comparison;
 #[cfg(test)]
 mod elf_files;
-#[cfg(test)]
-mod events;
 #[cfg(test)]
 mod executions;
 #[cfg(test)]
 mod images;
 #[cfg(test)]
-mod machines;
-#[cfg(test)]
 mod memories;
 #[cfg(test)]
 mod outside_calls;
-#[cfg(test)]
-mod patching;
 #[cfg(test)]
 mod plan_texts;
 #[cfg(test)]
@@ -33,8 +25,6 @@ mod runs;
 mod search_texts;
 #[cfg(test)]
 mod streams;
-#[cfg(test)]
-mod unlinking;
 #[cfg(test)]
 mod walks;
 #[cfg(test)]

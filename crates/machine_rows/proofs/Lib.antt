@@ -1,0 +1,4 @@
+mod Turning
+mod Linked
+mod Unlinked
+mod OneHart

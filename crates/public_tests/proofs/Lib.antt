@@ -1,3 +1,0 @@
-mod Turning
-mod Linked
-mod Unlinked
