@@ -80,10 +80,9 @@ def page_of(sections):
     out = [
         "# What must be believed",
         "",
-        "The headline (crates/headline/specs/Headline.antt) says for each command what its texts are to the files that it names, and",
-        "`run_program`, which `main` calls, ensures it. The prover shows that it is so. What the sentence means is in the definitions that it",
-        "names, and in those that these name: they are listed here, for each command, first what stands nearest; what an earlier command had",
-        "isn't listed again. Words of the standard library's own specs are not in it. `tools/reading.py` makes this page.",
+        "For who reads the definitions. What the headline (PROOF.md) means is in the definitions that it names, and in those that these name:",
+        "they are listed here, for each command, first what stands nearest; what an earlier command had isn't listed again. Words of the",
+        "standard library's own specs are not in it. `tools/reading.py` makes this page.",
         "",
         f"**{total} lines** in {many} definitions. The number may fall; where it would rise, `tools/reading.py` fails.",
         "",

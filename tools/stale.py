@@ -20,8 +20,10 @@ ALLOWED = set("ci rattle perf tmp ffixed march rv64ima mabi lp64 medlow mno Ttex
 PROGRAMS = {"mandel_perf", "dijkstra_perf", "quicksort_O0"}
 WORD = re.compile(r"\w+")
 SNAKE = re.compile(r"[a-z]\w*_\w+")
-SPAN = re.compile(r"`([^`\n]+)`")
-LIST = r"`[^`\n]+`(?: \([^)]*\))?(?:(?:, (?:and )?| and )`[^`\n]+`(?: \([^)]*\))?)*"
+INNER = r"(?:[^`\n]|\n(?!\n))+"
+SPAN = re.compile(rf"`({INNER})`")
+NAMED = rf"`{INNER}`(?:\s\([^)]*\))?"
+LIST = rf"{NAMED}(?:(?:,\s(?:and\s)?|\sand\s){NAMED})*"
 
 
 def files_below(folder):
@@ -90,9 +92,9 @@ class Repository:
 def names_by_crate(text, crates):
     """The names of a text that are said to be of a crate, each with its crate and its place."""
     either = "|".join(sorted(crates, key=len, reverse=True))
-    for found in re.finditer(rf"(?<![`\w])({either}) ({LIST})", text):
+    for found in re.finditer(rf"(?<![`\w])({either})\s({LIST})", text):
         yield from ((found[1], name[1], found.start()) for name in SPAN.finditer(re.sub(r"\([^)]*\)", "", found[2])))
-    for found in re.finditer(rf"({LIST}) of ({either})\b", text):
+    for found in re.finditer(rf"({LIST})\sof\s({either})\b", text):
         yield from ((found[2], name[1], found.start()) for name in SPAN.finditer(found[1]))
     for found in re.finditer(rf"^\| ({either}) \|[^|\n]*\|([^|\n]*)\|", text, re.M):
         yield from ((found[1], name[1], found.start()) for name in SPAN.finditer(found[2]))
