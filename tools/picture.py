@@ -25,6 +25,8 @@ def layers_of(text):
         if line.startswith("# ---- "):
             layers.append((line.removeprefix("# ---- "), {}))
         elif line.strip() and not line.startswith("#"):
+            if not layers:
+                sys.exit("crates.txt begins with no heading")
             head, _, names = line.partition(":")
             layers[-1][1][head.split()[0]] = names.split()
     return layers

@@ -63,14 +63,13 @@ def sections_of(library):
     return sections
 
 
-def claimed(library):
-    """The files that the table of claims names, each as a crate and then its files."""
+def claimed():
+    """The files that the table of claims names, each by its crate and its own name."""
     text = PROOF.read_text(encoding="utf-8") if PROOF.is_file() else ""
     found = []
     for row in re.findall(r"^\|.*\|.*\|(.*)\|$", text, re.M):
         for crate, names in re.findall(r"(\w+) ((?:`\w+`(?: \([^)]*\))?(?:, )?)+)", row):
-            keys = [f"{crate}.{name}" for name in re.findall(r"`(\w+)`", re.sub(r"\([^)]*\)", "", names))]
-            found += [library.modules[key] for key in keys if key in library.modules]
+            found += [f"{crate}.{name}" for name in re.findall(r"`(\w+)`", re.sub(r"\([^)]*\)", "", names))]
     return found
 
 
@@ -109,7 +108,8 @@ def faults_of(library, sections):
             marked = module.alone or d.comment.lower().startswith(ALONE)
             if marked and d in reached:
                 faults.append(f"{module.path.relative_to(TOP)}:{d.line}: {d.name} is reached, and marked as for proofs alone")
-    claims = claimed(library)
+    faults += [f"docs/PROOF.md names {key}, and there is no such file" for key in claimed() if key not in library.modules]
+    claims = [library.modules[key] for key in claimed() if key in library.modules]
     faults += [f"docs/PROOF.md names {module.key}, which is marked as for proofs alone" for module in claims if module.alone]
     also = {d.file for d in reading_of(library, [d for module in claims for d in module.definitions.values()], [])}
     for module in library.modules.values():

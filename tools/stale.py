@@ -4,10 +4,10 @@
     tools/stale.py
 
 A name is a word between backquotes: a crate, a file, a function, a definition, an option, a word of a format. It has to stand in crates/,
-tools/, reference/ or examples/, or to be a file. One that a crate's name introduces (as in: machine `Cores`, `Events`), one that it follows
-(`Cores` of machine), and one that stands beside the crate in the table of crates, has to stand in that crate. The parts of `Type::name` have
-to stand in one crate. A word with `_` is looked up without backquotes too. Words in capitals stand for something else, and aren't looked up.
-Each crate has a row in each table of crates, and no other has.
+tools/, reference/ or examples/, or to be a file. One that a crate's name introduces (as in: machine `Cores`, `Events`), one that it
+follows (`Cores` of machine), and one that stands beside the crate in the table of crates, has to stand in that crate. The parts of
+`Type::name` have to stand in one crate. A word with `_` is looked up without backquotes too. Words in capitals stand for something else,
+and aren't looked up. Each crate has a row in each table of crates, and no other has.
 """
 import re
 import sys
@@ -16,7 +16,7 @@ from pathlib import Path
 TOP = Path(__file__).resolve().parent.parent
 PLACES = ("crates", "tools", "reference", "examples")
 # words of other tools, of the shell and of examples, and programs that stand elsewhere
-ALLOWED = set("ci rattle perf tmp ffixed march rv64ima mabi lp64 medlow mno Ttext fno mcmodel nostdlib hartN barrier_ WaitsForMutex".split())
+ALLOWED = set("ci rattle perf tmp Ttext hartN barrier_ WaitsForMutex".split())
 PROGRAMS = {"mandel_perf", "dijkstra_perf", "quicksort_O0"}
 WORD = re.compile(r"\w+")
 SNAKE = re.compile(r"[a-z]\w*_\w+")
@@ -104,12 +104,12 @@ def faults_of(repository, path):
     """What a document names and the repository hasn't, each with its line."""
     lines = path.read_text(encoding="utf-8").split("\n")
     text = "\n".join("" if line.startswith("    ") else line for line in lines)
-    found = [(span.start(), word, "nowhere") for span in SPAN.finditer(text) for word in repository.missing(span[1])]
+    found = [(span.start(), word, "stands nowhere") for span in SPAN.finditer(text) for word in repository.missing(span[1])]
     prose = SPAN.sub(lambda span: " " * len(span[0]), text)
-    found += [(name.start(), name[0], "nowhere") for name in SNAKE.finditer(prose) if name[0] not in repository.words | PROGRAMS]
+    found += [(name.start(), name[0], "stands nowhere") for name in SNAKE.finditer(prose) if name[0] not in repository.words | PROGRAMS]
     for crate, name, place in names_by_crate(text, repository.crates):
-        found += [(place, word, f"not in {crate}") for word in repository.missing_in(crate, name)]
-    return [f"{path.relative_to(TOP)}:{text.count(chr(10), 0, place) + 1}: {word} stands {where}" for place, word, where in sorted(found)]
+        found += [(place, word, f"isn't in {crate}") for word in repository.missing_in(crate, name)]
+    return [f"{path.relative_to(TOP)}:{text.count(chr(10), 0, place) + 1}: {word} {where}" for place, word, where in sorted(set(found))]
 
 
 def faults_of_tables(repository, path):
