@@ -15,7 +15,7 @@ from pathlib import Path
 TOP = Path(__file__).resolve().parent.parent
 PAGE = TOP / "docs" / "ARCHITECTURE.md"
 BEGIN, END = "<!-- tools/picture.py writes from here -->\n", "<!-- to here -->\n"
-WIDTH = 88
+WIDTH = 86
 
 
 def layers_of(text):

@@ -5,8 +5,8 @@
     tools/reading.py --more     writes it also then
     tools/reading.py --check    writes nothing, and fails where docs/READING.md isn't what would be written
 
-It fails too where a definition that is reached is marked as for proofs alone, and where a file of specs/ is neither reached, nor from a
-file that docs/PROOF.md names, nor marked.
+It fails too where a definition that is reached is marked as for proofs alone, where a file of specs/ is neither reached, nor from a file
+that docs/PROOF.md names, nor marked, and where docs/PROOF.md names a file that isn't there.
 """
 import re
 import sys
