@@ -15,7 +15,7 @@ for out in "$top"/crates/*/out; do
 done
 cat >>"$clone/crates.txt" <<'TEXT'
 turns: pn_types plain_run
-patched_turns: pn_types rv_word tramp_spec prim_code tramp_build frame_walk machine machine_examples
+patched_turns: pn_types rv_word tramp_spec prim_code tramp_build frame_walk machine test_examples
 logs: pn_types quanta_log
 TEXT
 for name in turns patched_turns logs; do

@@ -1,5 +1,5 @@
 #!/usr/bin/env python3
-"""Gives the rows of top_cases the files of examples/ anew, or compares them.
+"""Gives the rows of test_top the files of examples/ anew, or compares them.
 
     tools/example_files.py [--check]
 
@@ -18,7 +18,7 @@ sys.path.insert(0, str(TOP / "reference"))
 
 from rows import calls  # noqa: E402
 
-STDIN = TOP / "crates/top_cases/stdin"
+STDIN = TOP / "crates/test_top/stdin"
 FOLDERS = [TOP / "examples", TOP / "examples/words", TOP / "examples/recipes"]
 # The lines that give a file.
 FILE = re.compile(rb"^file (.*)\n(?:(?:\||hex |fill |cut |byte ).*\n)*", re.M)
@@ -70,7 +70,7 @@ def main():
         return 0
     found = others(stdin)
     for name in found:
-        print(f"{name}: a row of top_cases has other bytes")
+        print(f"{name}: a row of test_top has other bytes")
     return 1 if found else 0
 
 

@@ -8,11 +8,11 @@ ghost use Rattle.std.specs.List.{AllByRecursion};
 ghost use Rattle.frame_walk.specs.Rooms.{IsSmall};
 ghost use Rattle.machine.specs.Effects.{after};
 ghost use Rattle.machine.specs.Events.{Arm, May};
-ghost use Rattle.machine_examples.specs.LoopCounted as example;
-ghost use Rattle.machine_examples.specs.LoopCounted.{counting, linking, loop_core};
+ghost use Rattle.test_examples.specs.LoopCounted as example;
+ghost use Rattle.test_examples.specs.LoopCounted.{counting, linking, loop_core};
 ghost use Rattle.machine.specs.Replays.{Legal, replay};
 ghost use Rattle.machine.specs.States.{with_core};
-ghost use Rattle.machine_examples.specs.ThreeCounters.{counter_on, mini_on};
+ghost use Rattle.test_examples.specs.ThreeCounters.{counter_on, mini_on};
 ghost use Rattle.patched_turns.specs.Linkings.{linking_of};
 ghost use Rattle.pn_types.specs.Images.{IsImage};
 

@@ -1,5 +1,5 @@
 #!/usr/bin/env python3
-"""Prints what a row of top_cases says that the program prints for words, and ends with the row's status.
+"""Prints what a row of test_top says that the program prints for words, and ends with the row's status.
 
     tools/row.py WORD..
 
@@ -12,7 +12,7 @@ import re
 import sys
 
 TOP = pathlib.Path(__file__).resolve().parent.parent
-STDOUT = TOP / "crates/top_cases/stdout"
+STDOUT = TOP / "crates/test_top/stdout"
 ENDED = rb"\nExitCode\(unix_exit_status\((\d+)\)\)"
 
 

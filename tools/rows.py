@@ -3,12 +3,12 @@
 
     tools/rows.py [--check] [CRATE..]
 
-The crates are those that have rows: top_cases, language_rows, machine_rows and paradyn, all where none is named. Each
+The crates are those that have rows: test_top, test_language, test_machine and paradyn, all where none is named. Each
 `stdout` is written; with --check it is compared, the rows that differ are told, and the status is 1 where there are
 some. `reference/by_hand.txt` lists the rows whose expectation the reference doesn't make whole.
 
-With --check of top_cases the examples are held against its rows too: the rows have the files of examples/ (tools/example_files.py), and
-the commands of the documents and of examples/run.sh print what the rows with their words do. With --check of language_rows one of its
+With --check of test_top the examples are held against its rows too: the rows have the files of examples/ (tools/example_files.py), and
+the commands of the documents and of examples/run.sh print what the rows with their words do. With --check of test_language one of its
 rows has to say that the text in docs/METRICS.md means what is shipped."""
 
 import argparse
@@ -72,7 +72,7 @@ def check(crate, rows):
 
 
 def are_shown(_):
-    """Whether the examples are what the rows of top_cases say, which is told where they aren't."""
+    """Whether the examples are what the rows of test_top say, which is told where they aren't."""
     row = str(TOP / "tools/row.py")
     tools = [[TOP / "tools/example_files.py", "--check"], [TOP / "tools/shown.py", row], [TOP / "examples/run.sh"]]
     statuses = [subprocess.run(tool, env=dict(os.environ, PARADYN=row), check=False).returncode for tool in tools]
@@ -80,7 +80,7 @@ def are_shown(_):
 
 
 def is_shipped(rows):
-    """Whether a row of language_rows says that the text in METRICS.md means what is shipped, which is told where none does."""
+    """Whether a row of test_language says that the text in METRICS.md means what is shipped, which is told where none does."""
     document = (TOP / "docs/METRICS.md").read_text()
     blocks = re.findall(r"`include (?:metrics|hypotheses);` stands for.*\n\n((?:    .*\n)+)", document)
     blocks = [re.sub("^    ", "", block, flags=re.M) for block in blocks]
@@ -88,11 +88,11 @@ def is_shipped(rows):
     texts = [urllib.parse.unquote(row) for row, text in rows if text.endswith(b"\nsame true again true\n")]
     holds = kinds == [{"sync", "constraint", "metric"}, {"hypothesis"}] and "language ships " + "".join(blocks) in texts
     if not holds:
-        print("docs/METRICS.md: no row of language_rows says that its text means what is shipped")
+        print("docs/METRICS.md: no row of test_language says that its text means what is shipped")
     return holds
 
 
-HELD = {"top_cases": are_shown, "language_rows": is_shipped}
+HELD = {"test_top": are_shown, "test_language": is_shipped}
 
 
 def main():

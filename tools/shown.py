@@ -7,7 +7,7 @@ A command is an indented line of a document that begins with `$`, and goes on be
 lines below it, up to the next command. All of a document are run one after another in a copy of one folder of examples/, where
 `paradyn` is PARADYN, or crates/paradyn/out/paradyn where left out. Each that prints something else is told, and the status is 1 where
 there are some. With --make what they print is put into the documents instead. With tools/row.py as PARADYN they are held against the
-rows of top_cases. Where the compiler that made the ELF files in examples/words isn't installed, the commands that call it are left
+rows of test_top. Where the compiler that made the ELF files in examples/words isn't installed, the commands that call it are left
 out, and told."""
 
 import os

@@ -1,4 +1,4 @@
-"""The rows of `top_cases`: calls over files and sinks in memory."""
+"""The rows of `test_top`: calls over files and sinks in memory."""
 import binascii
 import functools
 

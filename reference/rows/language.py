@@ -1,4 +1,4 @@
-"""The rows of `language_rows` on numbers, tokens, configurations, foci, checks and plans."""
+"""The rows of `test_language` on numbers, tokens, configurations, foci, checks and plans."""
 import re
 
 from paradyn import assembly, checking, command_words, configuration, plans, resources, shipped, tokens

@@ -1,4 +1,4 @@
-"""The rows of `machine_rows`: moved words, blocks and the store of code, admissions, and what words mean."""
+"""The rows of `test_machine`: moved words, blocks and the store of code, admissions, and what words mean."""
 from paradyn import assembly, instruments, plans
 from paradyn.execution import code_of
 from paradyn.image import Image, Segment

@@ -1,4 +1,4 @@
-"""The rows of `machine_rows` on patched machines."""
+"""The rows of `test_machine` on patched machines."""
 from paradyn.patched_machine import Machine, Placed
 from paradyn.plans import Var
 from paradyn.relocation import move_word

@@ -1,4 +1,4 @@
-"""The rows of `language_rows` on words, logs, samples and searches."""
+"""The rows of `test_language` on words, logs, samples and searches."""
 import binascii
 import re
 

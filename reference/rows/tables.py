@@ -7,7 +7,7 @@ def text(lines):
     return "".join(line + "\n" for line in lines).encode()
 
 
-def top_cases(folder):
+def test_top(folder):
     """Pairs of a row and what it prints."""
     return calls.answers((folder / "stdin").read_bytes())
 
@@ -19,7 +19,7 @@ def table_rows(folder):
             yield line, *line.partition(" ")[::2]
 
 
-def language_rows(folder):
+def test_language(folder):
     source = (folder / "src/searches/rows.rt").read_text()
     tables = {"language": language.answer, "command": records.command, "record": records.record,
               "search": lambda row: records.search(row, source)}
@@ -27,7 +27,7 @@ def language_rows(folder):
         yield line, text(tables[table](row) if table in tables else ["no table"])
 
 
-def machine_rows(folder):
+def test_machine(folder):
     judge = machine.Judge()
     tables = {"admissions": machine.admissions, "code": machine.code, "conformance": judge.answer,
               "patched": patched.answer}
@@ -44,4 +44,4 @@ def paradyn(folder):
     yield " ".join(words), result.out
 
 
-CRATES = {"top_cases": top_cases, "language_rows": language_rows, "machine_rows": machine_rows, "paradyn": paradyn}
+CRATES = {"test_top": test_top, "test_language": test_language, "test_machine": test_machine, "paradyn": paradyn}

@@ -1,5 +1,0 @@
-use Rattle.machine_examples.proofs.FirstTurns as proof
-use Rattle.machine_examples.proofs.laws.first_turns.Goals as goal
-
-pub returns : goal.returns
-returns c = proof.first_turns

@@ -1,5 +1,0 @@
-use Rattle.machine_examples.proofs.HartInside as proof
-use Rattle.machine_examples.proofs.laws.hart_inside.Goals as goal
-
-pub returns : goal.returns
-returns c = proof.hart_inside

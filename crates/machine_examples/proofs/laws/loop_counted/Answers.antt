@@ -1,5 +1,0 @@
-use Rattle.machine_examples.proofs.LoopCounted as proof
-use Rattle.machine_examples.proofs.laws.loop_counted.Goals as goal
-
-pub returns : goal.returns
-returns c = proof.loop_counted

@@ -1,5 +1,0 @@
-use Rattle.machine_examples.proofs.ThreeCounters as proof
-use Rattle.machine_examples.proofs.laws.minis_unlinked.Goals as goal
-
-pub returns : goal.returns
-returns c = proof.minis_unlinked

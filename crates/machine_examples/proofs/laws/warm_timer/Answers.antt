@@ -1,5 +1,0 @@
-use Rattle.machine_examples.proofs.WarmTimer as proof
-use Rattle.machine_examples.proofs.laws.warm_timer.Goals as goal
-
-pub returns : goal.returns
-returns c = proof.warm_timer
