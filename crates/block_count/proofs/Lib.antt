@@ -1,16 +1,17 @@
+mod Pairs
 pub mod Agreeing
-pub mod Taken
-pub mod ReadyHarts
-pub mod Quanta
+pub mod Answered
 pub mod Bodies
-pub mod Placed
-pub mod Legal
-pub mod Going
 pub mod Chains
 pub mod Courses
 pub mod Ended
-pub mod Answered
-pub mod Measured
-pub mod Slots
 pub mod Forces
+pub mod Going
+pub mod Legal
+pub mod Measured
+pub mod Placed
+pub mod Quanta
+pub mod ReadyHarts
 pub mod Sampled
+pub mod Slots
+pub mod Taken

@@ -1,3 +1,5 @@
+pub mod Texts
+pub mod Texts
 pub mod Heads
 pub mod Counters
 pub mod CountedBlocks

@@ -1,4 +1,4 @@
-//! The basic blocks of a program, and how often a run executes each, which counters at their first words tell.
+//! The basic blocks of a program, how often a run executes each, which counters at their first words tell, and the text that says so.
 #![tactic(auto)]
 
 mod block_head;
@@ -7,6 +7,7 @@ mod counter;
 mod counting;
 mod counts;
 mod finding;
+mod lines;
 mod marking;
 mod placing;
 mod reading;
@@ -17,3 +18,4 @@ pub use block_head::BlockHead;
 pub use counting::count;
 pub use counts::{CountFault, Counts, HartStop};
 pub use finding::heads;
+pub use lines::blocks_text;

@@ -7,7 +7,7 @@ use Rattle.block_count.specs.Heads.{heads_of}
 use Rattle.block_count.specs.CountedBlocks.{counted_blocks_of}
 use Rattle.block_count.specs.declared.counts.Counts.{Counts}
 use Rattle.block_count.specs.declared.counts.HartStop.{HartStop}
-use Rattle.block_report.specs.Texts.{blocks_text}
+use Rattle.block_count.specs.Texts.{blocks_text}
 use Rattle.code_points.specs.Procedures.{procedures_of}
 use Rattle.command_words.specs.Requests.{BlocksRequest}
 use Rattle.pn_types.specs.declared.code.Proc.{Proc}

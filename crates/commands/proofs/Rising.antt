@@ -1,7 +1,7 @@
 -- The count of faults of a file that the answer names as unread has risen.
 use Rattle.std.proofs.Common.{◌≡◌, ℕ, List, length, Option, Some, None, Bool, true, false, cond, Result, Ok, Err, sym, subst}
 use Rattle.std.specs.Prelude.{⊤, nat_lt}
-use Rattle.asm_file.specs.Made.{elf_of}
+use Rattle.elf_write.specs.Made.{elf_of}
 use Rattle.advice.specs.Reading.{verdicts_of}
 use Rattle.advice.specs.declared.fault.ReportFault.{ReportFault}
 use Rattle.advice.specs.declared.fault.ReportFault.TheVariants as report_fault

@@ -5,7 +5,7 @@ use Rattle.block_count.specs.Course.{Pace}
 use Rattle.block_count.specs.Heads.{heads_of}
 use Rattle.block_count.specs.declared.counts.CountFault.TheVariants as fault
 use Rattle.block_count.specs.declared.counts.Counts.{Counts}
-use Rattle.block_report.specs.Texts.{blocks_text}
+use Rattle.block_count.specs.Texts.{blocks_text}
 use Rattle.code_points.specs.Procedures.{procedures_of}
 use Rattle.command_words.specs.Requests.{BlocksRequest}
 use Rattle.pn_types.specs.declared.image.Image.{Image}

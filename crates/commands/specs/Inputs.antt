@@ -1,7 +1,7 @@
 -- What the bytes of files stand for, and what commands read.
 use Rattle.std.specs.Prelude.{◌≡◌, ℕ, ◌&&◌, nat_le, if◌then◌else◌, Bool, List, [], ◌∷◌, length, take, Result, Ok, Err}
 use Rattle.std.specs.Str.{bytes_eq}
-use Rattle.asm_file.specs.Made.{elf_of}
+use Rattle.elf_write.specs.Made.{elf_of}
 use Rattle.elf_form.specs.Meaning.{meaning_of}
 use Rattle.elf_form.specs.declared.fault.ElfFault.{ElfFault}
 use Rattle.mdl_ast.specs.declared.items.Conf.{Conf}

@@ -10,8 +10,7 @@ ghost use Rattle.refusals.specs.Refusals.{Comes};
 
 use crate::inputs::read_program;
 use crate::texts::Texts;
-use block_count::{CountFault, count, heads};
-use block_report::blocks_text;
+use block_count::{CountFault, blocks_text, count, heads};
 use code_points::procedures;
 use command_words::BlocksRequest;
 use outside::Files;

@@ -1,7 +1,7 @@
 //! Programs from bytes.
 
 ghost use Rattle.std.specs.Prelude.{◌≡◌, ◌≤◌, IfOk, length};
-ghost use Rattle.asm_file.specs.Made.{elf_of};
+ghost use Rattle.elf_write.specs.Made.{elf_of};
 ghost use Rattle.code_points.specs.Procedures.{AreModulesGood};
 ghost use Rattle.elf_form.specs.Meaning.{meaning_of};
 ghost use Rattle.commands.specs.Given.{IsUnscratched};
@@ -10,8 +10,8 @@ ghost use Rattle.pn_types.specs.Images.{IsImage};
 ghost use Rattle.refusals.specs.Refusals.{Comes};
 ghost use Rattle.rv_asm.specs.Assembly.{assembled};
 
-use asm_file::elf_of_text;
 use elf_form::{ElfError, MAX_PROGRAM_LEN};
+use elf_write::elf_of_text;
 use pn_types::{Image, Seq};
 use refusals::{Fault, ProgramFault, Refusal};
 use rv_asm::{AsmError, assemble};

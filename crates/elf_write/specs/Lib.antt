@@ -1,3 +1,4 @@
+pub mod Made
 pub mod Fields
 pub mod Symbols
 pub mod Layout

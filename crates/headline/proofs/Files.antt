@@ -1,8 +1,8 @@
 -- What the files that were read hold.
 use Rattle.std.proofs.Common.{◌≡◌, ℕ, ◌≤◌, Option, Some, None, Result, Ok, Err, List, length, refl, sym, ap, ◌∙◌, subst, arith}
-use Rattle.asm_file.proofs.MeantAgain.{assembled_accepted}
-use Rattle.asm_file.proofs.Writable.{can_write}
-use Rattle.asm_file.specs.Made.{IsMeantAgain, elf_of, written}
+use Rattle.elf_write.proofs.MeantAgain.{assembled_accepted}
+use Rattle.elf_write.proofs.Writable.{can_write}
+use Rattle.elf_write.specs.Made.{IsMeantAgain, elf_of, written}
 use Rattle.elf_form.specs.Meaning.{meaning_of as elf_meaning}
 use Rattle.elf_write.proofs.ReadAgain.{read_again}
 use Rattle.elf_write.specs.Layout.{elf_bytes}

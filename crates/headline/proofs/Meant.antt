@@ -6,7 +6,7 @@ use Rattle.advice.specs.Reading.{verdicts_of}
 use Rattle.advice.specs.declared.fault.ReportFault.{ReportFault}
 use Rattle.advice.specs.declared.fault.ReportFault.TheVariants as fault
 use Rattle.advice.specs.declared.verdict.Verdict.{Verdict}
-use Rattle.asm_file.specs.Made.{elf_of}
+use Rattle.elf_write.specs.Made.{elf_of}
 use Rattle.code_points.specs.Points.{points_of}
 use Rattle.code_points.specs.Procedures.{procedures_of, skipped_of}
 use Rattle.command_words.specs.Requests.{Request, SessionRequest, RunRequest, LiveRequest, ReplayRequest, PlanRequest, StressRequest, BlocksRequest, VisiRequest, DirectRequest, run, live, replay, plan, asm, points, relog, stress, blocks, visi, advise, direct}

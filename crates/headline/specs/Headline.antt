@@ -3,7 +3,7 @@ use Rattle.std.specs.Prelude.{◌≡◌, IfSome, ℕ, List, [], Option, None, So
 use Rattle.advice.specs.Directives.{advice}
 use Rattle.advice.specs.Reading.{verdicts_of}
 use Rattle.advice.specs.declared.verdict.Verdict.{Verdict}
-use Rattle.asm_file.specs.Made.{IsMeantAgain, elf_of}
+use Rattle.elf_write.specs.Made.{IsMeantAgain, elf_of}
 use Rattle.code_points.specs.Points.{points_of}
 use Rattle.code_points.specs.Procedures.{procedures_of, skipped_of}
 use Rattle.command_words.specs.Requests.{Request, SessionRequest, run, live, replay, visi, direct, stress}

@@ -6,7 +6,7 @@ use Rattle.live_run.specs.ByWorkers.{one_if}
 use Rattle.live_run.specs.Serving.{AreApart, AreTakingTurns, count}
 use Rattle.machine.specs.Cores.{In}
 use Rattle.std.specs.List.{AllByRecursion}
-use Rattle.shared_run.proofs.Entries.{each_append}
+use Rattle.live_run.proofs.Entries.{each_append}
 
 -- where the last of a longer list falls in a split
 pub last_in : (p : List ℕ) (e : ℕ) (s : List ℕ) (x : ℕ) (c : List ℕ) → p ++ e ∷ [] ≡ s ++ x ∷ c

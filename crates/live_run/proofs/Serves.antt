@@ -3,11 +3,11 @@ use Rattle.std.proofs.Common.{◌≡◌, ◌≢◌, inl, inr, ⊎_elim, ℕ, ◌
 use native.Mathlib.Decide.{ℕ_discrete}
 use mathlib.Core.Logic.{dite}
 use Rattle.std.proofs.lemmas.List.{map-append}
-use Rattle.shared_run.specs.declared.view.Receipt.{Receipt}
+use Rattle.live_run.specs.declared.view.Receipt.{Receipt}
 use Rattle.live_run.specs.Serving.{AreHartsBelow, AreTakingTurns, IsFor, IsServed, IsServing, harts_in}
 use Rattle.machine.specs.Cores.{In}
-use Rattle.shared_run.specs.Seats.{SeatData, fresh_seat}
-use Rattle.shared_run.proofs.Entries.{each_map, each_append}
+use Rattle.live_run.specs.Seats.{SeatData, fresh_seat}
+use Rattle.live_run.proofs.Entries.{each_map, each_append}
 use Rattle.live_run.proofs.Rounds.{apart_last, in_front, in_back, begins, leaves, served}
 
 pub own_none : (workers worker : ℕ) → AreHartsBelow 0 workers worker []

@@ -7,8 +7,8 @@ use Rattle.pn_types.specs.declared.limits.TheConstants.{MAX_QUANTA, MAX_QUANTUM,
 use Rattle.pn_types.specs.declared.quantum.Quantum.{Quantum}
 use Rattle.session_spec.specs.Inputs.{Inputs}
 use Rattle.session_spec.specs.Work.{AreAllowed, Halted, IsAllowed, quantum_of, work}
-use Rattle.shared_run.proofs.Entries.{each_append}
-use Rattle.shared_run.proofs.Stays.{stays}
+use Rattle.live_run.proofs.Entries.{each_append}
+use Rattle.live_run.proofs.Stays.{stays}
 use Rattle.whole_run.proofs.Ordered.{full, halted}
 use Rattle.whole_run.proofs.SomeSeeded.{allowed_more}
 use Rattle.live_run.specs.ByWorkers.{IsByWorkers, IsShared, SomeShared, one_if, times}

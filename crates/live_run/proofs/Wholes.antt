@@ -5,13 +5,13 @@ use native.Mathlib.Decide.{ℕ_discrete}
 use mathlib.Core.Logic.{dite}
 use Rattle.session_spec.specs.Inputs.{Inputs}
 use Rattle.pn_types.specs.declared.quantum.Quantum.{Quantum}
-use Rattle.shared_run.specs.declared.view.Receipt.{Receipt}
+use Rattle.live_run.specs.declared.view.Receipt.{Receipt}
 use Rattle.live_run.specs.ByWorkers.{IsByWorkers, one_if, times}
 use Rattle.live_run.specs.Serving.{AreServed, IsFor, IsServed, count, harts_in}
 use Rattle.machine.specs.Cores.{In}
 use Rattle.session_spec.specs.Work.{AreAllowed, Halted, IsWhole}
-use Rattle.shared_run.specs.Receipts.{receipt, receipts_of, with_if}
-use Rattle.shared_run.specs.Seats.{AreDealt, AreHalted, AreInOrder, SeatData, fresh_seat, fresh_seats}
+use Rattle.live_run.specs.Receipts.{receipt, receipts_of, with_if}
+use Rattle.live_run.specs.Seats.{AreDealt, AreHalted, AreInOrder, SeatData, fresh_seat, fresh_seats}
 use Rattle.std.specs.List.{AllByRecursion}
 
 pub in_order : (harts workers turns k : ℕ) (cs : List SeatData) → AreServed harts workers turns k cs → AreInOrder k cs

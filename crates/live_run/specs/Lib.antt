@@ -1,3 +1,10 @@
+pub mod Receipts
+pub mod Seats
+pub mod Unnamed
+pub mod Views
+pub mod Said
+pub mod Rule
+pub mod Locked
 pub mod ByWorkers
 pub mod Recorded
 pub mod Serving

@@ -2,8 +2,8 @@
 use Rattle.std.specs.Prelude.{◌≡◌, ◌≢◌, ◌⊎◌, ℕ, suc, ◌+◌, ◌%◌, ◌<◌, ◌==◌, List, [], ◌∷◌, ◌++◌, map}
 use Rattle.std.specs.List.{AllByRecursion}
 use Rattle.machine.specs.Cores.{In}
-use Rattle.shared_run.specs.declared.view.Receipt.{Receipt}
-use Rattle.shared_run.specs.Seats.{SeatData}
+use Rattle.live_run.specs.declared.view.Receipt.{Receipt}
+use Rattle.live_run.specs.Seats.{SeatData}
 use Rattle.live_run.specs.ByWorkers.{one_if}
 
 -- no number stands twice

@@ -1,17 +1,20 @@
 ghost use Rattle.std.specs.Prelude.{false, ◌≡◌, ◌<◌, ◌≤◌, ◌++◌, length, map, IfOk};
 ghost use Rattle.session_spec.specs.Work.{IsWhole};
 ghost use Rattle.session.specs.Sessions.{begun};
-ghost use Rattle.shared_run.specs.Receipts.{entries_past};
-ghost use Rattle.shared_run.specs.Seats.{fresh_seat, fresh_seats};
+ghost use Rattle.live_run.specs.Receipts.{entries_past};
+ghost use Rattle.live_run.specs.Seats.{fresh_seat, fresh_seats};
 ghost use Rattle.live_run.specs.ByWorkers.{IsByWorkers};
 ghost use Rattle.live_run.specs.Serving.{AreServed, IsServed};
 
+use crate::name::RunName;
+use crate::seat::Seat;
+use crate::shared::Shared;
 use crate::team::Team;
+use crate::word::Word;
 use crate::worker::serve;
 use outside::Gate;
 use pn_types::{MAX_QUANTUM, MAX_WORKERS, NoMemory};
 use session::Session;
-use shared_run::{RunName, Seat, Shared, Word};
 use std::alloc::Global;
 use std::marker::Brand;
 use std::sync::Wait;

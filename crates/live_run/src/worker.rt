@@ -1,11 +1,13 @@
 ghost use Rattle.std.specs.Prelude.{◌≡◌, ◌<◌, ◌≤◌, IfOk};
-ghost use Rattle.shared_run.specs.Seats.{fresh_seat};
+ghost use Rattle.live_run.specs.Seats.{fresh_seat};
 ghost use Rattle.live_run.specs.Serving.{AreHartsBelow, IsServed};
 
+use crate::name::RunName;
+use crate::seat::Seat;
+use crate::shared::Shared;
 use crate::team::Team;
 use outside::Gate;
 use pn_types::{MAX_QUANTUM, NoMemory};
-use shared_run::{RunName, Seat, Shared};
 use std::alloc::Global;
 use std::collections::VecDeque;
 use std::sync::Wait;

@@ -10,7 +10,7 @@ use std::sync::Wait;
 use std::sync::atomic::{AtomicU64, Ordering};
 use std::thread;
 use std::thread::Threads;
-use visi_stream::{Publisher, Reading, View, gather, gauge, streams};
+use visi_run::{Publisher, Reading, View, gather, gauge, streams};
 
 fn item(n: u64) -> Latest {
     Latest {

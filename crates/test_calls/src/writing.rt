@@ -3,9 +3,8 @@
 ghost use Rattle.std.specs.Prelude.{◌≤◌, length};
 
 use crate::comparison::compare;
-use asm_file::elf_of_text;
 use elf_load::load;
-use elf_write::{loaded_can_be_written, write, written_is_read_again};
+use elf_write::{elf_of_text, loaded_can_be_written, write, written_is_read_again};
 use rv_asm::{AsmError, assemble};
 use std::alloc::Global;
 

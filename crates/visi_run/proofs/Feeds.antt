@@ -12,7 +12,7 @@ use Rattle.session_spec.specs.Work.{closed, is_due, state_admitted, state_armed,
 use Rattle.session.specs.Sessions.{SessionData, begun, session_at, state_of}
 use Rattle.whole_run.proofs.Ordered.{work_push}
 use Rattle.session_spec.specs.declared.data.Latest.{Latest}
-use Rattle.visi_stream.specs.Readings.{MayFollow}
+use Rattle.visi_run.specs.Readings.{MayFollow}
 use Rattle.visi_run.specs.Feed.{feed_of, last_reading, reading_of}
 use Rattle.visi_run.specs.Steps.{IsStep}
 use Rattle.visi_run.proofs.Sampling.{Same, admission_same, opened_early, verdicts_same}

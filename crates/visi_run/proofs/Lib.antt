@@ -1,4 +1,7 @@
-pub mod Sampling
+pub mod Desks
 pub mod Feeds
-pub mod SeatLists
+pub mod Glances
 pub mod Lines
+pub mod Relays
+pub mod Sampling
+pub mod SeatLists

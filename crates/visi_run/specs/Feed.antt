@@ -5,7 +5,7 @@ use Rattle.session_spec.specs.declared.data.Latest.{Latest}
 use Rattle.session_spec.specs.Inputs.{Inputs}
 use Rattle.session_spec.specs.States.{State}
 use Rattle.session_spec.specs.Work.{closed, work}
-use Rattle.visi_stream.specs.declared.dial.Reading.{Reading}
+use Rattle.visi_run.specs.declared.dial.Reading.{Reading}
 
 -- The samples of what was wished that a session took behind these quanta and at its end, in the order in which they were taken, and of
 -- those that were taken together in the order of a report.

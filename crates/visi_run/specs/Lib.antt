@@ -1,3 +1,10 @@
+pub mod Streams
+pub mod Lines
+pub mod Lanes
+pub mod Readings
+pub mod Sights
+pub mod Gauges
+pub mod Measures
 pub mod Feed
 pub mod Texts
 pub mod Viewed

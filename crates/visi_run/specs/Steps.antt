@@ -3,7 +3,7 @@ use Rattle.std.specs.Prelude.{◌≡◌, ◌≢◌, ℕ, ◌≤◌, ◌++◌, Bo
 use Rattle.session_spec.specs.Inputs.{Inputs}
 use Rattle.session_spec.specs.States.{State}
 use Rattle.session.specs.Sessions.{SessionData}
-use Rattle.visi_stream.specs.Readings.{last_of}
+use Rattle.visi_run.specs.Readings.{last_of}
 use Rattle.whole_run.specs.Seeded.{IsSeeded}
 use Rattle.visi_run.specs.Feed.{feed_of, last_reading, reading_of}
 use Rattle.visi_run.specs.declared.outlet.Outlet.{Outlet}

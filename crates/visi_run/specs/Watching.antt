@@ -2,7 +2,7 @@
 use Rattle.std.specs.Prelude.{◌≡◌, List, map}
 use Rattle.std.specs.List.{AllByRecursion}
 use Rattle.atomic_table.specs.Seated.{TableId}
-use Rattle.visi_stream.specs.Streams.{Line}
+use Rattle.visi_run.specs.Streams.{Line}
 use Rattle.visi_run.specs.declared.view.Seat.{Seat}
 
 -- the same channel and the same gauge

@@ -2,11 +2,11 @@
 
 ghost use Rattle.std.specs.Prelude.{◌≡◌, length, IfOk};
 
+use crate::dial::Gauge;
 use crossbeam_utils::sync::{Parker, Unparker};
 use pn_types::NoMemory;
 use std::alloc::Global;
 use std::sync::atomic::{AtomicBool, Ordering};
-use visi_stream::Gauge;
 
 /// What a run shows its views: how far it is, and that there may be something new to take.
 #[derive(Drop)]

@@ -2,15 +2,16 @@
 
 ghost use Rattle.std.specs.Prelude.{◌≡◌, [], ◌∷◌, false, OnOk};
 ghost use Rattle.session.specs.Sessions.{begun, state_of};
-ghost use Rattle.visi_stream.specs.Readings.{first_reading};
+ghost use Rattle.visi_run.specs.Readings.{first_reading};
 ghost use Rattle.visi_run.specs.Feed.{reading_of};
 ghost use Rattle.visi_run.specs.Steps.{IsBehind, IsTold};
 
 use crate::board::Board;
+use crate::dial::{GaugeWriter, Reading};
+use crate::publisher::Publisher;
 use pn_types::NoMemory;
 use session::Session;
 use std::sync::Wait;
-use visi_stream::{GaugeWriter, Publisher, Reading};
 
 /// Tells the views of a run: its samples by the publisher, and how far it is by the gauge.
 #[derive(Drop)]

@@ -13,7 +13,10 @@ ghost use Rattle.visi_run.specs.Viewed.{IsViewed};
 ghost use Rattle.visi_run.specs.Watching.{seat_lines, AreSeatsOf};
 
 use crate::board::Board;
+use crate::dial::Reading;
+use crate::making::gauge;
 use crate::outlet::Outlet;
+use crate::publisher::{gather, streams};
 use crate::seats::{follow_all, pair, part};
 use crate::text::{count_first, visi_text};
 use crate::view::Seat;
@@ -25,7 +28,6 @@ use std::alloc::Global;
 use std::sync::Wait;
 use std::thread;
 use std::thread::Threads;
-use visi_stream::{Reading, gather, gauge, streams};
 use whole_run::Rounds;
 
 /// For how many items the channel of a view has room.

@@ -2,11 +2,13 @@
 
 ghost use Rattle.std.specs.Prelude.{◌≡◌, Ok, length, map, IfOk};
 ghost use Rattle.atomic_table.specs.Seated.{TableId};
-ghost use Rattle.visi_stream.specs.Streams.{watch_lines};
-ghost use Rattle.visi_stream.specs.Gauges.{AreOf};
+ghost use Rattle.visi_run.specs.Streams.{watch_lines};
+ghost use Rattle.visi_run.specs.Gauges.{AreOf};
 ghost use Rattle.visi_run.specs.Watching.{IsSameSeat, seat_lines, AreSeatsOf};
 
 use crate::board::Board;
+use crate::dial::GaugeReader;
+use crate::publisher::View;
 use crate::view::{Seat, follow};
 use crossbeam_utils::sync::Parker;
 use outside::Gate;
@@ -15,7 +17,6 @@ use std::alloc::Global;
 use std::sync::Wait;
 use std::thread;
 use std::thread::Threads;
-use visi_stream::{GaugeReader, View};
 
 /// Each view follows the run in a thread, if there is one to be had.
 ///

@@ -4,11 +4,12 @@ ghost use Rattle.std.specs.Prelude.{◌≡◌, IfOk};
 ghost use Rattle.visi_run.specs.Watching.{IsSameSeat};
 
 use crate::board::Board;
+use crate::dial::GaugeReader;
+use crate::publisher::View;
 use crossbeam_utils::sync::Parker;
 use outside::Gate;
 use pn_types::NoMemory;
 use std::sync::Wait;
-use visi_stream::{GaugeReader, View};
 
 /// A view's end of the stream, and its end of the gauge.
 #[derive(Drop)]

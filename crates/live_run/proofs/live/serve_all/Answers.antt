@@ -3,7 +3,7 @@ use Rattle.std.proofs.lemmas.List.{length-map}
 use Rattle.std.proofs.lemmas.Result.{IfOk-weaker}
 use Rattle.std.specs.Prelude.{slice_index_or}
 use Rattle.live_run.specs.Serving.{IsServed}
-use Rattle.shared_run.specs.Seats.{SeatData, fresh_seat}
+use Rattle.live_run.specs.Seats.{SeatData, fresh_seat}
 use Rattle.live_run.proofs.Wholes.{fresh_at, all_served, index_map, length_fresh}
 use Rattle.live_run.proofs.live.serve_all.Goals as goal
 

@@ -3,9 +3,9 @@ use Rattle.std.proofs.lemmas.List.{length-map}
 use Rattle.std.specs.List.{AllByRecursion}
 use Rattle.session_spec.specs.declared.data.Latest.{Latest}
 use Rattle.atomic_table.specs.Seated.{TableId}
-use Rattle.visi_stream.specs.Gauges.{AreOf, Dial}
-use Rattle.visi_stream.specs.Streams.{Watch}
-use Rattle.visi_stream.proofs.Desks.{same_length}
+use Rattle.visi_run.specs.Gauges.{AreOf, Dial}
+use Rattle.visi_run.specs.Streams.{Watch}
+use Rattle.visi_run.proofs.Desks.{same_length}
 use Rattle.whole_run.proofs.Ordered.{seeded_by}
 use Rattle.visi_run.specs.declared.view.Seat.{Seat}
 use Rattle.visi_run.specs.Steps.{HasRun}

@@ -12,7 +12,7 @@ use Rattle.session.specs.Sessions.{state_of}
 use Rattle.visi_run.specs.Feed.{feed_of}
 use Rattle.visi_run.specs.Texts.{first_count, visi_text}
 use Rattle.visi_run.specs.Viewed.{shown_of}
-use Rattle.visi_stream.specs.declared.dial.Reading.{Reading}
+use Rattle.visi_run.specs.declared.dial.Reading.{Reading}
 use Rattle.visi_run.proofs.Feeds.{closed_state, last_count}
 use Rattle.visi_run.proofs.Lines.{lines_all}
 use Rattle.visi_run.proofs.SeatLists.{all_same, first_is}

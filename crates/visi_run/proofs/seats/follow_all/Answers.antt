@@ -1,7 +1,7 @@
 use Rattle.std.proofs.Common.{rules, ◌≡◌, length, vec_len, Ok, sym, ap, ◌∙◌, subst, arith}
 use Rattle.std.proofs.lemmas.List.{length-map}
 use Rattle.std.specs.Prelude.{slice_index_or}
-use Rattle.visi_stream.proofs.Glances.{each_at}
+use Rattle.visi_run.proofs.Glances.{each_at}
 use Rattle.visi_run.specs.declared.view.Seat.{Seat}
 use Rattle.visi_run.specs.Watching.{IsSameSeat}
 use Rattle.visi_run.proofs.SeatLists.{seats_same, cells_same, index_map}

@@ -1,7 +1,7 @@
 use Rattle.std.proofs.Common.{◌≡◌, ◌++◌, [], ◌∷◌, length, length-append, sym, ap, ◌∙◌, subst, arith}
-use Rattle.visi_stream.specs.Streams.{Watch}
-use Rattle.visi_stream.specs.Gauges.{AreOf, Reader}
-use Rattle.visi_stream.proofs.Desks.{each_append, snoc_map}
+use Rattle.visi_run.specs.Streams.{Watch}
+use Rattle.visi_run.specs.Gauges.{AreOf, Reader}
+use Rattle.visi_run.proofs.Desks.{each_append, snoc_map}
 use Rattle.visi_run.specs.declared.view.Seat.{Seat}
 use Rattle.visi_run.specs.Watching.{seat_lines, AreSeatsOf}
 use Rattle.visi_run.proofs.SeatLists.{each_front, each_last}

@@ -1,8 +1,8 @@
 use Rattle.std.proofs.Common.{◌≡◌, ◌≤◌, ◌+◌, length, vec_len}
 use Rattle.std.specs.Prelude.{vec_capacity}
 use Rattle.atomic_table.specs.Seated.{TableId}
-use Rattle.visi_stream.specs.Streams.{watch_lines}
-use Rattle.visi_stream.specs.Gauges.{AreOf}
+use Rattle.visi_run.specs.Streams.{watch_lines}
+use Rattle.visi_run.specs.Gauges.{AreOf}
 use Rattle.visi_run.specs.Watching.{seat_lines, AreSeatsOf}
 use Rattle.visi_run.proofs.seats.pair.Given as goal
 

@@ -2,9 +2,9 @@ use Rattle.std.proofs.Common.{rules, ◌≡◌, ◌++◌, [], ◌∷◌, length,
 use Rattle.std.proofs.lemmas.List.{map-id}
 use Rattle.std.proofs.lemmas.Iterator.Adapters.{YieldsList-from_vec}
 use Rattle.std.proofs.lemmas.Iterator.Consumers.{YieldsList-end}
-use Rattle.visi_stream.specs.Streams.{Watch}
-use Rattle.visi_stream.specs.Gauges.{AreOf, Reader}
-use Rattle.visi_stream.proofs.Desks.{each_append, snoc_map}
+use Rattle.visi_run.specs.Streams.{Watch}
+use Rattle.visi_run.specs.Gauges.{AreOf, Reader}
+use Rattle.visi_run.proofs.Desks.{each_append, snoc_map}
 use Rattle.visi_run.specs.declared.view.Seat.{Seat}
 use Rattle.visi_run.specs.Watching.{AreSeatsOf}
 use Rattle.visi_run.proofs.SeatLists.{each_front, each_last}
@@ -16,7 +16,7 @@ loop-seat-preserved c =
     let p = c.push_reserved.ensures in
     let q = c.push_reserved-in-loop-seat.ensures in
     record {
-      lines = ap (Rattle.visi_stream.specs.Streams.watch_lines) p.items ∙ snoc_map (λ (w : Watch). w.line) c.loop-seat.views.items c.in-Some.seat.view ∙ ap (λ l. l ++ c.in-Some.seat.view.line ∷ []) i.lines ∙ sym (snoc_map (λ (s : Seat). s.view.line) c.loop-seat.yielded c.in-Some.seat);
+      lines = ap (Rattle.visi_run.specs.Streams.watch_lines) p.items ∙ snoc_map (λ (w : Watch). w.line) c.loop-seat.views.items c.in-Some.seat.view ∙ ap (λ l. l ++ c.in-Some.seat.view.line ∷ []) i.lines ∙ sym (snoc_map (λ (s : Seat). s.view.line) c.loop-seat.yielded c.in-Some.seat);
       readers = λ cell h.
           subst (AreOf cell) (sym q.items) (each_append (λ (r : Reader). r.cell ≡ cell) c.loop-seat.readers.items (c.in-Some.seat.reader ∷ []) (i.readers cell (each_front (λ (s : Seat). s.reader.cell ≡ cell) c.loop-seat.yielded (c.in-Some.seat ∷ []) h))
           (each_last (λ (s : Seat). s.reader.cell ≡ cell) c.loop-seat.yielded c.in-Some.seat h, tt));

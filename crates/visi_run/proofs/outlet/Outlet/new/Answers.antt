@@ -1,8 +1,8 @@
 use Rattle.std.proofs.Common.{◌≡◌, ◌∙◌, List, ap, length, sym}
 use Rattle.std.specs.Prelude.{◌-◌, ◌^◌, false, min}
 use Rattle.session_spec.specs.declared.data.Latest.{Latest}
-use Rattle.visi_stream.specs.Readings.{last_of}
-use Rattle.visi_stream.specs.declared.dial.Reading.{Reading}
+use Rattle.visi_run.specs.Readings.{last_of}
+use Rattle.visi_run.specs.declared.dial.Reading.{Reading}
 use Rattle.session.specs.Sessions.{state_of}
 use Rattle.visi_run.specs.Feed.{reading_of}
 use Rattle.visi_run.proofs.Feeds.{begun_feed, begun_time}

@@ -1,10 +1,10 @@
 use Rattle.std.proofs.Common.{◌≡◌, ◌∙◌, ap, subst, sym}
 use Rattle.session.specs.Sessions.{state_of}
-use Rattle.visi_stream.specs.Gauges.{Writer}
-use Rattle.visi_stream.specs.Readings.{MayFollow, first_reading, last_of}
-use Rattle.visi_stream.specs.Streams.{Published}
-use Rattle.visi_stream.specs.declared.dial.Reading.{Reading}
-use Rattle.visi_stream.proofs.Glances.{last_snoc}
+use Rattle.visi_run.specs.Gauges.{Writer}
+use Rattle.visi_run.specs.Readings.{MayFollow, first_reading, last_of}
+use Rattle.visi_run.specs.Streams.{Published}
+use Rattle.visi_run.specs.declared.dial.Reading.{Reading}
+use Rattle.visi_run.proofs.Glances.{last_snoc}
 use Rattle.visi_run.specs.Feed.{reading_of}
 use Rattle.visi_run.proofs.Feeds.{reading_follows}
 use Rattle.visi_run.proofs.outlet.Outlet.tell.Goals as goal

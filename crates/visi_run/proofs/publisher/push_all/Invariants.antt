@@ -1,0 +1,11 @@
+use Rattle.std.proofs.Common.{◌≡◌, ◌++◌, take, drop, map, length, vec_len}
+use Rattle.visi_run.specs.Lanes.{alls_of, lines_of, HaveRoom}
+use Rattle.visi_run.proofs.publisher.push_all.Given as goal
+
+abbrev pub invariant-loop-i : goal.invariant-loop-i
+invariant-loop-i l = record {
+  alls : alls_of l.lanes.items ≡ map (λ xs. xs ++ l.items) (take l.i (alls_of l.fn.lanes.items)) ++ drop l.i (alls_of l.fn.lanes.items);
+  lines : lines_of l.lanes.items ≡ lines_of l.fn.lanes.items;
+  room : HaveRoom (length l.items) (drop l.i l.lanes.items);
+  count : vec_len l.lanes ≡ l.i-end;
+}

@@ -1,0 +1,30 @@
+-- What contracts see of the publisher and of the views.
+use Rattle.std.specs.Prelude.{List, Option, map}
+use Rattle.std.specs.declared.alloc.Global.{Global}
+use Rattle.atomic_table.specs.declared.badge.Badge.{Badge}
+use Rattle.crossbeam_channel.specs.declared.flavors.array.Key.{Key}
+use Rattle.crossbeam_channel.specs.declared.flavors.array.Rows.{Rows}
+use Rattle.crossbeam_channel.specs.declared.flavors.array.Doing.{Doing}
+use Rattle.crossbeam_channel.specs.declared.flavors.array.Rounds.{Rounds}
+use Rattle.crossbeam_channel.specs.declared.flavors.array.Lockers.{Lockers}
+use Rattle.crossbeam_channel.specs.declared.flavors.array.Whole.{Whole}
+use Rattle.session_spec.specs.declared.data.Latest.{Latest}
+use Rattle.visi_run.specs.declared.line.InOrder.{InOrder}
+use Rattle.visi_run.specs.declared.line.Log.{Log}
+
+-- a view's channel
+abbrev pub Line : Type 0
+Line = Rows (Badge (Key Latest)) (Doing Latest Log) (Rounds InOrder) (Option Latest) (Key Latest) (Lockers Whole) Global
+
+-- what was published, and the views' channels in order
+pub record Published : Type 0 where
+  pub items : List Latest
+  pub lines : List Line
+
+-- what a view took, and its channel
+pub record Watch : Type 0 where
+  pub taken : List Latest
+  pub line : Line
+
+abbrev pub watch_lines : List Watch → List Line
+watch_lines watches = map (λ (watch : Watch). watch.line) watches

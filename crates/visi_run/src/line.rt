@@ -1,0 +1,93 @@
+// The channel of one view, with its rule and the kinds of step.
+use crossbeam_channel::protocol::{Join, Lesson, Outcome, Protocol, Split};
+use crossbeam_channel::{Pass, RuledReceiver, RuledSender};
+use session_spec::Latest;
+use std::collections::LinkedList;
+
+// Whether a pass may send and whether it may take, what it has sent and what it has taken. No value of it is made.
+pub struct Log {
+    pub sends: bool,
+    pub takes: bool,
+    pub sent: LinkedList<Latest>,
+    pub taken: LinkedList<Latest>,
+}
+
+pub struct InOrder;
+
+impl Protocol<Latest, Log> for InOrder {
+    ghost use Rattle.std.specs.Prelude.{true, []};
+    ghost use Rattle.visi_run.specs.Lines.{log, Flows};
+
+    ghost holds = { Flows };
+
+    ghost first = { log true true [] [] };
+}
+
+// The pass is cut into the sender's and the view's, and these are joined again.
+pub struct Roles;
+
+impl Split<Log> for Roles {
+    ghost use Rattle.std.specs.Prelude.{true, false, []};
+    ghost use Rattle.visi_run.specs.Lines.{log};
+
+    ghost left = { λ v. log true false v.sent [] };
+
+    ghost right = { λ v. log false true [] v.taken };
+}
+
+impl Join<Log> for Roles {
+    ghost use Rattle.std.specs.Prelude.{true, false, []};
+    ghost use Rattle.visi_run.specs.Lines.{log};
+
+    ghost both = { λ v w. log true true v.sent w.taken };
+
+    ghost spent = { log false false [] [] };
+}
+
+pub struct Sends;
+
+impl Outcome<Latest, Log> for Sends {
+    ghost use Rattle.std.specs.Prelude.{◌≡◌};
+    ghost use Rattle.visi_run.specs.Lines.{has_sent};
+
+    ghost then = { λ v x w. w ≡ has_sent v x };
+}
+
+impl Lesson<Latest, Log> for Sends {
+    ghost fact = { λ v items. Unit {0} };
+}
+
+pub struct Takes;
+
+impl Outcome<Latest, Log> for Takes {
+    ghost use Rattle.std.specs.Prelude.{◌≡◌};
+    ghost use Rattle.visi_run.specs.Lines.{has_taken};
+
+    ghost then = { λ v x w. w ≡ has_taken v x };
+}
+
+impl Lesson<Latest, Log> for Takes {
+    ghost fact = { λ v items. Unit {0} };
+}
+
+// A receive by a pass that may send too. It learns what the channel holds.
+pub struct TakesRest;
+
+impl Outcome<Latest, Log> for TakesRest {
+    ghost use Rattle.std.specs.Prelude.{◌≡◌};
+    ghost use Rattle.visi_run.specs.Lines.{has_taken};
+
+    ghost then = { λ v x w. w ≡ has_taken v x };
+}
+
+impl Lesson<Latest, Log> for TakesRest {
+    ghost use Rattle.std.specs.Prelude.{◌≡◌, ◌++◌};
+
+    ghost fact = { λ v items. v.sent ≡ v.taken ++ items };
+}
+
+pub type Sender = RuledSender<Latest, Log, InOrder>;
+
+pub type Receiver = RuledReceiver<Latest, Log, InOrder>;
+
+pub type LinePass = Pass<Latest, Log>;

@@ -1,0 +1,90 @@
+// The rule of the gauge's cell, and the kinds of step.
+use crate::dial::Reading;
+use atomic_table::{Join, Split};
+use crossbeam_utils::atomic::seq_cell;
+use crossbeam_utils::atomic::seq_cell::RuledSeqCell;
+use crossbeam_utils::rule::{Outcome, Protocol};
+use std::collections::LinkedList;
+
+// Whether the pass sets, what was set, and what the readers of this pass have read, a list for each. No value of it is made.
+pub struct Sight {
+    pub sets: bool,
+    pub wrote: LinkedList<Reading>,
+    pub lists: LinkedList<LinkedList<Reading>>,
+}
+
+pub struct Rising;
+
+impl Protocol<Reading, Sight> for Rising {
+    ghost use Rattle.visi_run.specs.Sights.{Kept, opening_sight};
+
+    ghost holds = { Kept };
+
+    ghost first = { opening_sight };
+}
+
+// Splits off a reader.
+pub struct Admits;
+
+impl Split<Sight> for Admits {
+    ghost use Rattle.visi_run.specs.Sights.{reading};
+    ghost use Rattle.std.specs.Prelude.{[]};
+
+    ghost left = { λ v. v };
+
+    ghost right = { λ v. reading [] };
+}
+
+// The whole view goes to a new pass.
+pub struct Leaves;
+
+impl Split<Sight> for Leaves {
+    ghost use Rattle.visi_run.specs.Sights.{spent};
+
+    ghost left = { λ v. spent };
+
+    ghost right = { λ v. v };
+}
+
+// The writer takes in a reader's lists.
+pub struct Meets;
+
+impl Join<Sight> for Meets {
+    ghost use Rattle.visi_run.specs.Sights.{together, spent};
+
+    ghost both = { together };
+
+    ghost spent = { spent };
+}
+
+pub struct Sets;
+
+impl Outcome<Reading, Sight> for Sets {
+    ghost use Rattle.std.specs.Prelude.{◌≡◌};
+    ghost use Rattle.visi_run.specs.Sights.{has_set};
+
+    ghost then = { λ v x y w. w ≡ has_set y v };
+}
+
+pub struct Reads;
+
+impl Outcome<Reading, Sight> for Reads {
+    ghost use Rattle.std.specs.Prelude.{◌≡◌};
+    ghost use Rattle.visi_run.specs.Sights.{has_read};
+    ghost use Rattle.visi_run.specs.Readings.{Rises};
+    ghost use Rattle.std.specs.List.{AllByRecursion};
+
+    ghost then = { λ v x y w. (w ≡ has_read y v) × AllByRecursion Rises w.lists };
+}
+
+pub struct Closes;
+
+impl Outcome<Reading, Sight> for Closes {
+    ghost use Rattle.visi_run.specs.Sights.{Settles};
+
+    ghost then = { λ v x y w. Settles v y };
+}
+
+pub type Cell = RuledSeqCell<Reading, Sight, Rising, 3>;
+
+pub type Pass = seq_cell::Pass<Reading, Sight>;
