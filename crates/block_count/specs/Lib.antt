@@ -1,5 +1,4 @@
 pub mod Texts
-pub mod Texts
 pub mod Heads
 pub mod Counters
 pub mod CountedBlocks
