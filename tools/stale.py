@@ -7,7 +7,7 @@ A name is a word between backquotes: a crate, a file, a function, a definition, 
 tools/, reference/ or examples/, or to be a file. One that a crate's name introduces (as in: machine `Cores`, `Events`), one that it
 follows (`Cores` of machine), and one that stands beside the crate in the table of crates, has to stand in that crate. The parts of
 `Type::name` have to stand in one crate. A word with `_` is looked up without backquotes too. Words in capitals stand for something else,
-and aren't looked up. Each crate has a row in each table of crates, and no other has.
+and aren't looked up. Each crate has a row in each table of crates, and no other has. A folder of tools/wrong_bodies is a crate's.
 """
 import re
 import sys
@@ -56,7 +56,7 @@ class Repository:
     """The words of the repository, of each crate and of all, and its files."""
 
     def __init__(self):
-        self.crates = {path.name: words_of(files_of(path.name)) for path in (TOP / "crates").iterdir()}
+        self.crates = {path.parent.name: words_of(files_of(path.parent.name)) for path in (TOP / "crates").glob("*/src")}
         others = words_of([path for place in PLACES[1:] for path in files_below(TOP / place)])
         self.words = others.union(*self.crates.values())
         self.options = self.crates["command_words"] | options_of(files_below(TOP / "tools") + files_below(TOP / "examples"))
@@ -121,10 +121,17 @@ def faults_of_tables(repository, path):
     return [f"{path.relative_to(TOP)}: {crate} isn't a crate, or has no row" for crate in sorted(listed ^ set(repository.crates))]
 
 
+def faults_of_wrong_bodies(repository):
+    """The folders of wrong bodies that are no crate's."""
+    folders = sorted({path.parent.name for path in (TOP / "tools/wrong_bodies").glob("*/*.edit")})
+    return [f"tools/wrong_bodies/{name}: {name} isn't a crate" for name in folders if name not in repository.crates]
+
+
 def main():
     repository = Repository()
     documents = [TOP / "README.md", *sorted((TOP / "docs").glob("*.md"))]
     faults = [fault for path in documents for check in (faults_of, faults_of_tables) for fault in check(repository, path)]
+    faults += faults_of_wrong_bodies(repository)
     for fault in faults:
         print(fault, file=sys.stderr)
     print(f"{len(documents)} documents, {len(faults)} names that don't stand")
