@@ -1,3 +1,5 @@
+//! Instruments that have their place in the machine.
+
 use crate::plan::{Open, Var};
 use crate::seq::Seq;
 
@@ -15,7 +17,7 @@ pub struct PlacedSite {
 pub struct Placed {
     /// The variables of its plan.
     pub vars: Seq<Var>,
-    /// The first slot of each variable. A timer has its sum there and its number of starts in the slot behind.
+    /// The first slot of each variable. A timer has its sum there, and its number of starts in the next slot.
     pub slots: Seq<u32>,
     /// The sites, by address.
     pub sites: Seq<PlacedSite>,

@@ -1,4 +1,6 @@
-/// A quantum: a hart took turns until it had so many, or could take no more.
+//! Quanta, of which a log is the list.
+
+/// A quantum: a hart took as many turns as were asked for, or fewer where it could take no more.
 #[derive(Clone, Copy, PartialEq, Eq, Drop)]
 pub struct Quantum {
     /// The worker that gave it, below [`MAX_WORKERS`](crate::MAX_WORKERS).

@@ -1,3 +1,5 @@
+//! The settings of a run.
+
 ghost use Rattle.std.specs.Prelude.{◌≡◌, ◌↔◌, ◌<◌, ◌≤◌, IfOk, IsOk};
 ghost use Rattle.pn_types.specs.Settings.{AreInRange};
 
@@ -33,9 +35,20 @@ pub struct Settings {
 }
 
 impl Settings {
-    /// Settings with a cold start and [`USUAL_INSTRUMENTS`]. They are out of range exactly where one of these numbers is.
+    /// Settings with a cold start and [`USUAL_INSTRUMENTS`].
+    ///
+    /// # Errors
+    ///
+    /// `OutOfRange` exactly where one of these numbers is outside its range.
     pub fn new(harts: u32, budget: u64, bins: u32, width: u64) -> Result<Settings, OutOfRange>
-        ensures settings { IfOk result (λ s. s ≡ record { harts = harts; budget = budget; bins = bins; width = width; start = Start.Cold; instruments = 64 }) }
+        ensures settings { IfOk result (λ s. s ≡ record {
+          harts = harts;
+          budget = budget;
+          bins = bins;
+          width = width;
+          start = Start.Cold;
+          instruments = 64;
+        }) }
         ensures in_range { IfOk result AreInRange }
         ensures exactly { IsOk result ↔ ((1 ≤ harts) × (harts ≤ MAX_HARTS) × (1 ≤ budget) × (budget ≤ MAX_BUDGET)
             × (MIN_BINS ≤ bins) × (bins ≤ MAX_BINS) × (1 ≤ width) × (width ≤ MAX_WIDTH)) }
@@ -57,8 +70,11 @@ impl Settings {
         })
     }
 
-    /// The same settings with this start and so many instruments. They are out of range exactly where the number of
-    /// instruments isn't from 1 to [`MAX_INSTRUMENTS`].
+    /// The same settings with this start and this number of instruments.
+    ///
+    /// # Errors
+    ///
+    /// `OutOfRange` exactly where the number of instruments isn't from 1 to [`MAX_INSTRUMENTS`].
     pub fn with(self, start: Start, instruments: u32) -> Result<Settings, OutOfRange>
         ensures settings { IfOk result (λ s. s ≡ record self { start = start; instruments = instruments }) }
         ensures exactly { IsOk result ↔ ((1 ≤ instruments) × (instruments ≤ MAX_INSTRUMENTS)) }
