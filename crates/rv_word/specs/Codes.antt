@@ -93,7 +93,10 @@ reg_codes reg.Remu = (1, 7)
 
 abbrev pub reg_op_of : ℕ → ℕ → Option RegOp
 reg_op_of funct7 funct3 =
-    with_codes reg_codes (reg.Add ∷ reg.Sll ∷ reg.Slt ∷ reg.Sltu ∷ reg.Xor ∷ reg.Srl ∷ reg.Or ∷ reg.And ∷ reg.Sub ∷ reg.Sra ∷ reg.Mul ∷ reg.Mulh ∷ reg.Mulhsu ∷ reg.Mulhu ∷ reg.Div ∷ reg.Divu ∷ reg.Rem ∷ reg.Remu ∷ []) funct7 funct3
+    with_codes reg_codes
+    (reg.Add ∷ reg.Sll ∷ reg.Slt ∷ reg.Sltu ∷ reg.Xor ∷ reg.Srl ∷ reg.Or ∷ reg.And ∷ reg.Sub ∷ reg.Sra
+    ∷ reg.Mul ∷ reg.Mulh ∷ reg.Mulhsu ∷ reg.Mulhu ∷ reg.Div ∷ reg.Divu ∷ reg.Rem ∷ reg.Remu ∷ [])
+    funct7 funct3
 
 abbrev pub reg_32_codes : RegOp32 → ℕ × ℕ
 reg_32_codes reg32.Addw = (0, 0)
@@ -109,7 +112,10 @@ reg_32_codes reg32.Remuw = (1, 7)
 
 abbrev pub reg_op_32_of : ℕ → ℕ → Option RegOp32
 reg_op_32_of funct7 funct3 =
-    with_codes reg_32_codes (reg32.Addw ∷ reg32.Sllw ∷ reg32.Srlw ∷ reg32.Subw ∷ reg32.Sraw ∷ reg32.Mulw ∷ reg32.Divw ∷ reg32.Divuw ∷ reg32.Remw ∷ reg32.Remuw ∷ []) funct7 funct3
+    with_codes reg_32_codes
+    (reg32.Addw ∷ reg32.Sllw ∷ reg32.Srlw ∷ reg32.Subw ∷ reg32.Sraw
+    ∷ reg32.Mulw ∷ reg32.Divw ∷ reg32.Divuw ∷ reg32.Remw ∷ reg32.Remuw ∷ [])
+    funct7 funct3
 
 abbrev pub width_code : AtomicWidth → ℕ
 width_code Word = 2

@@ -73,7 +73,7 @@ abbrev pub or_stop : {A : Type 0} → Result A MemStop → Prog → (A → Outco
 or_stop (Ok x) p f = f x
 or_stop (Err e) p f = Stops (stop_of e) p
 
--- the address behind the word
+-- the address of the next word
 abbrev pub next : ℕ → ℕ
 next pc = wrap (pc + 4)
 
@@ -119,20 +119,22 @@ without_reservation h p = set_mem p p.mem (slice_set p.resv h None)
 abbrev pub atomic : AtomicWidth → ℕ → Prog → (ℕ → Outcome) → Outcome
 atomic width at p f = if at % atomic_len width == 0 then or_stop (load (atomic_len width) p.mem at) p f else Stops Misaligned p
 
--- an LR, where the number n was read: it answers it, and takes the reservation
+-- an LR, where the number n was read: rd gets it, and the hart takes the reservation
 abbrev pub reserve : AtomicWidth → ℕ → ℕ → ℕ → ℕ → ℕ → List ℕ → Prog → Outcome
-reserve width n h rd at pc regs p = Goes (next pc) (with_reg regs rd (answered width n)) (set_mem p p.mem (slice_set p.resv h (Some (at / 8))))
+reserve width n h rd at pc regs p =
+    Goes (next pc) (with_reg regs rd (answered width n)) (set_mem p p.mem (slice_set p.resv h (Some (at / 8))))
 
--- an SC, with or without its hart's reservation, which is cleared by now: it answers 0 where it stored and 1 where not
+-- an SC, with or without its hart's reservation, which is cleared by now: rd gets 0 where it stored, and else 1
 abbrev pub conditional : Bool → ℕ → ℕ → ℕ → ℕ → ℕ → ℕ → List ℕ → Prog → Outcome
 conditional false h n rd at v pc regs p = Goes (next pc) (with_reg regs rd 1) p
 conditional true h n rd at v pc regs p =
     or_stop (store n p.mem at v) p (λ m. Goes (next pc) (with_reg regs rd 0) (set_mem p m (broken 0 h (at / 8) (at / 8) p.resv)))
 
--- an AMO, where the number `old` was read: it answers it, and leaves the operation's
+-- an AMO, where the number `old` was read: rd gets it, and memory gets the operation's result
 abbrev pub amo : AmoOp → AtomicWidth → ℕ → ℕ → ℕ → ℕ → ℕ → ℕ → List ℕ → Prog → Outcome
 amo op width old h rd at v pc regs p =
-    or_stop (store (atomic_len width) p.mem at (left_by op width old v)) p (λ m. Goes (next pc) (with_reg regs rd (answered width old)) (set_mem p m (broken 0 h (at / 8) (at / 8) p.resv)))
+    or_stop (store (atomic_len width) p.mem at (left_by op width old v)) p
+    (λ m. Goes (next pc) (with_reg regs rd (answered width old)) (set_mem p m (broken 0 h (at / 8) (at / 8) p.resv)))
 
 -- ---- system calls, by their number in a7: 93 and 94 exit, 64 writes
 
@@ -140,11 +142,11 @@ amo op width old h rd at v pc regs p =
 abbrev pub minus : ℕ → ℕ
 minus n = 2 ^ 64 - n
 
--- the call answers a value in a0
+-- the call returns a value in a0
 abbrev pub answers : ℕ → ℕ → List ℕ → Prog → Outcome
 answers value pc regs p = Goes (next pc) (with_reg regs 10 value) p
 
--- what a write of these bytes answers, or the address in text at which it stops; and the output then. It is -14 where
+-- What a write of these bytes returns, or the address in text at which it stops; and the output then. It returns -14 where
 -- a byte is unmapped, -28 where the output would pass 1,048,576 bytes, and else the number of the bytes.
 abbrev pub written_is : Result (List ℕ) MemStop → List ℕ → Result ℕ ℕ × List ℕ
 written_is (Err (Unmapped a)) out = (Ok (minus 14), out)
@@ -155,12 +157,13 @@ abbrev pub written : Result ℕ ℕ × List ℕ → ℕ → List ℕ → Prog �
 written (Ok answer, out) pc regs p = answers answer pc regs (record { mem = p.mem; resv = p.resv; out = out })
 written (Err a, out) pc regs p = Stops (TextAccess a) p
 
--- a write is of at most 4,096 bytes; it answers -9 where a0 is neither 1 nor 2. Any other call answers -38.
+-- A write is of at most 4,096 bytes; it returns -9 where a0 is neither 1 nor 2. Any other call returns -38.
 abbrev pub system_call : ℕ → List ℕ → Prog → Outcome
 system_call pc regs p =
     if (reg regs 17 == 93) || (reg regs 17 == 94) then Stops (Exit (reg regs 10 % 256)) p
     else if reg regs 17 == 64 then
-    (if (reg regs 10 == 1) || (reg regs 10 == 2) then written (written_is (bytes_at (min (reg regs 12) 4096) p.mem (reg regs 11)) p.out) pc regs p
+    (if (reg regs 10 == 1) || (reg regs 10 == 2) then
+    written (written_is (bytes_at (min (reg regs 12) 4096) p.mem (reg regs 11)) p.out) pc regs p
     else answers (minus 9) pc regs p)
     else answers (minus 38) pc regs p
 
@@ -176,7 +179,8 @@ perform h (WriteMemory len at v) pc regs p =
     or_stop (store len p.mem at v) p (λ m. Goes (next pc) regs (set_mem p m (broken 0 h (at / 8) (wrap (at + (len - 1)) / 8) p.resv)))
 perform h (LoadReserved width rd at) pc regs p = atomic width at p (λ n. reserve width n h rd at pc regs p)
 perform h (StoreConditional width rd at v) pc regs p =
-    atomic width at (without_reservation h p) (λ n. conditional (has p.resv h (at / 8)) h (atomic_len width) rd at v pc regs (without_reservation h p))
+    atomic width at (without_reservation h p)
+    (λ n. conditional (has p.resv h (at / 8)) h (atomic_len width) rd at v pc regs (without_reservation h p))
 perform h (AtomicAccess op width rd at v) pc regs p = atomic width at p (λ n. amo op width n h rd at v pc regs p)
 perform h SystemCall pc regs p = system_call pc regs p
 perform h Proceed pc regs p = Goes (next pc) regs p

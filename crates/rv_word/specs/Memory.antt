@@ -15,7 +15,11 @@ pub record Memory : Type 0 where
 
 abbrev pub memory_code : Coded Memory
 memory_code =
-    code_by (ℕ × (ℕ × FinMap nat_cmp ℕ)) (coded× coded_ℕ (coded× coded_ℕ (code coded_ℕ coded_ℕ))) (λ m. (m.text_at, (m.text_len, m.cells))) (λ p. record { text_at = p.0; text_len = p.1.0; cells = p.1.1 }) (λ _. refl)
+    code_by (ℕ × (ℕ × FinMap nat_cmp ℕ))
+    (coded× coded_ℕ (coded× coded_ℕ (code coded_ℕ coded_ℕ)))
+    (λ m. (m.text_at, (m.text_len, m.cells)))
+    (λ p. record { text_at = p.0; text_len = p.1.0; cells = p.1.1 })
+    (λ _. refl)
 
 -- an address is one of the len from `at` on
 abbrev pub in_range : ℕ → ℕ → ℕ → Bool
@@ -38,7 +42,7 @@ abbrev pub ◌>>=◌ : {A B : Type 0} → Result A MemStop → (A → Result B M
 (Ok x) >>= f = f x
 (Err e) >>= f = Err e
 
--- the address behind a
+-- the address after a
 abbrev pub after : ℕ → ℕ
 after a = (a + 1) % 2 ^ 64
 

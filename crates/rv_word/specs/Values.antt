@@ -109,9 +109,11 @@ reg_32_value reg32.Sllw x y = shift_word_value Sll x (y % 32)
 reg_32_value reg32.Srlw x y = shift_word_value Srl x (y % 32)
 reg_32_value reg32.Sraw x y = shift_word_value Sra x (y % 32)
 reg_32_value reg32.Mulw x y = low_word (x * y)
-reg_32_value reg32.Divw x y = unless_zero (low_half y) (2 ^ 64 - 1) (extended 32 (cast_unsigned w32 (int_div (signed_half x) (signed_half y))))
+reg_32_value reg32.Divw x y =
+    unless_zero (low_half y) (2 ^ 64 - 1) (extended 32 (cast_unsigned w32 (int_div (signed_half x) (signed_half y))))
 reg_32_value reg32.Divuw x y = unless_zero (low_half y) (2 ^ 64 - 1) (extended 32 (low_half x / low_half y))
-reg_32_value reg32.Remw x y = unless_zero (low_half y) (low_word x) (extended 32 (cast_unsigned w32 (int_rem (signed_half x) (signed_half y))))
+reg_32_value reg32.Remw x y =
+    unless_zero (low_half y) (low_word x) (extended 32 (cast_unsigned w32 (int_rem (signed_half x) (signed_half y))))
 reg_32_value reg32.Remuw x y = unless_zero (low_half y) (low_word x) (extended 32 (low_half x % low_half y))
 
 -- ---- control transfer
@@ -161,7 +163,7 @@ abbrev pub atomic_len : AtomicWidth → ℕ
 atomic_len Word = 4
 atomic_len Doubleword = 8
 
--- what an atomic access answers for the number in these bytes
+-- what an atomic access puts into rd for the number in these bytes
 abbrev pub answered : AtomicWidth → ℕ → ℕ
 answered Word n = extended 32 n
 answered Doubleword n = n

@@ -61,7 +61,7 @@ word_of (Lr width rd rs1 order) = r_form 0x2f rd (width_code width) rs1 0 (order
 word_of (Sc width rd rs1 rs2 order) = r_form 0x2f rd (width_code width) rs1 rs2 (order % 4 + 3 * 4)
 word_of (Amo op width rd rs1 rs2 order) = r_form 0x2f rd (width_code width) rs1 rs2 (order % 4 + amo_code op * 4)
 
--- n is a number of so many bits with its sign, as 64 bits
+-- n is a number of this many bits with its sign, as 64 bits
 abbrev pub IsExtended : ℕ → ℕ → Type 0
 IsExtended bits n = extended bits (n % 2 ^ bits) ≡ n
 

@@ -1,3 +1,5 @@
+//! What instructions ask of a machine.
+
 use crate::instr::{AmoOp, AtomicWidth, LoadOp};
 use crate::outcome::Cause;
 
@@ -9,7 +11,7 @@ pub enum Action {
         rd: u32,
         value: u64,
     },
-    /// Go to the target, and put the address behind the word into rd.
+    /// Go to the target, and put the address of the next word into rd.
     Jump {
         rd: u32,
         target: u64,

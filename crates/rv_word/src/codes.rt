@@ -6,6 +6,7 @@ ghost use Rattle.rv_word.specs.Words.{shift_code, shift_top};
 
 use crate::instr::{AmoOp, AtomicWidth, BranchOp, ImmOp, LoadOp, RegOp, RegOp32, ShiftOp, StoreOp};
 
+/// The code of a branch, its funct3.
 pub fn branch_bits(op: BranchOp) -> u32
     ensures { result ≡ branch_code op }
 {
@@ -19,6 +20,7 @@ pub fn branch_bits(op: BranchOp) -> u32
     }
 }
 
+/// The code of a load, its funct3.
 pub fn load_bits(op: LoadOp) -> u32
     ensures { result ≡ load_code op }
 {
@@ -33,6 +35,7 @@ pub fn load_bits(op: LoadOp) -> u32
     }
 }
 
+/// The code of a store, its funct3.
 pub fn store_bits(op: StoreOp) -> u32
     ensures { result ≡ store_code op }
 {
@@ -44,6 +47,7 @@ pub fn store_bits(op: StoreOp) -> u32
     }
 }
 
+/// The code of an operation on a register and an immediate, its funct3.
 pub fn imm_bits(op: ImmOp) -> u32
     ensures { result ≡ imm_code op }
 {
@@ -57,6 +61,7 @@ pub fn imm_bits(op: ImmOp) -> u32
     }
 }
 
+/// The code of a shift by an immediate, its funct3.
 pub fn shift_bits(op: ShiftOp) -> u32
     ensures { result ≡ shift_code op }
 {
@@ -67,6 +72,7 @@ pub fn shift_bits(op: ShiftOp) -> u32
     }
 }
 
+/// The highest seven bits of a shift by an immediate: its funct7, where no bit of the amount stands.
 pub fn shift_high(op: ShiftOp) -> u32
     ensures { result ≡ shift_top op }
 {
@@ -77,6 +83,7 @@ pub fn shift_high(op: ShiftOp) -> u32
     }
 }
 
+/// The code of an operation on two registers, its funct3.
 pub fn reg_bits(op: RegOp) -> u32
     ensures { result ≡ (reg_codes op).1 }
 {
@@ -102,6 +109,7 @@ pub fn reg_bits(op: RegOp) -> u32
     }
 }
 
+/// The highest bits of an operation on two registers, its funct7.
 pub fn reg_high(op: RegOp) -> u32
     ensures { result ≡ (reg_codes op).0 }
 {
@@ -127,6 +135,7 @@ pub fn reg_high(op: RegOp) -> u32
     }
 }
 
+/// The code of an operation on the low halves of two registers, its funct3.
 pub fn reg_32_bits(op: RegOp32) -> u32
     ensures { result ≡ (reg_32_codes op).1 }
 {
@@ -144,6 +153,7 @@ pub fn reg_32_bits(op: RegOp32) -> u32
     }
 }
 
+/// The highest bits of an operation on the low halves of two registers, its funct7.
 pub fn reg_32_high(op: RegOp32) -> u32
     ensures { result ≡ (reg_32_codes op).0 }
 {
@@ -161,6 +171,7 @@ pub fn reg_32_high(op: RegOp32) -> u32
     }
 }
 
+/// The code of an atomic read-modify-write, its funct5.
 pub fn amo_bits(op: AmoOp) -> u32
     ensures { result ≡ amo_code op }
 {
@@ -177,6 +188,7 @@ pub fn amo_bits(op: AmoOp) -> u32
     }
 }
 
+/// The code of the width of an atomic access, its funct3.
 pub fn width_bits(width: AtomicWidth) -> u32
     ensures { result ≡ width_code width }
 {

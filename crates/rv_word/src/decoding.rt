@@ -219,7 +219,7 @@ fn atomic(word: u32) -> Option<Instr>
     }
 }
 
-/// The instruction that the word is, or none where the table has no such word.
+/// Decodes the word. Returns `None` where the table has no such word.
 #[tactic(auto, unfolding(crate::specs::Table::decode_of))]
 pub fn decode(word: u32) -> Option<Instr>
     ensures table { result ≡ decode_of word }

@@ -144,7 +144,7 @@ fn atomic_word(instr: &Instr) -> u32
     }
 }
 
-/// The word of the instruction. Of a number that does not fit its field, the low bits stand there.
+/// Encodes the instruction. Of a number that doesn't fit its field, the field has the low bits.
 #[tactic(auto, unfolding(crate::specs::Table::decode_of))]
 pub fn encode(instr: &Instr) -> u32
     ensures word { result ≡ word_of instr.now }

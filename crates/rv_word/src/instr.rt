@@ -112,8 +112,8 @@ pub enum AtomicWidth {
     Doubleword,
 }
 
-/// An instruction. Registers are numbers below 32. Immediates and offsets stand as the 64-bit
-/// numbers that the machine adds. `order` has the bits aq and rl, which change nothing here.
+/// An instruction. Registers are numbers below 32. Immediates and offsets are the 64-bit numbers that the machine adds.
+/// `order` has the bits aq and rl, which change nothing here.
 #[derive(Clone, Copy)]
 pub enum Instr {
     Lui {

@@ -8,7 +8,7 @@ use crate::decoding::decode;
 use crate::instr::Instr;
 
 impl Instr {
-    /// One of the registers is r.
+    /// Whether one of the registers is r.
     fn has_register(&self, r: u32) -> bool
         ensures { result ≡ names r self.now }
     {
@@ -31,7 +31,7 @@ impl Instr {
     }
 }
 
-/// The word decodes, and one of its registers is x31.
+/// Whether the word decodes and one of its registers is x31.
 pub fn names_x31(word: u32) -> bool
     ensures { result ≡ has_scratch word }
 {
@@ -51,7 +51,7 @@ pub fn jump_target(word: u32, at: u64) -> Option<u64>
     }
 }
 
-/// The word jumps and links.
+/// Whether the word jumps and links.
 pub fn is_call(word: u32) -> bool
     ensures { result ≡ is_call_of (decode_of word) }
 {
@@ -61,7 +61,7 @@ pub fn is_call(word: u32) -> bool
     }
 }
 
-/// The word at the address leaves the procedure of so many bytes from its start.
+/// Whether the word at the address leaves the procedure, which has `len` bytes from `start` on.
 pub fn is_return(word: u32, at: u64, start: u64, len: u64) -> bool
     ensures { result ≡ is_return_of (decode_of word) at start len }
 {
@@ -75,7 +75,7 @@ pub fn is_return(word: u32, at: u64, start: u64, len: u64) -> bool
     }
 }
 
-/// The first word of the bytes, of which there are at least four, and the bytes behind it.
+/// Splits off the first word of the bytes, of which there are at least four. Returns it and the other bytes.
 pub fn split_word(bytes: &[u8]) -> (u32, &[u8])
     requires { 4 ≤ length bytes.now }
     ensures word { result.0 ≡ word_at bytes.now }

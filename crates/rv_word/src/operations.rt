@@ -6,6 +6,7 @@ ghost use Rattle.rv_word.specs.Table.{right_shift_of};
 
 use crate::instr::{AmoOp, AtomicWidth, BranchOp, ImmOp, LoadOp, RegOp, RegOp32, ShiftOp, StoreOp};
 
+/// The branch of a code.
 pub fn branch_op(code: u32) -> Option<BranchOp>
     ensures { result ≡ branch_op_of code }
 {
@@ -20,6 +21,7 @@ pub fn branch_op(code: u32) -> Option<BranchOp>
     }
 }
 
+/// The load of a code.
 pub fn load_op(code: u32) -> Option<LoadOp>
     ensures { result ≡ load_op_of code }
 {
@@ -35,6 +37,7 @@ pub fn load_op(code: u32) -> Option<LoadOp>
     }
 }
 
+/// The store of a code.
 pub fn store_op(code: u32) -> Option<StoreOp>
     ensures { result ≡ store_op_of code }
 {
@@ -47,6 +50,7 @@ pub fn store_op(code: u32) -> Option<StoreOp>
     }
 }
 
+/// The operation on a register and an immediate of a code, but for shifts.
 pub fn imm_op(code: u32) -> Option<ImmOp>
     ensures { result ≡ imm_op_of code }
 {
@@ -61,6 +65,7 @@ pub fn imm_op(code: u32) -> Option<ImmOp>
     }
 }
 
+/// The operation on two registers of these codes.
 pub fn reg_op(funct7: u32, code: u32) -> Option<RegOp>
     ensures { result ≡ reg_op_of funct7 code }
 {
@@ -87,6 +92,7 @@ pub fn reg_op(funct7: u32, code: u32) -> Option<RegOp>
     }
 }
 
+/// The operation on the low halves of two registers of these codes.
 pub fn reg_op_32(funct7: u32, code: u32) -> Option<RegOp32>
     ensures { result ≡ reg_op_32_of funct7 code }
 {
@@ -105,6 +111,7 @@ pub fn reg_op_32(funct7: u32, code: u32) -> Option<RegOp32>
     }
 }
 
+/// The width of an atomic access of a code.
 pub fn atomic_width(code: u32) -> Option<AtomicWidth>
     ensures { result ≡ width_of code }
 {
@@ -115,6 +122,7 @@ pub fn atomic_width(code: u32) -> Option<AtomicWidth>
     }
 }
 
+/// The atomic read-modify-write of a code.
 pub fn amo_op(code: u32) -> Option<AmoOp>
     ensures { result ≡ amo_op_of code }
 {
@@ -132,7 +140,7 @@ pub fn amo_op(code: u32) -> Option<AmoOp>
     }
 }
 
-/// A right shift by what its top bits say.
+/// The right shift of these highest bits: the arithmetic one where they are `arithmetic`.
 pub fn right_shift(top: u32, arithmetic: u32) -> Option<ShiftOp>
     ensures { result ≡ right_shift_of arithmetic top }
 {
