@@ -1,3 +1,5 @@
+//! The orders of harts.
+
 ghost use Rattle.std.specs.Prelude.{◌≡◌, List, ℕ, ◌∷◌};
 ghost use Rattle.turn_order.specs.Orders.{chosen, order_after, order_of_seed, generated};
 
@@ -33,7 +35,7 @@ impl Order {
         }
     }
 
-    /// The hart that is next among those that may go, or none where none may.
+    /// Picks the hart that is next among those that may go. Returns `None` where none may.
     pub fn pick(&self, ready: &Ready) -> Option<HartNo>
         ensures { result ≡ chosen self.now ready.now }
     {

@@ -1,3 +1,5 @@
+//! The harts that may go.
+
 ghost use Rattle.std.specs.Prelude.{◌≡◌, ◌++◌, ◌∷◌, [], ◌==◌, not, IfOk, OnOk, OnErr, Option, find, nat_le, slice_get, length};
 ghost use Rattle.std.specs.List.{filter};
 
@@ -20,7 +22,7 @@ impl Model for Ready {
 }
 
 impl Ready {
-    /// None so far.
+    /// An empty list.
     pub fn new(alloc: Global) -> Ready
         ensures { result ≡ [] }
     {
@@ -29,7 +31,11 @@ impl Ready {
         }
     }
 
-    /// One hart more, behind the others. Where memory is short all stays as it was.
+    /// Appends a hart.
+    ///
+    /// # Errors
+    ///
+    /// `NoMemory` if memory runs out. Then nothing has changed.
     pub fn push(&mut self, hart: HartNo) -> Result<(), NoMemory>
         ensures pushed { OnOk result (self.new ≡ self.old ++ hart ∷ []) }
         ensures err { OnErr result (self.new ≡ self.old) }
@@ -38,14 +44,14 @@ impl Ready {
         Ok(())
     }
 
-    /// Takes all out. It keeps its memory.
+    /// Removes all harts. The list keeps its memory.
     pub fn clear(&mut self)
         ensures { self.new ≡ [] }
     {
         self.harts.clear();
     }
 
-    /// Takes a hart out. It takes no memory.
+    /// Removes a hart. It takes no memory.
     pub fn remove(&mut self, hart: HartNo)
         ensures { self.new ≡ filter (λ h. not (h == hart)) self.old }
     {
