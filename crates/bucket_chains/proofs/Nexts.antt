@@ -32,7 +32,7 @@ pub fewer_places : (b place n : ℕ) (buckets : List (Option ℕ)) (r : Option �
 fewer_places b place n buckets None lt len h = omega (arith, lt)
 fewer_places b place n buckets (Some j) lt len h = omega (arith, lt, h.0)
 
--- what comes next stands behind an entry that is taken out
+-- what comes next stands after an entry that is taken out
 pub next_left : (b place : ℕ) (buckets : List (Option ℕ)) (r : Option ℕ) → IsFirst b (place + 1) buckets r → IsFirst b (place + 1) (set buckets place None) r
 next_left b place buckets None h = λ i ge at. h i ge (was buckets place i b at).0
 next_left b place buckets (Some j) h = (h.0, kept buckets place j b (λ e. absurd (omega (arith, e, h.0))) h.1, λ i ge lt at. h.2 i ge lt (was buckets place i b at).0)

@@ -1,4 +1,4 @@
--- The entries behind a push and behind a removal, by place.
+-- The entries after a push and after a removal, by place.
 use Rattle.std.proofs.Common.{◌≡◌, ◌≢◌, ℕ, ◌<◌, Option, Some, None, List, [], ◌∷◌, ◌++◌, length, set, get_or, replicate, inl, inr, ◌⊎◌, refl, sym, ap, ◌∙◌, subst, arith, zero, suc, true, false, true≢false, nat_eq}
 use Rattle.std.proofs.lemmas.List.{get_or_append_left, get_or-set_other, length-replicate, get_or-replicate}
 use Rattle.std.proofs.lemmas.Bool.{cases_Bool, eqb-true, eqb-false}
@@ -21,7 +21,7 @@ pub behind : (es : List (Option ℕ)) (x : Option ℕ) → bucket_at (es ++ x �
 behind [] x = refl
 behind (e ∷ es) x = behind es x
 
--- each entry behind a push was there or is the new one
+-- each entry after a push was there or is the new one
 pub came : (es : List (Option ℕ)) (x : Option ℕ) (i b : ℕ) → bucket_at (es ++ x ∷ []) i ≡ Some b → (bucket_at es i ≡ Some b) ⊎ ((i ≡ length es) × (x ≡ Some b))
 came [] x zero b h = inr (refl, h)
 came [] x (suc i) b h = absurd (none-some b h)
@@ -35,7 +35,7 @@ came (e ∷ es) x (suc i) b h = by (came es x i b h)
 pub kept : (es : List (Option ℕ)) (place i b : ℕ) → i ≢ place → bucket_at es i ≡ Some b → bucket_at (set es place None) i ≡ Some b
 kept es place i b n h = get_or-set_other es place i None None n ∙ h
 
--- each entry behind a removal was there, and at another place
+-- each entry after a removal was there, and at another place
 pub was : (es : List (Option ℕ)) (place i b : ℕ) → bucket_at (set es place None) i ≡ Some b → (bucket_at es i ≡ Some b) × (i ≢ place)
 was [] place i b h = absurd (none-some b h)
 was (e ∷ es) zero zero b h = absurd (none-some b h)

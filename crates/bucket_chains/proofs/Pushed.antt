@@ -1,4 +1,4 @@
--- One entry more, behind the others.
+-- One entry more, after the others.
 use Rattle.std.proofs.Common.{◌≡◌, ℕ, ◌+◌, ◌<◌, ◌≤◌, Option, Some, None, List, [], ◌∷◌, ◌++◌, length, set, get_or, inl, inr, ◌⊎◌, sym, ap, ◌∙◌, subst, arith}
 use Rattle.std.proofs.lemmas.List.{get_or_append_left, get_or-set_same, get_or-set_other, length-set, length-append}
 use Rattle.std.proofs.lemmas.Bool.{cases_lt}
@@ -79,7 +79,7 @@ module _ (es : List (Option ℕ)) (b : ℕ) where
             (behind es (Some b), no_more))
         by (inr other) = subst (IsLast c more) (sym (get_or-set_other ls b c (Some (length es)) None other)) (last_kept c (get_or ls c None) other (chained.last c below))
 
-    -- the next behind an entry of the list before
+    -- the next after an entry of the list before
     next_was : (i c : ℕ) → bucket_at es i ≡ Some c → get_or (ns ++ None ∷ []) i None ≡ get_or ns i None
     next_was i c at = get_or_append_left ns (None ∷ []) None i (omega (arith, within es i c at, chained.next_places))
 
@@ -152,7 +152,7 @@ module _ (es : List (Option ℕ)) (b : ℕ) where
                 subst (IsFirst c 0 more) (sym (get_or-set_other fs b c (Some (length es)) None other))
                 (first_kept c 0 (get_or fs c None) (λ e. absurd (other e)) (chained.first c below))
 
-    -- one behind the last entry of its bucket
+    -- one after the last entry of its bucket
     pub pushed_behind : (l : ℕ) → get_or ls b None ≡ Some l → IsChained more (set (ns ++ None ∷ []) l (Some (length es))) ps_more fs (set ls b (Some (length es)))
     pushed_behind l some =
         record {

@@ -8,7 +8,7 @@ use Rattle.bucket_chains.specs.Chained.{IsBehind, IsChained, IsLast}
 use Rattle.bucket_chains.specs.declared.chains.TheConstants.{BUCKETS}
 use Rattle.bucket_chains.proofs.Places.{within, kept, was, same_or_other}
 
--- the two halves of the chains behind a removal: the ways forward and back
+-- the two halves of the chains after a removal: the ways forward and back
 pub record Forward (buckets nexts firsts : List (Option ℕ)) : Type 0 where
   pub next_places : length nexts ≡ length buckets
   pub first_places : length firsts ≡ BUCKETS
@@ -77,7 +77,7 @@ module _ (es : List (Option ℕ)) (b place : ℕ) (there : bucket_at es place �
   same_bucket : (c : ℕ) → bucket_at es place ≡ Some c → c ≡ b
   same_bucket c at = same_Some c b (sym at ∙ there)
 
-  -- where the place is no first one, it is none behind the removal
+  -- where the place is no first one, it is none after the removal
   first_left : (c from : ℕ) (r : Option ℕ) → IsFirst c from es r → (IsFirst b from es (Some place) → c ≡ b → ⊥) → IsFirst c from less r
   first_left c from r h apart = first_stays c from r by h
     where
@@ -125,7 +125,7 @@ module _ (es : List (Option ℕ)) (b place : ℕ) (there : bucket_at es place �
                 subst (IsFirst c 0 less) (sym (get_or-set_other fs b c (get_or ns place None) None other))
                 (first_left c 0 (get_or fs c None) (chained.first c below) (λ h e. other e))
 
-    -- one leaves behind another
+    -- one entry leads to none, and comes after another
     pub later_leaves : (q : ℕ) → IsBehind b (Some q) place es → Forward less (set ns q (get_or ns place None)) fs
     later_leaves q behind =
         record {
@@ -210,7 +210,7 @@ module _ (es : List (Option ℕ)) (b place : ℕ) (there : bucket_at es place �
           last = last;
         }
       where
-        -- the other comes behind the one before
+        -- the other comes after the one before
         passes : (r : Option ℕ) → IsBehind b r place es → IsBehind b r j less
         passes None h = none
           where

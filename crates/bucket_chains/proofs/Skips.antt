@@ -108,7 +108,7 @@ module _ {A R : Type 0} (key : A → ℕ) (b : ℕ) (p : A → Bool) (own : (x :
           rest = skips_to key b p own F skip es (place + 1) r first ∙ sym (skip x (left (drop (place + 1) es)) fails) ∙ seek_here;
         }
 
-    -- the walk goes on behind the entry
+    -- the walk goes on after the entry
     pub seek_next : (r : Option ℕ) → Follows buckets place r → Seeks key b F es r (F (left (drop (place + 1) es)))
     seek_next r h =
         let first : IsFirst b (place + 1) (buckets_of key es) r = follows_here key b es buckets fit next place is seeks.at r h in

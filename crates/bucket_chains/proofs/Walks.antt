@@ -99,7 +99,7 @@ module _ {A : Type 0} (key : A → ℕ) where
           by (inl at) = subst (λ k. get_or now k None ≡ g (get_or old k None)) (sym at) here
           by (inr other) = walked.done i (omega (arith, below, other))
 
-  -- behind the last entry of the bucket the whole list is changed
+  -- after the last entry of the bucket the whole list is changed
   pub whole : {b : ℕ} {g : Option A → Option A} {old now : List (Option A)} {from : ℕ} → IsChange b g → HasNoMore b from (buckets_of key now) → IsWalked g old now from → now ≡ map g old
   whole {b} {g} {old} {now} {from} change none walked = same_lists now (map g old) (walked.len ∙ sym (length-map old g)) each
     where
@@ -147,7 +147,7 @@ module _ {A : Type 0} (key : A → ℕ) where
     pub finds_none : (es : List (Option A)) (from : ℕ) → HasNoMore b from (buckets_of key es) → find p (left (drop from es)) ≡ None
     finds_none es from none = finds_on es from (from + length es) (omega arith) (λ i ge lt at. none i ge at) ∙ ap (λ l. find p (left l)) (drop_all (from + length es) es (omega arith))
 
-    -- the entry at a place passes, or the search goes on behind it
+    -- the entry at a place passes, or the search goes on after it
     goes_on : (es : List (Option A)) (place : ℕ) (x : A) → get_or es place None ≡ Some x → find p (left (drop place es)) ≡ cond (p x) (Some x) (find p (left (drop (suc place) es)))
     goes_on [] place x h = absurd (none-some x h)
     goes_on (o ∷ es) zero x h = ap (λ o. find p (left (o ∷ es))) h

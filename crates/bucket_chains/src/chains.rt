@@ -1,3 +1,5 @@
+//! The entries, their buckets, and what comes next after each.
+
 ghost use Rattle.std.specs.Prelude.{◌≡◌, ℕ, ◌+◌, ◌-◌, ◌<◌, None, Some, IfOk, OnErr, OnOk, [], ◌∷◌, ◌++◌, length, max, replicate, set};
 ghost use Rattle.bucket_chains.specs.Entries.{IsFirst, bucket_at, bucket_of, no_entries};
 ghost use Rattle.bucket_chains.specs.declared.chains.TheConstants.{BUCKETS};
@@ -58,7 +60,7 @@ fn bucket_of(key: u64) -> u32
     (key % u64::from(BUCKETS)) as u32
 }
 
-/// So many times no place.
+/// `count` times no place.
 fn no_places(alloc: Global, count: usize) -> Result<Vec<Option<usize>>, NoMemory>
     ensures { IfOk result (λ places. places.items ≡ replicate count None) }
 {
@@ -74,7 +76,7 @@ impl Chains {
     ///
     /// # Errors
     ///
-    /// `NoMemory` where memory is wanting.
+    /// `NoMemory` if memory runs out.
     pub fn new(alloc: Global) -> Result<Chains, NoMemory>
         ensures { IfOk result (λ chains. chains ≡ no_entries) }
     {
@@ -88,11 +90,11 @@ impl Chains {
         })
     }
 
-    /// Room for so many entries more, counting the room that there is. Only this takes memory.
+    /// Makes room for `entries` more entries, counting the room that there is. Only this takes memory.
     ///
     /// # Errors
     ///
-    /// `NoMemory` where memory is wanting. Then nothing has changed.
+    /// `NoMemory` if memory runs out. Then nothing has changed.
     pub fn reserve(&mut self, entries: usize) -> Result<(), NoMemory>
         ensures ok { OnOk result (self.new ≡ record self.old { room = max entries self.old.room }) }
         ensures err { OnErr result (self.new ≡ self.old) }
@@ -112,7 +114,7 @@ impl Chains {
         self.buckets.len()
     }
 
-    /// One entry more, behind the others.
+    /// Appends an entry.
     pub fn push(&mut self, key: u64)
         requires { 0 < self.old.room }
         ensures { self.new ≡ record { buckets = self.old.buckets ++ Some (bucket_of key) ∷ []; room = self.old.room - 1 } }
@@ -131,7 +133,7 @@ impl Chains {
         self.room -= 1;
     }
 
-    /// One entry more, behind the others, which is in no bucket.
+    /// Appends an entry that is in no bucket.
     pub fn skip(&mut self)
         requires { 0 < self.old.room }
         ensures { self.new ≡ record { buckets = self.old.buckets ++ None ∷ []; room = self.old.room - 1 } }
@@ -157,7 +159,7 @@ impl Chains {
         self.next[place]
     }
 
-    /// Takes the entry at a place out of its bucket.
+    /// Removes the entry at a place from its bucket.
     pub fn remove(&mut self, place: usize)
         requires { place < length self.old.buckets }
         ensures { self.new ≡ record self.old { buckets = set self.old.buckets place None } }
@@ -178,7 +180,7 @@ impl Chains {
         }
     }
 
-    /// Takes all entries out. Their places are room again.
+    /// Removes all entries. Their places are room again.
     pub fn clear(&mut self)
         ensures { self.new ≡ record { buckets = []; room = self.old.room + length self.old.buckets } }
     {
