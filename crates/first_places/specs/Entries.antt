@@ -15,4 +15,5 @@ noted None other value name = if bytes_eq name other then Some value else None
 
 -- the entries have what others have, and of a name that these lack the value
 abbrev pub IsNoted : {K V : Type 0} → (K → List ℕ) → List ℕ → V → List (K × V) → List (K × V) → Type 0
-IsNoted now other value old new = (name : List ℕ) → lookup (λ key. bytes_eq name (now key)) new ≡ noted (lookup (λ key. bytes_eq name (now key)) old) other value name
+IsNoted now other value old new =
+    (name : List ℕ) → lookup (λ key. bytes_eq name (now key)) new ≡ noted (lookup (λ key. bytes_eq name (now key)) old) other value name

@@ -24,7 +24,8 @@ numbers_under now items name es = option_map_or items (lookup (λ key. bytes_eq 
 -- a number is put last under a name
 pub record IsAdded {K V : Type 0} (now : K → List ℕ) (items : V → List ℕ) (name : List ℕ) (n : ℕ) (old new : List (K × V)) : Type 0 where
   pub names : names_of now new ≡ with_name name (names_of now old)
-  pub numbers : (other : List ℕ) → numbers_under now items other new ≡ with_number (bytes_eq other name) n (numbers_under now items other old)
+  pub numbers : (other : List ℕ)
+      → numbers_under now items other new ≡ with_number (bytes_eq other name) n (numbers_under now items other old)
 
 -- nothing is changed
 pub record IsKept {K V : Type 0} (now : K → List ℕ) (items : V → List ℕ) (old new : List (K × V)) : Type 0 where

@@ -50,7 +50,11 @@ impl PlacesByName {
         }
     }
 
-    /// Puts a name last. Where memory is short all stays as it was.
+    /// Appends a name.
+    ///
+    /// # Errors
+    ///
+    /// `NoMemory` if memory runs out. Then nothing has changed.
     pub fn push(&mut self, alloc: Global, name: &[u8]) -> Result<(), NoMemory>
         requires { length self.old + 1 < 2 ^ 32 }
         ensures pushed { OnOk result (self.new ≡ self.old ++ name.now ∷ []) }
@@ -68,7 +72,11 @@ impl PlacesByName {
         }
     }
 
-    /// A copy.
+    /// Copies the list.
+    ///
+    /// # Errors
+    ///
+    /// `NoMemory` if memory runs out.
     pub fn copy(&self, alloc: Global) -> Result<PlacesByName, NoMemory>
         ensures { IfOk result (λ copy. copy ≡ self.now) }
     {

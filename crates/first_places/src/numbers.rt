@@ -7,7 +7,11 @@ use indexmap::IndexMap;
 use pn_types::NoMemory;
 use std::alloc::Global;
 
-/// Puts a number last among those of a name, which comes last where it is new. Where memory is short all stays as it was.
+/// Appends a number to those of a name. A new name is put after the others.
+///
+/// # Errors
+///
+/// `NoMemory` if memory runs out. Then nothing has changed.
 pub fn add_number(
     alloc: Global,
     numbers: &mut IndexMap<Vec<u8>, Vec<u32>>,

@@ -39,7 +39,7 @@ impl Drop for FirstPlaces {
     }
 }
 
-/// Notes the place of a name, unless one is noted already, and says whether one was. Where memory is short all stays as it was.
+/// Notes the place of a name, unless one is noted already. Returns whether one was. Where memory runs out nothing has changed.
 fn note(
     alloc: Global,
     places: &mut IndexMap<Vec<u8>, usize>,
@@ -68,7 +68,11 @@ impl FirstPlaces {
         }
     }
 
-    /// Puts a name last, and says whether it stood there before. Where memory is short all stays as it was.
+    /// Appends a name. Returns whether it was in the list before.
+    ///
+    /// # Errors
+    ///
+    /// `NoMemory` if memory runs out. Then nothing has changed.
     pub fn push(&mut self, alloc: Global, name: &[u8]) -> Result<bool, NoMemory>
         ensures before { IfOk result (λ before. before ≡ is_some (first_place name.now self.old)) }
         ensures pushed { OnOk result (self.new ≡ self.old ++ name.now ∷ []) }
@@ -86,7 +90,11 @@ impl FirstPlaces {
         }
     }
 
-    /// These names, in their order.
+    /// Makes the list of these names, in their order.
+    ///
+    /// # Errors
+    ///
+    /// `NoMemory` if memory runs out.
     pub fn of(alloc: Global, names: &[Text]) -> Result<FirstPlaces, NoMemory>
         ensures { IfOk result (λ places. places ≡ names.now) }
     {
@@ -97,7 +105,11 @@ impl FirstPlaces {
         Ok(places)
     }
 
-    /// A copy.
+    /// Copies the list.
+    ///
+    /// # Errors
+    ///
+    /// `NoMemory` if memory runs out.
     pub fn copy(&self, alloc: Global) -> Result<FirstPlaces, NoMemory>
         ensures { IfOk result (λ copy. copy ≡ self.now) }
     {
@@ -119,7 +131,7 @@ impl FirstPlaces {
         Some(name.bytes())
     }
 
-    /// How many names there are, each as often as it stands there.
+    /// How many names there are. A name counts as often as it is in the list.
     pub fn len(&self) -> usize
         ensures { result ≡ length self.now }
     {
