@@ -51,7 +51,7 @@ place_in-past at len q l k = grind arith
 pub place_in-within : (at len q : ℕ) → at ≤ q → q - at < len → place_in at len q ≡ Some (q - at)
 place_in-within at len q l k = grind arith
 
--- the bytes of one region, before what stands behind it
+-- the bytes of one region, before those of the later ones
 one : (bs : List ℕ) (at q : ℕ) (rest : Option ℕ) → or_else (find nat_cmp q (numbered at bs)) rest ≡ byte_or (place_in at (length bs) q) bs rest
 one bs at q rest =
     ⊎_elim

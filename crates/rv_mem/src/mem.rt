@@ -1,3 +1,5 @@
+//! The memory of a program, and its accesses.
+
 ghost use Rattle.std.specs.Prelude.{◌≡◌, ◌<◌, ◌≤◌, ◌^◌, ℕ, IfOk, IsOk, IfErr, OnErr, OnOk, IfSome, Ok, length, true, false};
 ghost use Rattle.rv_word.specs.Memory.{cell, in_range, load, store, put, set_byte, bytes_at, memory_of};
 ghost use Rattle.rv_mem.specs.Regions.{parts_of};
@@ -73,7 +75,11 @@ impl Mem {
         })
     }
 
-    /// The byte at the address, or why it may not be touched.
+    /// Reads the byte at the address.
+    ///
+    /// # Errors
+    ///
+    /// Why the byte may not be touched: it is unmapped, or in the text.
     pub fn byte(&self, at: u64) -> Result<u8, MemStop>
         ensures { result ≡ cell self.now at }
     {
@@ -86,7 +92,7 @@ impl Mem {
         }
     }
 
-    /// What `load` gives, where the bytes are in the window that the address's page names; else none, which says nothing.
+    /// Returns what [`load`](Mem::load) returns, where the bytes are in the window of the address's page. `None` says nothing of the bytes.
     #[inline(always)]
     pub fn quick_load(&self, at: u64, n: u32) -> Option<u64>
         requires { n ≤ 8 }
@@ -101,8 +107,11 @@ impl Mem {
         None
     }
 
-    /// The number in the `n` bytes from the address, the lowest first. Behind the last address comes address 0. The
-    /// error names the first byte that may not be touched.
+    /// Reads the number in the `n` bytes from the address on, the lowest first. After the last address comes address 0.
+    ///
+    /// # Errors
+    ///
+    /// Why the first byte that may not be touched may not: it is unmapped, or in the text.
     pub fn load(&self, at: u64, n: u32) -> Result<u64, MemStop>
         requires { n ≤ 8 }
         ensures value { result ≡ load n self.now at }
@@ -146,7 +155,11 @@ impl Mem {
         Ok(low as u64 + high * 256)
     }
 
-    /// Whether each of the `n` bytes from the address may be touched. The error names the first that may not.
+    /// Tests whether each of the `n` bytes from the address on may be touched.
+    ///
+    /// # Errors
+    ///
+    /// Why the first byte that may not be touched may not: it is unmapped, or in the text.
     pub fn readable(&self, at: u64, n: u32) -> Result<(), MemStop>
         ensures refused { IfErr result (λ e. bytes_at n self.now at ≡ Err e) }
         ensures readable { OnOk result (IsOk (bytes_at n self.now at)) }
@@ -180,7 +193,8 @@ impl Mem {
         }
     }
 
-    /// Does what `store` does, where the bytes are in the window that the address's page names; else nothing.
+    /// Does what [`store`](Mem::store) does, and returns true, where the bytes are in the window of the address's page. Else it does
+    /// nothing.
     #[inline(always)]
     pub fn quick_store(&mut self, at: u64, n: u32, v: u64) -> bool
         requires { n ≤ 8 }
@@ -195,8 +209,11 @@ impl Mem {
         false
     }
 
-    /// Stores the lowest `n` bytes of the number from the address on, the lowest first. Behind the last address comes
-    /// address 0. The error names the first byte that may not be touched, and then nothing is stored.
+    /// Stores the lowest `n` bytes of the number from the address on, the lowest first. After the last address comes address 0.
+    ///
+    /// # Errors
+    ///
+    /// Why the first byte that may not be touched may not: it is unmapped, or in the text. Then nothing is stored.
     pub fn store(&mut self, at: u64, n: u32, v: u64) -> Result<(), MemStop>
         requires { n ≤ 8 }
         ensures stored { OnOk result (store n self.old at v ≡ Ok self.new) }

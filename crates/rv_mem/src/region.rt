@@ -1,3 +1,5 @@
+//! Runs of mapped bytes.
+
 ghost use Rattle.std.specs.Prelude.{◌≡◌, ◌+◌, ◌<◌, ◌≤◌, ◌^◌, ℕ, cond, nat_eq, Some, None, length, IfSome, true, false};
 ghost use Rattle.std.specs.Option.{IsSome};
 ghost use Rattle.rv_mem.specs.Regions.{first_byte, place_of, little_endian, number_in, with_number, overlaid, HasRange};
@@ -65,8 +67,8 @@ pub fn find_byte(regions: &Vec<Region>, at: u64) -> Option<u8>
     None
 }
 
-/// Where one region has all of the `n` bytes from the address and no region before it has any of them. None says
-/// nothing.
+/// Finds where one region has all of the `n` bytes from the address on and no region before it has any of them. `None` says
+/// nothing of the bytes.
 fn find_range(regions: &Vec<Region>, at: u64, n: u32) -> Option<Spot>
     requires { at + n < 2 ^ 64 }
     ensures { IfSome result (HasRange regions.now.items at n) }
@@ -81,7 +83,7 @@ fn find_range(regions: &Vec<Region>, at: u64, n: u32) -> Option<Spot>
     None
 }
 
-/// The number in `n` bytes from the place, the lowest first, at the widths that accesses have.
+/// Reads the number in the `n` bytes from the place on, the lowest first, where `n` is a width that accesses have.
 #[inline(always)]
 pub fn number_at(bytes: &[u8], place: usize, n: u32) -> Option<u64>
     requires { place + n ≤ length bytes.now }
@@ -111,8 +113,8 @@ pub fn number_at(bytes: &[u8], place: usize, n: u32) -> Option<u64>
     }
 }
 
-/// The number in `n` bytes from the address, where one region has them all and none before it has any of them. None
-/// says nothing about the bytes.
+/// Reads the number in the `n` bytes from the address on, where one region has them all and none before it has any of them.
+/// `None` says nothing of the bytes.
 pub fn find_number(regions: &Vec<Region>, at: u64, n: u32) -> Option<u64>
     requires { at + n < 2 ^ 64 }
     ensures value { IfSome result (λ v. number_in n (first_byte regions.now.items) at ≡ Some v) }
@@ -146,8 +148,8 @@ pub fn put_at(regions: &mut Vec<Region>, spot: Spot, at: u64, n: u32, v: u64)
     write_at(&mut regions[spot.region].bytes, spot.place, n, v);
 }
 
-/// Puts the lowest `n` bytes of the number from the address on, where one region has all these addresses and none
-/// before it has any of them. Otherwise the answer is false.
+/// Puts the lowest `n` bytes of the number from the address on, and returns true, where one region has all these addresses and
+/// none before it has any of them. Else it does nothing.
 pub fn put_number(regions: &mut Vec<Region>, at: u64, n: u32, v: u64) -> bool
     requires { at + n < 2 ^ 64 }
     ensures there { result ≡ true → IsSome (number_in n (first_byte regions.old.items) at) }

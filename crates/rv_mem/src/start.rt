@@ -1,3 +1,5 @@
+//! The memory at the start of a program.
+
 ghost use Rattle.std.specs.Prelude.{◌≡◌, ◌≤◌, IfOk, length, replicate};
 ghost use Rattle.pn_types.specs.Images.{IsImage};
 ghost use Rattle.rv_mem.specs.Regions.{region_part};
@@ -23,7 +25,7 @@ pub const STACK_DISTANCE: u64 = 0x2_0000;
 /// The length of a hart's stack, in bytes.
 pub const STACK_LEN: usize = 65_536;
 
-/// The pages of 4,096 bytes from address 0 to behind the last stack.
+/// How many pages of 4,096 bytes there are from address 0 to the end of the last stack.
 const PAGES: usize = ((FIRST_STACK_AT + MAX_HARTS as u64 * STACK_DISTANCE) / 4_096) as usize;
 
 fn zeros(alloc: Global, len: usize) -> Result<Vec<u8>, NoMemory>
@@ -86,6 +88,10 @@ fn with_lengths(
 impl Mem {
     /// The memory in which this number of harts starts the program: the image's segments, a heap of [`HEAP_LEN`] bytes at
     /// [`HEAP_AT`], and for hart h a stack of [`STACK_LEN`] bytes at [`FIRST_STACK_AT`] + h * [`STACK_DISTANCE`].
+    ///
+    /// # Errors
+    ///
+    /// `NoMemory` if memory runs out.
     pub fn new(alloc: Global, image: &Image, harts: u32) -> Result<Mem, NoMemory>
         requires image { IsImage image.now }
         requires harts { harts ≤ MAX_HARTS }

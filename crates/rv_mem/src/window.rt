@@ -13,7 +13,7 @@ use std::alloc::Global;
 pub struct Window {
     /// The first address.
     pub from: u64,
-    /// The address behind the last.
+    /// The address after the last.
     pub to: u64,
 }
 
@@ -56,7 +56,11 @@ fn window_of(regions: &Vec<Region>, i: usize, text_at: u64, text_len: u64) -> Wi
     window
 }
 
-/// The windows of all regions.
+/// Makes the windows of all regions.
+///
+/// # Errors
+///
+/// `NoMemory` if memory runs out.
 pub fn windows_of(
     alloc: Global,
     regions: &Vec<Region>,
@@ -87,8 +91,11 @@ fn note(pages: &mut Vec<u8>, window: Window, number: u8) {
     }
 }
 
-/// For each of the first `count` pages of 4,096 bytes the number of a window in which an access is to be looked for
-/// first.
+/// Makes for each of the first `count` pages of 4,096 bytes the number of the window in which an access is looked for first.
+///
+/// # Errors
+///
+/// `NoMemory` if memory runs out.
 pub fn pages_of(alloc: Global, windows: &Vec<Window>, count: usize) -> Result<Vec<u8>, NoMemory> {
     let mut pages = vec![in alloc; 0; count]?;
     for i in 0..windows.len() {
@@ -99,7 +106,7 @@ pub fn pages_of(alloc: Global, windows: &Vec<Window>, count: usize) -> Result<Ve
     Ok(pages)
 }
 
-/// The number that the page has of a window, where all the `n` bytes from the address are in that window.
+/// The number of the window of the address's page, where all the `n` bytes from the address on are in that window.
 #[inline(always)]
 pub fn find_window(pages: &Vec<u8>, windows: &Vec<Window>, at: u64, n: u32) -> Option<usize>
     ensures { IfSome result (HasWindow windows.now.items at n) }
