@@ -8,7 +8,11 @@ use Rattle.rv_word.specs.Plain.{Words}
 
 abbrev pub prog_code : Coded Prog
 prog_code =
-    code_by (Memory × (List (Option ℕ) × List ℕ)) (coded× memory_code (coded× (coded_list (coded_option coded_ℕ)) (coded_list coded_ℕ))) (λ p. (p.mem, (p.resv, p.out))) (λ t. record { mem = t.0; resv = t.1.0; out = t.1.1 }) (λ _. refl)
+    code_by (Memory × (List (Option ℕ) × List ℕ))
+    (coded× memory_code (coded× (coded_list (coded_option coded_ℕ)) (coded_list coded_ℕ)))
+    (λ p. (p.mem, (p.resv, p.out)))
+    (λ t. record { mem = t.0; resv = t.1.0; out = t.1.1 })
+    (λ _. refl)
 
 abbrev pub words_code : Coded Words
 words_code =

@@ -28,7 +28,7 @@ fn atomic_width(width: AtomicWidth) -> u32
     }
 }
 
-/// What an atomic access answers for the number in its bytes.
+/// What an atomic access puts into rd for the number in its bytes.
 fn answer(width: AtomicWidth, n: u64) -> u64
     requires { n < 256 ^ atomic_len width }
     ensures { result ≡ answered width n }
@@ -87,7 +87,8 @@ fn read(width: AtomicWidth, at: u64, mem: &Mem) -> Result<u64, Cause>
     ensures aligned { IfOk result (λ n. at % atomic_len width ≡ 0) }
     ensures value { IfOk result (λ n. load (atomic_len width) mem.now at ≡ Ok n) }
     ensures bound { IfOk result (λ n. n < 256 ^ atomic_len width) }
-    ensures refused { IfErr result (λ cause. (resv : List (Option ℕ)) (out : List ℕ) (f : ℕ → Outcome) → atomic width at (prog_of mem.now resv out) f ≡ Stops cause (prog_of mem.now resv out)) }
+    ensures refused { IfErr result (λ cause. (resv : List (Option ℕ)) (out : List ℕ) (f : ℕ → Outcome)
+        → atomic width at (prog_of mem.now resv out) f ≡ Stops cause (prog_of mem.now resv out)) }
 {
     let n = atomic_width(width);
     if at % n as u64 != 0 {
@@ -99,7 +100,7 @@ fn read(width: AtomicWidth, at: u64, mem: &Mem) -> Result<u64, Cause>
     }
 }
 
-/// An LR. It answers the number at the address.
+/// An LR. Returns the number at the address.
 #[tactic(auto, unfolding(rv_word::specs::Exec::perform))]
 fn load_reserved(
     width: AtomicWidth,
@@ -110,14 +111,16 @@ fn load_reserved(
 ) -> Result<u64, Cause>
     requires { hart < length resv.old }
     ensures harts { length resv.new ≡ length resv.old }
-    ensures value { (rd pc : ℕ) (regs out : List ℕ) → done (perform hart (LoadReserved width rd at) pc regs (prog_of mem.now resv.old out)) regs ≡ answering result rd pc regs (prog_of mem.now resv.new out) }
+    ensures value { (rd pc : ℕ) (regs out : List ℕ)
+        → done (perform hart (LoadReserved width rd at) pc regs (prog_of mem.now resv.old out)) regs
+        ≡ answering result rd pc regs (prog_of mem.now resv.new out) }
 {
     let old = read(width, at, mem)?;
     resv.set(hart, Some(at / 8));
     Ok(answer(width, old))
 }
 
-/// An SC. It clears the hart's reservation, also where it stops. It answers 0 where it stored, and 1 where the hart had no
+/// An SC. It clears the hart's reservation, also where it stops. Returns 0 where it stored, and 1 where the hart had no
 /// reservation.
 #[tactic(auto, unfolding(rv_word::specs::Exec::perform))]
 fn store_conditional(
@@ -130,7 +133,9 @@ fn store_conditional(
 ) -> Result<u64, Cause>
     requires { hart < length resv.old }
     ensures harts { length resv.new ≡ length resv.old }
-    ensures value { (rd pc : ℕ) (regs out : List ℕ) → done (perform hart (StoreConditional width rd at value) pc regs (prog_of mem.old resv.old out)) regs ≡ answering result rd pc regs (prog_of mem.new resv.new out) }
+    ensures value { (rd pc : ℕ) (regs out : List ℕ)
+        → done (perform hart (StoreConditional width rd at value) pc regs (prog_of mem.old resv.old out)) regs
+        ≡ answering result rd pc regs (prog_of mem.new resv.new out) }
 {
     let has_reserved = resv.has(hart, at / 8);
     resv.set(hart, None);
@@ -147,7 +152,7 @@ fn store_conditional(
     }
 }
 
-/// An AMO. It answers the number that was at the address.
+/// An AMO. Returns the number that was at the address.
 #[tactic(auto, unfolding(rv_word::specs::Exec::perform))]
 fn amo(
     op: AmoOp,
@@ -160,7 +165,9 @@ fn amo(
 ) -> Result<u64, Cause>
     requires { hart < length resv.old }
     ensures harts { length resv.new ≡ length resv.old }
-    ensures value { (rd pc : ℕ) (regs out : List ℕ) → done (perform hart (AtomicAccess op width rd at value) pc regs (prog_of mem.old resv.old out)) regs ≡ answering result rd pc regs (prog_of mem.new resv.new out) }
+    ensures value { (rd pc : ℕ) (regs out : List ℕ)
+        → done (perform hart (AtomicAccess op width rd at value) pc regs (prog_of mem.old resv.old out)) regs
+        ≡ answering result rd pc regs (prog_of mem.new resv.new out) }
 {
     let old = read(width, at, mem)?;
     match mem.store(at, atomic_width(width), amo_result(op, width, old, value)) {
@@ -172,7 +179,7 @@ fn amo(
     }
 }
 
-/// Puts the answer into rd, or notes the cause of a stop. It answers the next pc.
+/// Puts the value into rd, or notes the cause of a stop. Returns the next pc.
 fn put_answer(
     answer: Result<u64, Cause>,
     rd: u32,
@@ -196,7 +203,7 @@ fn put_answer(
     }
 }
 
-/// Executes an atomic access at pc. It answers the next pc, or notes the cause for which the hart stops.
+/// Executes an atomic access at pc. Returns the next pc, and notes the cause if the hart stops.
 #[inline(never)]
 #[tactic(auto, unfolding(rv_word::specs::Exec::action))]
 pub fn access(
@@ -213,7 +220,8 @@ pub fn access(
     requires hart { hart < length resv.old }
     requires stop { stop.old ≡ None }
     ensures harts { length resv.new ≡ length resv.old }
-    ensures state { (out : List ℕ) → Gives (exec_decoded (instr_of flat.now) pc hart) (state_from regs.old mem.old resv.old out) (next_after stop.new result) (state_from regs.new mem.new resv.new out) }
+    ensures state { (out : List ℕ) → Gives (exec_decoded (instr_of flat.now) pc hart)
+        (state_from regs.old mem.old resv.old out) (next_after stop.new result) (state_from regs.new mem.new resv.new out) }
 {
     match *flat {
         Flat::Lr(width, rd, rs1, _) => {

@@ -11,7 +11,7 @@ use crate::regs::Regs;
 use rv_mem::Mem;
 use rv_word::{Cause, MemStop};
 
-/// The answer -n.
+/// The number -n.
 fn minus(n: u64) -> u64
     requires { (1 ≤ n) × (n ≤ 100) }
     ensures { result ≡ minus n }
@@ -19,7 +19,7 @@ fn minus(n: u64) -> u64
     u64::MAX - (n - 1)
 }
 
-/// Appends n bytes to the output, and says what the call answers, or the address in text where it stops.
+/// Appends n bytes to the output. Returns what the call returns, or the address in text where it stops.
 fn write_bytes(at: u64, n: u32, mem: &Mem, out: &mut Output) -> Result<u64, u64>
     requires { n ≤ 4096 }
     ensures { written_is (bytes_at n mem.now at) out.old ≡ (result, out.new) }
@@ -38,7 +38,7 @@ fn write_bytes(at: u64, n: u32, mem: &Mem, out: &mut Output) -> Result<u64, u64>
     }
 }
 
-/// Appends at most 4,096 of the bytes.
+/// Appends the bytes to the output, at most 4,096 of them. Returns what the call returns, or the address in text where it stops.
 fn write(at: u64, len: u64, mem: &Mem, out: &mut Output) -> Result<u64, u64>
     ensures { written_is (bytes_at (min len 4096) mem.now at) out.old ≡ (result, out.new) }
 {
@@ -49,11 +49,12 @@ fn write(at: u64, len: u64, mem: &Mem, out: &mut Output) -> Result<u64, u64>
     }
 }
 
-/// A call of the system, by its number in a7. It answers the next pc, or notes the cause for which the hart stops.
+/// Calls the system, by the number in a7. Returns the next pc, and notes the cause if the hart stops.
 #[inline(never)]
 pub fn call(pc: u64, stop: &mut Option<Cause>, regs: &mut Regs, mem: &Mem, out: &mut Output) -> u64
     requires { stop.old ≡ None }
-    ensures { (resv : List (Option ℕ)) → Gives (system_call pc) (state_from regs.old mem.now resv out.old) (next_after stop.new result) (state_from regs.new mem.now resv out.new) }
+    ensures { (resv : List (Option ℕ)) → Gives (system_call pc)
+        (state_from regs.old mem.now resv out.old) (next_after stop.new result) (state_from regs.new mem.now resv out.new) }
 {
     let number = regs.get(17);
     let first = regs.get(10);

@@ -1,9 +1,11 @@
+//! Why a hart stops, and where it goes on.
+
 ghost use Rattle.std.specs.Prelude.{◌≡◌};
 ghost use Rattle.rv_word.specs.Exec.{stop_of, next};
 
 use rv_word::{Cause, MemStop};
 
-/// Why the hart stops where memory refuses.
+/// The cause for which a hart stops where memory refuses an access.
 pub fn cause_of(stop: MemStop) -> Cause
     ensures { result ≡ stop_of stop }
 {
@@ -13,7 +15,7 @@ pub fn cause_of(stop: MemStop) -> Cause
     }
 }
 
-/// The address behind the word.
+/// The address of the next word.
 pub fn next_pc(pc: u64) -> u64
     ensures { result ≡ next pc }
 {

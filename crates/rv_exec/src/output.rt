@@ -1,3 +1,5 @@
+//! What a program writes.
+
 ghost use Rattle.std.specs.Prelude.{◌≡◌, ◌≤◌, ◌+◌, ◌++◌, [], IfOk, IsOk, length};
 ghost use Rattle.rv_word.specs.Memory.{bytes_at};
 
@@ -29,6 +31,10 @@ impl Model for Output {
 
 impl Output {
     /// An empty output, which takes all its memory now.
+    ///
+    /// # Errors
+    ///
+    /// `NoMemory` if memory runs out.
     pub fn new(alloc: Global) -> Result<Output, NoMemory>
         ensures { IfOk result (λ o. o ≡ []) }
     {

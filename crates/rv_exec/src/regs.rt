@@ -1,3 +1,5 @@
+//! The registers of a hart.
+
 ghost use Rattle.std.specs.Prelude.{◌≡◌, ◌<◌, replicate};
 ghost use Rattle.rv_word.specs.Registers.{reg, with_reg};
 ghost use Rattle.rv_mem.specs.Start.{heap_len, stack_len};
@@ -31,7 +33,7 @@ impl Regs {
         Regs { x: [0; 32] }
     }
 
-    /// The registers with which a hart of so many starts.
+    /// The registers with which hart `number` of `harts` starts.
     pub fn first(number: u32, harts: u32) -> Regs
         requires { number < MAX_HARTS }
         ensures { result ≡ start_regs number harts }
@@ -39,7 +41,7 @@ impl Regs {
         first_regs(number, harts, HEAP_LEN as u32, STACK_LEN as u32)
     }
 
-    /// What register r holds; x0 holds 0.
+    /// Returns what register r holds; x0 holds 0.
     #[tactic(auto, unfolding(rv_word::specs::Registers::reg))]
     pub fn get(&self, r: u32) -> u64
         requires { r < 32 }

@@ -1,3 +1,5 @@
+//! The reservations of all harts.
+
 ghost use Rattle.std.specs.Prelude.{◌≡◌, ◌<◌, ◌≤◌, replicate, IfOk, Option, Some, None, length, slice_set, slice_get, false};
 ghost use Rattle.rv_exec.specs.Unreserved.{AreFree};
 ghost use Rattle.rv_word.specs.Exec.{broken, has, left_of};
@@ -49,7 +51,11 @@ fn has_some(of: &Vec<Option<u64>>) -> bool
 }
 
 impl Reservations {
-    /// No reservation of any of so many harts.
+    /// No reservation of any of this number of harts.
+    ///
+    /// # Errors
+    ///
+    /// `NoMemory` if memory runs out.
     pub fn new(alloc: Global, harts: u32) -> Result<Reservations, NoMemory>
         requires { harts ≤ MAX_HARTS }
         ensures { IfOk result (λ r. r ≡ replicate harts None) }

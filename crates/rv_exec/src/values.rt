@@ -21,6 +21,7 @@ pub fn low_word_of(x: u64) -> u64
     (low.cast_signed() as i64).cast_unsigned()
 }
 
+/// What an operation on a register and an immediate computes.
 pub fn imm_result(op: ImmOp, x: u64, y: u64) -> u64
     ensures { result ≡ imm_value op x y }
 {
@@ -34,6 +35,7 @@ pub fn imm_result(op: ImmOp, x: u64, y: u64) -> u64
     }
 }
 
+/// What a shift by a number of bits below 64 computes.
 pub fn shift_result(op: ShiftOp, x: u64, by: u32) -> u64
     requires { by < 64 }
     ensures { result ≡ shift_value op x by }
@@ -45,6 +47,7 @@ pub fn shift_result(op: ShiftOp, x: u64, by: u32) -> u64
     }
 }
 
+/// What a shift of the low half by a number of bits below 32 computes.
 pub fn shift_word_result(op: ShiftOp, x: u64, by: u32) -> u64
     requires { by < 32 }
     ensures { result ≡ shift_word_value op x by }
@@ -73,6 +76,7 @@ fn high_mixed(x: i64, y: u64) -> u64
     ((product >> 64) as i64).cast_unsigned()
 }
 
+/// What an operation on two registers computes.
 pub fn reg_result(op: RegOp, x: u64, y: u64) -> u64
     ensures { result ≡ reg_value op x y }
 {
@@ -120,7 +124,7 @@ fn signed_quotient(dividend: u32, divisor: u32) -> u32
         .cast_unsigned()
 }
 
-/// The same on the low halves.
+/// What an operation on the low halves of two registers computes.
 pub fn reg_32_result(op: RegOp32, x: u64, y: u64) -> u64
     ensures { result ≡ reg_32_value op x y }
 {
@@ -150,6 +154,7 @@ pub fn reg_32_result(op: RegOp32, x: u64, y: u64) -> u64
     }
 }
 
+/// Whether a branch is taken.
 pub fn is_taken(op: BranchOp, x: u64, y: u64) -> bool
     ensures { result ≡ taken op x y }
 {
@@ -163,6 +168,7 @@ pub fn is_taken(op: BranchOp, x: u64, y: u64) -> bool
     }
 }
 
+/// How many bytes a load reads.
 pub fn load_width(op: LoadOp) -> u32
     ensures { result ≡ load_len op }
 {
@@ -174,6 +180,7 @@ pub fn load_width(op: LoadOp) -> u32
     }
 }
 
+/// How many bytes a store writes.
 pub fn store_width(op: StoreOp) -> u32
     ensures { result ≡ store_len op }
 {
