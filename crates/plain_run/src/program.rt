@@ -1,3 +1,5 @@
+//! The program's words.
+
 ghost use Rattle.std.specs.Prelude.{◌≡◌, ℕ, List, ◌<◌, ◌≤◌, ◌+◌, ◌*◌, ◌^◌, Some, None, IfOk, length};
 ghost use Rattle.rv_word.specs.Names.{words_of};
 ghost use Rattle.rv_word.specs.Plain.{program_word};
@@ -7,7 +9,11 @@ use rv_exec::Decoded;
 use rv_word::split_word;
 use std::alloc::Global;
 
-/// The words of the text, each with its instruction.
+/// Decodes the words of the text.
+///
+/// # Errors
+///
+/// `NoMemory` if memory runs out.
 pub fn words(alloc: Global, text: &[u8]) -> Result<Vec<Decoded>, NoMemory>
     ensures { IfOk result (λ words. words.items ≡ words_of text.now) }
 {
@@ -22,8 +28,8 @@ pub fn words(alloc: Global, text: &[u8]) -> Result<Vec<Decoded>, NoMemory>
 }
 
 /// The number of the word at the pc, if the text has one there, and else a number that is too great. The distance from the
-/// text's begin is turned by two bits, so that one that is no multiple of 4, or is below 0, is great, and one test finds
-/// all of these.
+/// beginning of the text is rotated by two bits: one that is below 0 or no multiple of 4 becomes great, so that one test finds all
+/// of these.
 #[inline(always)]
 pub fn place_of(text_at: u64, pc: u64) -> u64
     ensures place { (len : ℕ) → text_at + 4 * len < 2 ^ 64 → result < len → pc ≡ text_at + 4 * result }
