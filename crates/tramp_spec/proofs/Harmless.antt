@@ -1,4 +1,4 @@
--- Harmless bodies behind each other, and behind guards.
+-- Harmless bodies one after another, and after guards.
 use Rattle.std.proofs.Common.{◌≡◌, ℕ, zero, suc, ◌+◌, ◌*◌, List, [], ◌∷◌, ◌++◌, length, refl, sym, ap, ◌∙◌, subst, arith, inl, inr, length-append}
 use Rattle.std.specs.Prelude.{slice_index, ◌⊎◌}
 use Rattle.tramp_spec.specs.Steps.{Bench}

@@ -24,7 +24,7 @@ pub leaves_by : (to j w home : ℕ) (moved : List MarkedWord) → slice_get move
 leaves_by to j w home moved e h a = (w, home, e, target_is (to + 4 * j) home w h, λ x ticks. hop_steps 0 w ticks (to + 4 * j) home x h a)
 
 module _ (point to : ℕ) (pa : point % 4 ≡ 0) (ta : to % 4 ≡ 0) (lo : point < 0x60000000) (be : point < to) (near : to ≤ point + 1048000) where
-  -- the jump back behind the word
+  -- the jump back after the word
   pub back : (j : ℕ) → j ≤ 2 → Hops (to + 4 * j) (point + 4) (jump_word (to + 4 * j) (point + 4))
   back j l = jump_hops (to + 4 * j) (point + 4) (omega arith) (omega arith) (omega arith) (omega arith) (omega arith) (omega arith)
 

@@ -1,4 +1,4 @@
--- A word behind which stands the jump back.
+-- A word that the jump back follows.
 use Rattle.std.proofs.Common.{◌≡◌, ℕ, zero, suc, ◌+◌, ◌*◌, ◌%◌, ◌<◌, ◌≤◌, List, Option, Some, None, refl, ap, sym, ◌∙◌, subst, arith, inr}
 use Rattle.std.specs.Prelude.{true, false}
 use Rattle.rv_word.specs.Names.{names}
@@ -15,7 +15,7 @@ use Rattle.tramp_spec.proofs.Outcomes.{to_step}
 use Rattle.tramp_spec.proofs.MovedPlaces.{next_point, Leaves, leaves_by, back}
 
 module _ (point to : ℕ) (pa : point % 4 ≡ 0) (ta : to % 4 ≡ 0) (lo : point < 0x60000000) (be : point < to) (near : to ≤ point + 1048000) where
-  -- a word behind which stands the jump back
+  -- a word that the jump back follows
   module _ (word : ℕ) where
     plain_leaves : (j : ℕ) → 0 < j → j < 2 → Leaves to j (moved_plain word (point + 4) (to + 4))
     plain_leaves zero l m = absurd (omega arith)

@@ -41,7 +41,7 @@ pub addiw_decoded : (r v ticks at : ℕ) (x : Bench) → step_decoded bank_len (
 unfolding action perform_on
 addiw_decoded r v ticks at x = refl
 
--- behind the lui
+-- after the lui
 pub addiw_steps : (r n ticks at : ℕ) (x : Bench) → r < 32 → (r == 0) ≡ false → length x.regs ≡ 32 → extended 32 (n % 2 ^ 32) ≡ n
     → step_on bank_len (word_of (Addiw r r (lower n))) ticks at (with_value x r (upper n)) ≡ Ok (stand (next at) (with_value (with_value x r (upper n)) r n))
 addiw_steps r n ticks at x l z size e =

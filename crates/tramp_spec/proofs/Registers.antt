@@ -1,4 +1,4 @@
--- Registers that are read behind a write. Premises compute at numerals, so that `simp registers` needs no more than the length.
+-- Registers that are read after a write. Premises compute at numerals, so that `simp registers` needs no more than the length.
 use Rattle.std.proofs.Common.{◌≡◌, ◌≢◌, ℕ, ◌<◌, List, length, get_or, set, refl, ap, sym, arith, ◌∙◌, ⊎_elim}
 use Rattle.std.specs.Prelude.{◌==◌, nat_lt, true, false}
 use Rattle.std.proofs.lemmas.Bool.{cond-false, ltb-true, ne_eqb, cases_lt}
@@ -36,7 +36,7 @@ pub with_zero : (regs : List ℕ) (v : ℕ) → with_reg regs 0 v ≡ regs
 unfolding with_reg
 with_zero regs v = refl
 
--- registers that agree below 31 do so behind a write
+-- registers that agree below 31 do so after a write
 pub agree_with : (a b : List ℕ) (r v : ℕ) → length a ≡ length b → Agree a b → Agree (with_reg a r v) (with_reg b r v)
 unfolding reg with_reg
 agree_with a b r v e h q l = let p = h q l in grind (arith, common_steps)

@@ -127,7 +127,7 @@ harmless body f t d = record { tools = t; safe = λ at ticks x s. let r = d at t
 pub leaves : (body : List MarkedWord) (f : Effect) → Does body f → (at ticks : ℕ) (x : Bench) → Stands body at x → finished body at x ticks ≡ f ticks (arguments_of x.regs) x.bank
 leaves body f d at ticks x s = let r = d at ticks x s in finish_of body at ticks x r.0 r.1 ∙ r.2
 
--- the second body, behind a run of the first words
+-- the second body, after a run of the first words
 pub goes_on : (a b : List MarkedWord) (f : Effect) → Does b f → (at ticks : ℕ) (x z : Bench) → Stands (a ++ b) at x → Route (a ++ b) at ticks 0 (length a) x z
     → (y : Bench) × Route (a ++ b) at ticks 0 (length (a ++ b)) x y × (y.bank ≡ f ticks (arguments_of x.regs) z.bank)
 goes_on a b f d at ticks x z s r =

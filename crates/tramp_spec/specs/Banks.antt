@@ -17,7 +17,7 @@ first_slot = FIRST_SLOT
 abbrev pub bank_at : ℕ → List ℕ → ℕ → ℕ
 bank_at ticks bank n = if n == 0 then ticks else slice_index bank n
 
--- the bank behind a store to doubleword n; one to doubleword 0 changes nothing
+-- the bank after a store to doubleword n; one to doubleword 0 changes nothing
 abbrev pub set_bank : List ℕ → ℕ → ℕ → List ℕ
 set_bank bank n v = if n == 0 then bank else slice_set bank n v
 

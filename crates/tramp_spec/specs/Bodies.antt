@@ -16,7 +16,7 @@ pub record Keeps (x y : Bench) : Type 0 where
   pub size : length y.regs ≡ length x.regs
   pub room : length y.bank ≡ length x.bank
 
--- the turn at word i of a body that stands at `at` goes forward to word j, or to the word behind the last
+-- the turn at word i of a body that stands at `at` goes forward to word j, or to the word after the last
 pub record Leap (body : List MarkedWord) (at ticks i : ℕ) (x : Bench) (j : ℕ) (y : Bench) : Type 0 where
   pub word : ℕ
   pub here : slice_get body i ≡ Some (tool word)
@@ -25,7 +25,7 @@ pub record Leap (body : List MarkedWord) (at ticks i : ℕ) (x : Bench) (j : ℕ
   pub step : step_on bank_len word ticks (at + 4 * i) x ≡ Ok (stand (at + 4 * j) y)
   pub keeps : Keeps x y
 
--- from word i on the body comes to its end in at most so many turns, and does no harm
+-- from word i on the body comes to its end in at most this many turns, and does no harm
 abbrev pub Safe : ℕ → List MarkedWord → (at i : ℕ) → Bench → ℕ → Type 0
 Safe zero body at i x ticks = i ≡ length body
 Safe (suc most) body at i x ticks = (i ≡ length body) ⊎ ((j : ℕ) × (y : Bench) × Leap body at ticks i x j y × Safe most body at j y ticks)
@@ -57,11 +57,12 @@ abbrev pub at_word : Option MarkedWord → List ℕ → (ℕ → List ℕ) → L
 at_word None bank go = bank
 at_word (Some w) bank go = go w.word
 
--- the bank behind at most so many turns from word i on
+-- the bank after at most this many turns from word i on
 abbrev pub finish : ℕ → List MarkedWord → (at i : ℕ) → Bench → ℕ → List ℕ
 finish zero body at i x ticks = x.bank
 finish (suc most) body at i x ticks =
-    at_word (slice_get body i) x.bank (λ word. if_stood (step_on bank_len word ticks (at + 4 * i) x) x.bank (λ s. finish most body at ((s.pc - at) / 4) s.bench ticks))
+    at_word (slice_get body i) x.bank
+    (λ word. if_stood (step_on bank_len word ticks (at + 4 * i) x) x.bank (λ s. finish most body at ((s.pc - at) / 4) s.bench ticks))
 
 -- The bank at the end of the body.
 abbrev pub finished : List MarkedWord → ℕ → Bench → ℕ → List ℕ

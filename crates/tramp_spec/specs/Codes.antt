@@ -26,7 +26,7 @@ text_code program = from_entries (text_entries program.at program.words)
 abbrev pub tool_at : Words → ℕ
 tool_at program = (program.at + 4 * length program.words + 4095) / 4096 * 4096
 
--- the address of a word of so many bytes from `at` on
+-- whether a is the address of a word among the `len` bytes from `at` on
 abbrev pub is_word_of : ℕ → ℕ → ℕ → Bool
 is_word_of at len a = in_range at len a && ((a - at) % 4 == 0)
 

@@ -33,7 +33,7 @@ stopped x home cause = record x { pc = home; stop = Some cause; inside = false }
 abbrev pub ticked : Hart → Hart
 ticked x = record x { ticks = x.ticks + 1 }
 
--- behind a word of the program
+-- after a word of the program
 abbrev pub own_hart : Next → List ℕ → ℕ → ℕ → Hart → Hart
 own_hart (Go pc) regs word home x = record x { pc = pc; regs = regs; inside = inside_after Own word x.inside }
 own_hart (Stop cause) regs word home x = stopped x home cause
@@ -41,16 +41,21 @@ own_hart (Stop cause) regs word home x = stopped x home cause
 abbrev pub own_step : Done → ℕ → ℕ → Hart → Solo
 own_step d word home x = record { hart = ticked (own_hart d.next d.regs word home x); prog = d.prog }
 
--- behind another word
+-- after another word
 abbrev pub other_hart : Result Stood Cause → Mark → ℕ → ℕ → Hart → Hart
-other_hart (Ok s) mark word home x = record x { pc = s.pc; regs = s.bench.regs; bank = s.bench.bank; inside = inside_after mark word x.inside }
+other_hart (Ok s) mark word home x =
+    record x { pc = s.pc; regs = s.bench.regs; bank = s.bench.bank; inside = inside_after mark word x.inside }
 other_hart (Err cause) mark word home x = stopped x home cause
 
 abbrev pub bench_of : Hart → Bench
 bench_of x = record { regs = x.regs; bank = x.bank }
 
 abbrev pub other_step : Mark → ℕ → ℕ → Solo → Solo
-other_step mark word home s = record { hart = other_hart (step_on (reach_of mark) word s.hart.ticks s.hart.pc (bench_of s.hart)) mark word home s.hart; prog = s.prog }
+other_step mark word home s =
+    record {
+      hart = other_hart (step_on (reach_of mark) word s.hart.ticks s.hart.pc (bench_of s.hart)) mark word home s.hart;
+      prog = s.prog;
+    }
 
 abbrev pub marked_step : Mark → ℕ → ℕ → ℕ → Solo → Solo
 marked_step Own word h home s = own_step (done (exec_of word s.hart.pc h s.hart.regs s.prog) s.hart.regs) word home s.hart

@@ -42,7 +42,7 @@ jumps None = false
 abbrev pub is_jump : ℕ → Bool
 is_jump word = jumps (decode_of word)
 
--- Whether a hart is inside behind the word: a jump of the program leaves, Enter enters, Tool stays, Leave leaves.
+-- Whether a hart is inside after the word: a jump of the program leaves, Enter enters, Tool stays, Leave leaves.
 abbrev pub inside_after : Mark → ℕ → Bool → Bool
 inside_after Own word inside = inside && not (is_jump word)
 inside_after Enter word inside = true

@@ -36,7 +36,8 @@ moved_jalr rd rs1 offset next = tools (OpImm Addi 31 rs1 offset ∷ put_number r
 
 -- a branch
 abbrev pub moved_branch : BranchOp → (rs1 rs2 target next second third : ℕ) → List MarkedWord
-moved_branch op rs1 rs2 target next second third = own (word_of (Branch op rs1 rs2 8)) ∷ leave (jump_word second next) ∷ leave (jump_word third target) ∷ []
+moved_branch op rs1 rs2 target next second third =
+    own (word_of (Branch op rs1 rs2 8)) ∷ leave (jump_word second next) ∷ leave (jump_word third target) ∷ []
 
 -- any other word, also one that is no instruction
 abbrev pub moved_plain : ℕ → ℕ → ℕ → List MarkedWord
@@ -53,11 +54,13 @@ if_movable test words = if test then Some words else None
 
 -- the word at p, by its instruction
 abbrev pub moved_with : Option Instr → (word p next to second third : ℕ) → Option (List MarkedWord)
-moved_with (Some (Auipc rd imm)) word p next to second third = if_movable (is_signed_word (wrap (p + imm))) (moved_auipc rd (wrap (p + imm)) next third)
+moved_with (Some (Auipc rd imm)) word p next to second third =
+    if_movable (is_signed_word (wrap (p + imm))) (moved_auipc rd (wrap (p + imm)) next third)
 moved_with (Some (Jal rd offset)) word p next to second third =
     if rd == 0 then if_movable (is_target to (wrap (p + offset))) (moved_jump (wrap (p + offset)) to)
     else if_movable (is_target third (wrap (p + offset))) (moved_jal rd (wrap (p + offset)) next third)
-moved_with (Some (Jalr rd rs1 offset)) word p next to second third = if rd == 0 then Some (own word ∷ []) else Some (moved_jalr rd rs1 offset next)
+moved_with (Some (Jalr rd rs1 offset)) word p next to second third =
+    if rd == 0 then Some (own word ∷ []) else Some (moved_jalr rd rs1 offset next)
 moved_with (Some (Branch op rs1 rs2 offset)) word p next to second third =
     if_movable (is_target third (wrap (p + offset))) (moved_branch op rs1 rs2 (wrap (p + offset)) next second third)
 moved_with (Some i) word p next to second third = Some (moved_plain word next second)

@@ -19,12 +19,13 @@ pub record Alike (a b : List ℕ) : Type 0 where
   pub first : length a ≡ 32
   pub second : length b ≡ 32
 
--- Behind the tick, the moved word of number `place`, the moved words lead to where the word itself leads: at once where the tick
--- jumps, else by a Leave word.
+-- After the tick, which is the moved word of number `place`, the moved words lead to where the word itself leads: at once where
+-- the tick jumps, else by a Leave word.
 abbrev pub LeadsHome : Bool → ℕ → ℕ → List MarkedWord → ℕ → ℕ → Type 0
 LeadsHome jumped place to moved pc home =
     ((jumped ≡ true) × (pc ≡ home))
-    ⊎ ((jumped ≡ false) × (j : ℕ) × (left : ℕ) × (place < j) × (j < length moved) × (pc ≡ to + 4 * j) × (slice_get moved j ≡ Some (leave left)) × (jump_of (decode_of left) (to + 4 * j) ≡ Some home))
+    ⊎ ((jumped ≡ false) × (j : ℕ) × (left : ℕ) × (place < j) × (j < length moved) × (pc ≡ to + 4 * j)
+    × (slice_get moved j ≡ Some (leave left)) × (jump_of (decode_of left) (to + 4 * j) ≡ Some home))
 
 -- the tick at its place, and the program's word at its own, lead to the same
 abbrev pub SameStep : Bool → ℕ → ℕ → List MarkedWord → Outcome → Outcome → Type 0
@@ -45,21 +46,24 @@ pub record MovesBy (place : ℕ) (rebuilds : ℕ → Option ℕ) (jumped : Bool)
   -- the words before the tick are the tool's, and change registers alone
   pub silent : (j : ℕ) → j < place → (w : ℕ) × (slice_get moved j ≡ Some (tool w))
       × ((regs bank : List ℕ) (ticks : ℕ) → length regs ≡ 32
-      → step_on bank_len w ticks (to + 4 * j) (bench (before j regs) bank) ≡ Ok (stand (to + 4 * (j + 1)) (bench (before (j + 1) regs) bank)))
+      → step_on bank_len w ticks (to + 4 * j) (bench (before j regs) bank)
+      ≡ Ok (stand (to + 4 * (j + 1)) (bench (before (j + 1) regs) bank)))
   pub like : (j k : ℕ) (regs : List ℕ) → j ≤ place → 0 < k → k < 31 → rebuilds j ≢ Some k → reg (before j regs) k ≡ reg regs k
   -- the tick does what the program's word does
   pub tick : (w : ℕ) × (slice_get moved place ≡ Some (own w)) × (is_jump w ≡ jumped)
       × ((regs others : List ℕ) (h : ℕ) (p : Prog) → Alike regs others
       → SameStep jumped place to moved (exec_of w (to + 4 * place) h (before place regs) p) (exec_of word point h others p))
-  -- the words behind it are jumps back to the program
-  pub leaves : (j : ℕ) → place < j → j < length moved → (w home : ℕ) × (slice_get moved j ≡ Some (leave w)) × (jump_of (decode_of w) (to + 4 * j) ≡ Some home)
+  -- the words after it are jumps back to the program
+  pub leaves : (j : ℕ) → place < j → j < length moved
+      → (w home : ℕ) × (slice_get moved j ≡ Some (leave w)) × (jump_of (decode_of w) (to + 4 * j) ≡ Some home)
       × ((x : Bench) (ticks : ℕ) → step_on 0 w ticks (to + 4 * j) x ≡ Ok (stand home x))
 
 abbrev pub Moves : ℕ → ℕ → ℕ → List MarkedWord → Type 0
 Moves word = MovesBy (own_place word) (rebuilt word) (is_jump word) word
 
--- Each word of 32 bits that doesn't name x31 moves, from the text to the tool text behind it, where it can be moved at all.
+-- Each word of 32 bits that doesn't name x31 moves, from the text to the tool text after it, where it can be moved at all.
 abbrev pub WordsMove : Type 0
 WordsMove =
-    (word point to : ℕ) (moved : List MarkedWord) → has_scratch word ≡ false → word < 2 ^ 32 → point % 4 ≡ 0 → to % 4 ≡ 0 → point < 0x60000000 → point < to → to ≤ point + 1048000
+    (word point to : ℕ) (moved : List MarkedWord) → has_scratch word ≡ false → word < 2 ^ 32 → point % 4 ≡ 0 → to % 4 ≡ 0
+    → point < 0x60000000 → point < to → to ≤ point + 1048000
     → moved_of word point to ≡ Some moved → Moves word point to moved

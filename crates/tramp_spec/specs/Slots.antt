@@ -28,7 +28,8 @@ IsSlotOf ps q = (n : ℕ) × (p : VariableSlot) × (slice_get ps n ≡ Some p) �
 -- the places are slots, and no two share one
 pub record ArePlaces (ps : List VariableSlot) : Type 0 where
   pub within : (n : ℕ) (p : VariableSlot) → slice_get ps n ≡ Some p → (first_slot ≤ p.slot) × (p.slot + width p ≤ bank_len)
-  pub apart : (n m : ℕ) (p q : VariableSlot) → slice_get ps n ≡ Some p → slice_get ps m ≡ Some q → (n ≡ m → ⊥) → (p.slot + width p ≤ q.slot) ⊎ (q.slot + width q ≤ p.slot)
+  pub apart : (n m : ℕ) (p q : VariableSlot) → slice_get ps n ≡ Some p → slice_get ps m ≡ Some q → (n ≡ m → ⊥)
+      → (p.slot + width p ≤ q.slot) ⊎ (q.slot + width q ≤ p.slot)
 
 -- no slot is of both
 abbrev pub ShareNone : List VariableSlot → List VariableSlot → Type 0
@@ -63,6 +64,6 @@ abbrev pub read_first : List VariableSlot → ℕ → List ℕ → ℕ
 read_first [] ticks bank = 0
 read_first (p ∷ ps) ticks bank = read_place p.timer p.slot ticks bank
 
--- The reading of an instrument off a bank, at so many ticks: that of its first variable, which is the metric's own.
+-- The reading of an instrument off a bank at a number of ticks: that of its first variable, which is the metric's own.
 abbrev pub reading_of : Placed → ℕ → List ℕ → ℕ
 reading_of i ticks bank = read_first (places_of i) ticks bank

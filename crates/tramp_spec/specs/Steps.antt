@@ -17,7 +17,7 @@ pub record Bench : Type 0 where
   pub regs : List ℕ
   pub bank : List ℕ
 
--- where the hart stands behind the word, and with what
+-- where the hart stands after the word, and with what
 pub record Stood : Type 0 where
   pub pc : ℕ
   pub bench : Bench
@@ -44,7 +44,8 @@ perform_on n (Compute rd v) ticks pc x = Ok (stand (next pc) (with_value x rd v)
 perform_on n (Jump rd target) ticks pc x = leads_to target (with_value x rd (next pc))
 perform_on n (BranchTo taken target) ticks pc x = if taken then leads_to target x else Ok (stand (next pc) x)
 perform_on n (ReadMemory op rd at) ticks pc x =
-    if (load_len op == 8) && is_in_bank n at then Ok (stand (next pc) (with_value x rd (bank_at ticks x.bank (at / 8)))) else Err (Access at)
+    if (load_len op == 8) && is_in_bank n at then Ok (stand (next pc) (with_value x rd (bank_at ticks x.bank (at / 8))))
+    else Err (Access at)
 perform_on n (WriteMemory len at v) ticks pc x =
     if (len == 8) && is_in_bank n at then Ok (stand (next pc) (with_doubleword x (at / 8) v)) else Err (Access at)
 perform_on n (LoadReserved width rd at) ticks pc x = Err (Access at)
@@ -58,6 +59,6 @@ abbrev pub step_decoded : ℕ → Option Instr → ℕ → ℕ → Bench → Res
 step_decoded n None ticks pc x = Err Illegal
 step_decoded n (Some i) ticks pc x = perform_on n (asked i pc x.regs) ticks pc x
 
--- The step of a word at pc that reaches n doublewords, by a hart with so many ticks.
+-- The step of a word at pc that reaches n doublewords, by a hart with this number of ticks.
 abbrev pub step_on : ℕ → ℕ → ℕ → ℕ → Bench → Result Stood Cause
 step_on n word ticks pc x = step_decoded n (decode_of word) ticks pc x

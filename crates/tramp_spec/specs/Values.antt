@@ -43,7 +43,7 @@ acted (Stop v) values = slice_set values v (slice_index values v - 1)
 abbrev pub values_behind : Stmt → List ℕ → List ℕ → List ℕ
 values_behind s arguments values = if all_hold s.conds arguments values then acted s.act values else values
 
--- The values behind statements, one after another.
+-- The values after statements, one after another.
 abbrev pub values_after : List Stmt → List ℕ → List ℕ → List ℕ
 values_after [] arguments values = values
 values_after (s ∷ ss) arguments values = values_after ss arguments (values_behind s arguments values)

@@ -1,7 +1,9 @@
+//! Blocks of the tool text.
+
 use crate::mark::MarkedWord;
 use pn_types::Seq;
 
-/// A base block or mini block, as it is to be written into the tool text.
+/// A base block or mini block that is to be written into the tool text.
 #[derive(Drop)]
 pub struct Block {
     /// The address of the program's word for which it stands.

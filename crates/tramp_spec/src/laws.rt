@@ -14,13 +14,13 @@ pub fn code_rows()
     ensures { CodeRows }
 {}
 
-/// Harmless bodies may stand behind each other, and behind guards that lead to them or over them.
+/// Harmless bodies may follow each other, and may follow guards that lead to them or over them.
 pub fn bodies_go_on()
     ensures { BodiesGoOn }
 {}
 
 /// Moved words do what the program's word does at its own place: those before the tick build registers, the tick has the word's
-/// effect, and those behind it lead to where the word itself leads.
+/// effect, and those after it lead to where the word itself leads.
 pub fn words_move()
     ensures { WordsMove }
 {}

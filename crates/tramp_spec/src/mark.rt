@@ -1,8 +1,10 @@
+//! Marked words.
+
 ghost use Rattle.std.specs.Prelude.{◌≡◌};
 ghost use Rattle.tramp_spec.specs.Marks as marks;
 
-/// What a word is for the hart that executes it: whether it is a tick, what its loads and stores reach, and whether the hart
-/// is inside a trampoline afterwards.
+/// What a word is to the hart that executes it: whether it is a tick, what its loads and stores reach, and whether the hart is
+/// inside a trampoline afterwards.
 #[derive(Clone, Copy, PartialEq, Eq, Drop)]
 pub enum Mark {
     /// A word of the program: a tick, over the program's memory. Inside, a jump of it leaves the trampoline.

@@ -1,3 +1,5 @@
+//! Moved words.
+
 ghost use Rattle.std.specs.Prelude.{◌≡◌, ◌<◌, ◌≤◌, length};
 
 use crate::mark::MarkedWord;
