@@ -82,7 +82,7 @@ after_room (s ∷ ss) args values n a l h =
 
 -- ---- the statements of Opens
 
--- at most so many, and narrow
+-- at most this many, and narrow
 pub record Few (most : ℕ) (ss : List Stmt) : Type 0 where
   pub len : length ss ≤ most
   pub narrow : AreNarrow ss

@@ -5,12 +5,12 @@ use Rattle.pn_types.specs.declared.plan.Var.{Var}
 use Rattle.tramp_spec.specs.Slots.{initials}
 use Rattle.frame_walk.specs.declared.changes.Change.{Change}
 
--- the values behind changes
+-- the values after changes
 abbrev pub changed : List ℕ → List Change → List ℕ
 changed values [] = values
 changed values (c ∷ cs) = changed (slice_set values c.variable c.value) cs
 
--- the value that a variable has behind changes
+-- the value that a variable has after changes
 abbrev pub last_of : ℕ → ℕ → List Change → ℕ
 last_of v x [] = x
 last_of v x (c ∷ cs) = last_of v (if c.variable == v then c.value else x) cs

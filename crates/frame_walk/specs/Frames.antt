@@ -8,7 +8,7 @@ use Rattle.frame_walk.specs.declared.frame.Frame.{Frame}
 abbrev pub below : ℕ → ℕ → ℕ
 below a n = (a + (2 ^ 64 - n)) % 2 ^ 64
 
--- the address of the call behind which a return address points
+-- the address of the call that has this return address
 abbrev pub call_before : ℕ → ℕ
 call_before return_address = below return_address 4
 
@@ -49,7 +49,7 @@ unfoldable pub calls : ℕ → Memory → ℕ → List ℕ
 calls zero m fp = []
 calls (suc n) m fp = calls_of (frame_at m fp) m fp (calls n m)
 
--- the call behind which x1 points, unless the first frame has this return address
+-- the call of which x1 has the return address, unless the first frame has that address
 abbrev pub caller_of : Option Frame → ℕ → Option ℕ
 caller_of None ra = Some (call_before ra)
 caller_of (Some f) ra = if f.return_address == ra then None else Some (call_before ra)

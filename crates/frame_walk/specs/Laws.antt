@@ -35,7 +35,8 @@ is_argument (Argument a) = true
 
 -- At an opening a statement with a condition on an argument doesn't act.
 abbrev pub ArgumentsWait : Type 0
-ArgumentsWait = (s : Stmt) (values : List ℕ) → list_any (λ (c : Cond). is_argument c.left) s.conds ≡ true → values_behind s [] values ≡ values
+ArgumentsWait =
+    (s : Stmt) (values : List ℕ) → list_any (λ (c : Cond). is_argument c.left) s.conds ≡ true → values_behind s [] values ≡ values
 
 -- Without Opens the variables begin as they are initially.
 abbrev pub ColdBegins : Type 0

@@ -54,7 +54,7 @@ pub fn call_before(return_address: u64) -> u64
     return_address.wrapping_sub(4)
 }
 
-/// The call behind which the return address in x1 points, unless the first frame has that address.
+/// The call of which x1 has the return address, unless the first frame has that address.
 pub fn caller_of(frame: Option<Frame>, ra: u64) -> Option<u64>
     ensures { result ≡ caller_of frame ra }
 {

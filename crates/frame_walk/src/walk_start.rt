@@ -1,4 +1,6 @@
-/// Where the walk of a hart starts that isn't stopped.
+//! Where walks start.
+
+/// Where the walk starts of a hart that isn't stopped.
 #[derive(Clone, Copy, PartialEq, Eq, Drop)]
 pub struct WalkStart {
     /// Its pc.
