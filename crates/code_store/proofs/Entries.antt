@@ -41,7 +41,7 @@ find_entries (None ∷ xs) at q = find_entries xs (at + 4) q ∙ find_none xs at
 find_entries (Some x ∷ xs) at q =
     ap (λ b. cond b (Some x) (find nat_cmp q (entries_from (at + 4) xs))) (unsigned_tied q at) ∙ ap (cond (nat_eq q at) (Some x)) (find_entries xs (at + 4) q)
 
--- behind a write only its address has changed
+-- after a write only its address has changed
 set_first : {A : Type 0} (x v r : Option A) (b : Bool) → cond b v r ≡ cond b v (cond b x r)
 set_first x v r true = refl
 set_first x v r false = refl

@@ -38,7 +38,7 @@ read-map f (y ∷ xs) at zero q x l e is = cond-true (nat_eq q at) _ _ (eq-eqb q
 read-map f (y ∷ xs) at (suc i) q x l e is =
     cond-false (nat_eq q at) _ _ (ne_eqb q at (λ z. omega arith)) ∙ read-map f xs (at + 4) i q x (omega arith) (omega arith) is
 
--- the owners behind a write
+-- the owners after a write
 pub owners-owned : (uses : List WordUse) (at i a point : ℕ) → i < length uses → a ≡ at + 4 * i → owners_of at (slice_set uses i (Block point)) ≡ insert (owners_of at uses) a point
 owners-owned uses at i a point l e =
     inserted _ (entries_from at (map point_of (slice_set uses i (Block point)))) a point (λ q.
@@ -98,6 +98,6 @@ code-freed text_at text tools_at tools uses i u is =
 pub same_stored : (p : Words) (a b : Code) (o r : Owners) → a ≡ b → o ≡ r → ◌≡◌ {A = StoredCode} (record { program = p; code = a; owners = o }) (record { program = p; code = b; owners = r })
 same_stored p a b o r e f = λ i. record { program = p; code = e i; owners = f i }
 
--- the tool text begins behind the text
+-- the tool text begins after the text
 pub behind_text : (at n t : ℕ) → t ≡ (at + 4 * n + 4095) / 4096 * 4096 → at + 4 * n ≤ t
 behind_text at n t e = omega arith

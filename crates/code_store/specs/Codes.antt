@@ -11,4 +11,8 @@ use Rattle.code_store.specs.Stores.{StoredCode}
 
 abbrev pub stored_coded : Coded StoredCode
 stored_coded =
-    code_by (Words × (Code × Owners)) (coded× words_code (coded× (code coded_ℕ marked_word.the_row.coded) (code coded_ℕ coded_ℕ))) (λ s. (s.program, (s.code, s.owners))) (λ t. record { program = t.0; code = t.1.0; owners = t.1.1 }) (λ _. refl)
+    code_by (Words × (Code × Owners))
+    (coded× words_code (coded× (code coded_ℕ marked_word.the_row.coded) (code coded_ℕ coded_ℕ)))
+    (λ s. (s.program, (s.code, s.owners)))
+    (λ t. record { program = t.0; code = t.1.0; owners = t.1.1 })
+    (λ _. refl)

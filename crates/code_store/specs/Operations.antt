@@ -38,7 +38,7 @@ computes (Some i) = true
 abbrev pub reached : Bool → ℕ
 reached is_tool = if is_tool then bank_len else 0
 
--- where a hart stands behind a word that does what it does in the program
+-- where a hart stands after a word that does what it does in the program
 abbrev pub stands_as : Next → List ℕ → List ℕ → Result Stood Cause
 stands_as (ways.Go pc) regs bank = Ok (stand pc (record { regs = regs; bank = bank }))
 stands_as (ways.Stop cause) regs bank = Err cause
@@ -48,12 +48,14 @@ done_as d bank = stands_as d.next d.regs bank
 
 -- under a mark that reaches n doublewords the instruction does what it does in the program
 pub record RunsAlike (n : ℕ) (i : Option Instr) : Type 0 where
-  pub step : (h ticks pc : ℕ) (x : Bench) (p : Prog) → step_decoded n i ticks pc x ≡ done_as (done (exec_decoded i pc h x.regs p) x.regs) x.bank
+  pub step : (h ticks pc : ℕ) (x : Bench) (p : Prog)
+      → step_decoded n i ticks pc x ≡ done_as (done (exec_decoded i pc h x.regs p) x.regs) x.bank
   pub prog : (h pc : ℕ) (regs : List ℕ) (p : Prog) → (done (exec_decoded i pc h regs p) regs).prog ≡ p
 
 -- a load of the doubleword at an address of the bank
 abbrev pub bank_loaded : ℕ → ℕ → ℕ → ℕ → Bench → Result Stood Cause
-bank_loaded rd at ticks pc x = if is_in_bank bank_len at then Ok (stand (next pc) (with_value x rd (bank_at ticks x.bank (at / 8)))) else Err (Access at)
+bank_loaded rd at ticks pc x =
+    if is_in_bank bank_len at then Ok (stand (next pc) (with_value x rd (bank_at ticks x.bank (at / 8)))) else Err (Access at)
 
 -- a store there
 abbrev pub bank_stored : ℕ → ℕ → ℕ → Bench → Result Stood Cause
@@ -63,11 +65,14 @@ bank_stored v at pc x = if is_in_bank bank_len at then Ok (stand (next pc) (with
 abbrev pub Does : ℕ → Option Instr → Operation → Type 0
 Does n i (Run flat) = (instr_of flat ≡ i) × IfSome i HasWord × RunsAlike n i
 Does n i (LoadBank rd rs1 offset) =
-    (rd < 32) × (rs1 < 32) × ((ticks pc : ℕ) (x : Bench) → step_decoded n i ticks pc x ≡ bank_loaded rd (wrap (reg x.regs rs1 + offset)) ticks pc x)
+    (rd < 32) × (rs1 < 32)
+    × ((ticks pc : ℕ) (x : Bench) → step_decoded n i ticks pc x ≡ bank_loaded rd (wrap (reg x.regs rs1 + offset)) ticks pc x)
 Does n i (StoreBank rs1 rs2 offset) =
-    (rs1 < 32) × (rs2 < 32) × ((ticks pc : ℕ) (x : Bench) → step_decoded n i ticks pc x ≡ bank_stored (reg x.regs rs2) (wrap (reg x.regs rs1 + offset)) pc x)
+    (rs1 < 32) × (rs2 < 32)
+    × ((ticks pc : ℕ) (x : Bench) → step_decoded n i ticks pc x ≡ bank_stored (reg x.regs rs2) (wrap (reg x.regs rs1 + offset)) pc x)
 Does n i (NoAccess rs1 offset) =
-    (rs1 < 32) × ((ticks pc : ℕ) (x : Bench) → reg x.regs rs1 < 2 ^ 64 → step_decoded n i ticks pc x ≡ Err (Access (wrap (reg x.regs rs1 + offset))))
+    (rs1 < 32) × ((ticks pc : ℕ) (x : Bench) → reg x.regs rs1 < 2 ^ 64
+    → step_decoded n i ticks pc x ≡ Err (Access (wrap (reg x.regs rs1 + offset))))
 Does n i (Stop cause) = (ticks pc : ℕ) (x : Bench) → step_decoded n i ticks pc x ≡ Err cause
 
 -- the operation of a word of the program
@@ -116,14 +121,14 @@ AreFlatsOf (w ∷ ws) [] = ⊥
 
 -- ---- inside
 
--- a hart that is inside stays so behind a word
+-- a hart that is inside stays so after a word
 abbrev pub keeps_by : Mark → ℕ → Bool
 keeps_by Own word = not (is_jump word)
 keeps_by Enter word = true
 keeps_by Tool word = true
 keeps_by Leave word = false
 
--- a hart is inside behind the word
+-- a hart is inside after the word
 abbrev pub enters_by : Mark → Bool
 enters_by Enter = true
 enters_by Own = false

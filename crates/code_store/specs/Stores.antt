@@ -25,7 +25,7 @@ marked w = record { word = w.0; mark = w.1 }
 abbrev pub first_code : Image → StoredCode
 first_code image = record { program = program_of image; code = text_code (program_of image); owners = empty }
 
--- so many words from an address on are words of the tool text
+-- this many words from an address on are words of the tool text
 pub record IsInToolText (program : Words) (at len : ℕ) : Type 0 where
   pub aligned : at % 4 ≡ 0
   pub low : tool_at program ≤ at

@@ -62,7 +62,8 @@ AreBlank (w ∷ ws) (u ∷ us) = (u ≡ Unwritten → w ≡ tool 0) × AreBlank 
 
 -- The arrays fit each other: a slot and a flat for each word of the program, and a slot and a use for each word of the tool text, which
 -- begins where it must.
-pub record FitTogether (words : List ℕ) (text_at : ℕ) (text : List MarkedWord) (flats : List Flat) (tools_at : ℕ) (tools : List MarkedWord) (uses : List WordUse) : Type 0 where
+pub record FitTogether (words : List ℕ) (text_at : ℕ) (text : List MarkedWord) (flats : List Flat)
+    (tools_at : ℕ) (tools : List MarkedWord) (uses : List WordUse) : Type 0 where
   pub slots : length text ≡ length words
   pub does : AreFlatsOf text flats
   pub behind : tools_at ≡ tool_at (record { at = text_at; words = words })
@@ -71,7 +72,8 @@ pub record FitTogether (words : List ℕ) (text_at : ℕ) (text : List MarkedWor
   pub blank : AreBlank tools uses
 
 abbrev pub code_of : ℕ → List MarkedWord → ℕ → List MarkedWord → List WordUse → Code
-code_of text_at text tools_at tools uses = from_entries (entries_from text_at (map (λ w. Some w) text) ++ entries_from tools_at (put_among tools uses))
+code_of text_at text tools_at tools uses =
+    from_entries (entries_from text_at (map (λ w. Some w) text) ++ entries_from tools_at (put_among tools uses))
 
 abbrev pub owners_of : ℕ → List WordUse → Owners
 owners_of tools_at uses = from_entries (entries_from tools_at (map point_of uses))

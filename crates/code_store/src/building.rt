@@ -16,7 +16,11 @@ use rv_word::split_word;
 use std::alloc::Global;
 use tramp_spec::MarkedWord;
 
-/// The words of a text.
+/// Splits a text into its words.
+///
+/// # Errors
+///
+/// `NoMemory` if memory runs out.
 pub fn words(alloc: Global, text: &[u8]) -> Result<Vec<u32>, NoMemory>
     ensures { IfOk result (λ words. words.items ≡ words_of text.now) }
 {
@@ -35,7 +39,11 @@ pub fn have_32_bits(words: &[u32])
     ensures { AllByRecursion (λ word. word < 2 ^ 32) words.now }
 {}
 
-/// A slot for each word, as the program's own.
+/// Makes a slot for each word, as the program's own.
+///
+/// # Errors
+///
+/// `NoMemory` if memory runs out.
 pub fn own_slots(alloc: Global, words: &[u32]) -> Result<Vec<Slot>, NoMemory>
     ensures { IfOk result (λ slots. slots.items ≡ map own words.now) }
 {
@@ -46,7 +54,11 @@ pub fn own_slots(alloc: Global, words: &[u32]) -> Result<Vec<Slot>, NoMemory>
     Ok(slots)
 }
 
-/// What the words do to which these slots belong.
+/// What the words of these slots do.
+///
+/// # Errors
+///
+/// `NoMemory` if memory runs out.
 pub fn flats_of(alloc: Global, slots: &[Slot]) -> Result<Vec<Flat>, NoMemory>
     ensures { IfOk result (λ flats. AreFlatsOf slots.now flats.items) }
 {
@@ -57,7 +69,11 @@ pub fn flats_of(alloc: Global, slots: &[Slot]) -> Result<Vec<Flat>, NoMemory>
     Ok(flats)
 }
 
-/// Slots for words of the tool text at which nothing was put.
+/// Makes slots for `count` words of the tool text to which nothing was put.
+///
+/// # Errors
+///
+/// `NoMemory` if memory runs out.
 pub fn blank_slots(alloc: Global, count: usize) -> Result<Vec<Slot>, NoMemory>
     ensures { IfOk result (λ slots. slots.items ≡ replicate count (tool 0)) }
 {
@@ -71,6 +87,10 @@ pub fn blank_slots(alloc: Global, count: usize) -> Result<Vec<Slot>, NoMemory>
 }
 
 /// What such words are for.
+///
+/// # Errors
+///
+/// `NoMemory` if memory runs out.
 pub fn blank_uses(alloc: Global, count: usize) -> Result<Vec<WordUse>, NoMemory>
     ensures { IfOk result (λ uses. uses.items ≡ replicate count Unwritten) }
 {

@@ -1,4 +1,4 @@
-//! The words that harts fetch: a program's text and the tool text behind it, each word decoded, and the points of the
+//! The words that harts fetch: a program's text and the tool text after it, each word decoded, and the points of the
 //! blocks that stand in the tool text.
 #![tactic(auto)]
 

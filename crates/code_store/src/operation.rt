@@ -1,3 +1,5 @@
+//! What a word does under its mark.
+
 ghost use Rattle.std.specs.Prelude.{◌≡◌, ◌<◌, false, Some, IfSome};
 ghost use Rattle.rv_word.specs.Words.{HasWord};
 ghost use Rattle.rv_word.specs.declared.instr.Instr.TheVariants.{Load, Store};

@@ -1,3 +1,5 @@
+//! Words with their marks, decoded.
+
 ghost use Rattle.std.specs.Prelude.{◌≡◌};
 ghost use Rattle.tramp_spec.specs.Marks.{inside_after, is_jump, is_own};
 ghost use Rattle.code_store.specs.Operations.{IsFlatOf, IsOperationOf};
@@ -16,9 +18,9 @@ pub struct Slot {
     operation: Operation,
     word: u32,
     mark: Mark,
-    /// A hart that is inside stays so behind the word.
+    /// A hart that is inside stays so after the word.
     keeps_inside: bool,
-    /// A hart is inside behind the word.
+    /// A hart is inside after the word.
     enters: bool,
 }
 
@@ -32,7 +34,8 @@ impl Model for Slot {
 
     ghost view = { λ s. record { word = s.word; mark = s.mark } };
 
-    ghost invariant = { λ s. IsOperationBy s.mark (decode_of s.word) s.operation × (s.keeps_inside ≡ keeps_by s.mark s.word) × (s.enters ≡ enters_by s.mark) };
+    ghost invariant = { λ s. IsOperationBy s.mark (decode_of s.word) s.operation × (s.keeps_inside ≡ keeps_by s.mark s.word)
+        × (s.enters ≡ enters_by s.mark) };
 }
 
 /// Whether a word is a jump: jal or jalr.
@@ -101,7 +104,7 @@ impl Slot {
         self.mark == Mark::Own
     }
 
-    /// Whether a hart that goes on is inside behind the word.
+    /// Whether a hart that goes on is inside after the word.
     #[inline(always)]
     pub fn inside_after(&self, inside: bool) -> bool
         ensures { result ≡ inside_after self.now.mark self.now.word inside }

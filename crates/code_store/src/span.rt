@@ -1,3 +1,5 @@
+//! Consecutive words.
+
 ghost use Rattle.std.specs.Prelude.{◌≡◌, ℕ, ◌<◌, ◌≤◌, ◌+◌, ◌*◌, ◌^◌, false, length};
 ghost use Rattle.std.specs.Option.{option_copied};
 ghost use Rattle.tramp_spec.specs.Codes.{is_word_of};
@@ -6,9 +8,9 @@ ghost use Rattle.code_store.specs.Views.{at_place};
 use crate::slot::Slot;
 use rv_exec::Flat;
 
-/// The number of the word at an address in a run of words that begins at `first`, if the run has one there, and else a
-/// number that is too great. The distance is turned by two bits, so that one that is no multiple of 4, or is below 0, is
-/// great, and one test finds all of these.
+/// The number of the word at an address in a run of words that begins at `first`, if the run has one there, and else a number that
+/// is too great. The distance is rotated by two bits: one that is below 0 or no multiple of 4 becomes great, so that one test finds
+/// all of these.
 #[inline(always)]
 pub fn place_of(first: u64, at: u64) -> u64
     ensures place { (len : ℕ) → first + 4 * len < 2 ^ 64 → result < len → at ≡ first + 4 * result }

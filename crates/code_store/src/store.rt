@@ -1,3 +1,5 @@
+//! The store of the words that harts fetch.
+
 ghost use Rattle.std.specs.Prelude.{◌≡◌, ℕ, false, ◌+◌, ◌-◌, ◌*◌, ◌/◌, ◌<◌, ◌≤◌, ◌^◌, ◌||◌, IfOk, IsTrue, length};
 ghost use Rattle.std.specs.FinMap.{get, insert, remove};
 ghost use Rattle.std.specs.List.{AllByRecursion};
@@ -20,7 +22,7 @@ use std::alloc::Global;
 use std::marker::Model;
 use tramp_spec::{Block, Mark, MarkedWord};
 
-/// The words of a program's text and of the tool text behind it, as harts fetch them, and the points of the blocks in the
+/// The words of a program's text and of the tool text after it, as harts fetch them, and the points of the blocks in the
 /// tool text. Contracts see the program's words, the map of marked words, and the map of owners. Only [`Store::new`] takes
 /// memory.
 pub struct Store {
@@ -44,9 +46,14 @@ impl Model for Store {
 
     ghost use Rattle.code_store.specs.Views.{code_of, owners_of, FitTogether};
 
-    ghost view = { λ s. record { program = record { at = s.text.at; words = s.words.items }; code = code_of s.text.at s.text.slots.items s.tool.at s.tool.slots.items s.uses.items; owners = owners_of s.tool.at s.uses.items } };
+    ghost view = { λ s. record {
+      program = record { at = s.text.at; words = s.words.items };
+      code = code_of s.text.at s.text.slots.items s.tool.at s.tool.slots.items s.uses.items;
+      owners = owners_of s.tool.at s.uses.items;
+    } };
 
-    ghost invariant = { λ s. FitTogether s.words.items s.text.at s.text.slots.items s.flats.items s.tool.at s.tool.slots.items s.uses.items };
+    ghost invariant = { λ s. FitTogether s.words.items s.text.at s.text.slots.items s.flats.items
+        s.tool.at s.tool.slots.items s.uses.items };
 }
 
 // By a call of its own: what drops it need not prove the drops of all its parts.
@@ -63,7 +70,12 @@ impl Drop for Store {
 }
 
 impl Store {
-    /// The words of an image, each of 32 bits, with a tool text in which nothing was put. It takes all the memory that the store ever has.
+    /// The words of an image, each of 32 bits, with a tool text to which nothing was put. It takes all the memory that the store ever
+    /// has.
+    ///
+    /// # Errors
+    ///
+    /// `NoMemory` if memory runs out.
     pub fn new(alloc: Global, image: &Image) -> Result<Store, NoMemory>
         requires { IsImage image.now }
         ensures first { IfOk result (λ store. store ≡ first_code image.now) }
@@ -72,7 +84,7 @@ impl Store {
         Store::with_room(alloc, image, (TOOL_TEXT_LEN / 4) as usize)
     }
 
-    /// The same, with room for so many words in the tool text.
+    /// The same, with room for `room` words in the tool text.
     fn with_room(alloc: Global, image: &Image, room: usize) -> Result<Store, NoMemory>
         requires image { IsImage image.now }
         requires room { 4 * room ≡ TOOL_TEXT_LEN }
@@ -168,7 +180,10 @@ impl Store {
     /// Puts the words of a block into the tool text; they belong to its point from now on.
     pub fn put_block(&mut self, block: &Block)
         requires { IsInToolText self.old.program block.now.at (length block.now.words) }
-        ensures { self.new ≡ record self.old { code = put_words block.now.at block.now.words self.old.code; owners = owners_with block.now.at (length block.now.words) block.now.point self.old.owners } }
+        ensures { self.new ≡ record self.old {
+          code = put_words block.now.at block.now.words self.old.code;
+          owners = owners_with block.now.at (length block.now.words) block.now.point self.old.owners;
+        } }
     {
         let first = self.tool_place(block.at);
         for (i, word) in block.words.as_slice().iter().enumerate() {
@@ -189,7 +204,7 @@ impl Store {
         }
     }
 
-    /// So many words of the tool text belong to no block any more. They stand as they are.
+    /// Takes `len` words of the tool text from the block to which they belong: they belong to none. The words stay as they are.
     pub fn drop_block(&mut self, at: u64, len: u32)
         requires { IsInToolText self.old.program at len }
         ensures { self.new ≡ record self.old { owners = owners_without at len self.old.owners } }
@@ -230,7 +245,10 @@ impl Store {
     /// Puts a word of a block.
     fn put_word(&mut self, place: usize, word: MarkedWord, point: u64)
         requires { 4 * place < TOOL_TEXT_LEN }
-        ensures { self.new ≡ record self.old { code = insert self.old.code (tool_at self.old.program + 4 * place) word; owners = insert self.old.owners (tool_at self.old.program + 4 * place) point } }
+        ensures { self.new ≡ record self.old {
+          code = insert self.old.code (tool_at self.old.program + 4 * place) word;
+          owners = insert self.old.owners (tool_at self.old.program + 4 * place) point;
+        } }
     {
         self.tool.slots[place] = Slot::new(word);
         self.uses[place] = WordUse::Block(point);

@@ -1,3 +1,5 @@
+//! What the words of the tool text are for.
+
 ghost use Rattle.std.specs.Prelude.{◌≡◌};
 ghost use Rattle.code_store.specs.Views.{point_of, freed, put_to};
 
