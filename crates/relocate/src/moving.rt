@@ -25,7 +25,7 @@ fn tool(instr: Instr) -> MarkedWord
     MarkedWord::tool(encode(&instr))
 }
 
-/// The address so many bytes behind another.
+/// The address `bytes` after another.
 fn behind(at: u64, bytes: u64) -> u64
     ensures { result ≡ wrap (at + bytes) }
 {
@@ -165,7 +165,11 @@ fn move_plain(word: u32, from: u64, to: u64) -> Moved
     Moved::new(&[MarkedWord::own(word), back])
 }
 
-/// The words that do at `to` what the word does at `from`, or that it can't be moved there.
+/// Moves a word: makes the words that do at `to` what it does at `from`.
+///
+/// # Errors
+///
+/// `Unmovable` where it can't be moved there.
 #[tactic(auto, unfolding(tramp_spec::specs::MovedWords::moved_of))]
 pub fn move_word(word: u32, from: u64, to: u64) -> Result<Moved, Unmovable>
     ensures { Answers result (table.moved_of word from to) }
