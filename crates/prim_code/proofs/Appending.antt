@@ -1,4 +1,4 @@
--- What is left of a statement behind a condition's words.
+-- What is left of a statement after a condition's words.
 use Rattle.std.proofs.Common.{◌≡◌, suc, List, ◌∷◌, ◌++◌, length, ap, sym, ◌∙◌, subst, ℕ, arith}
 use Rattle.std.specs.List.{All}
 use Rattle.pn_types.specs.declared.plan.Cond.{Cond}
@@ -7,7 +7,7 @@ use Rattle.tramp_spec.specs.MovedWords.{tools}
 use Rattle.tramp_spec.specs.Statements.{guarded, under}
 use Rattle.tramp_spec.specs.declared.mark.MarkedWord.{MarkedWord}
 
--- with the rest of its words behind it, a statement stands there whole as before
+-- with the rest of its words after it, a statement stands there whole as before
 pub cond_appended : (slots : List ℕ) (code : List Instr) (conds inner : List Cond) (c : Cond) (rest : ℕ) (was is all : List MarkedWord)
     → conds ≡ c ∷ inner → length (under slots inner code) ≡ rest
     → ((after : List Instr) → length after ≡ rest → is ++ tools after ≡ was ++ tools (guarded slots c.left c.cmp c.right after))

@@ -99,7 +99,7 @@ ended sum ticks r e = omega arith
 runs : (v ticks : ℕ) → (v ≡ 0 → ⊥) → running v ticks ≡ ticks
 runs v ticks n = if_both (λ t. t ≡ ticks) (v == 0) 0 ticks (λ z. absurd (n (eqb-true v 0 z))) (λ z. refl)
 
--- a timer's two slots behind a write of its number, and of its sum
+-- a timer's two slots after a write of its number, and of its sum
 number_set : (k : List ℕ) (s w : ℕ) → length k ≡ bank_len → s + 1 < bank_len → slice_index (starts_set s k w) (s + 1) ≡ w
 number_set k s w e l = get_or-set_same k (s + 1) w 0 (omega arith)
 

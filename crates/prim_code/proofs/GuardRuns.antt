@@ -74,7 +74,7 @@ argument_is regs (suc (suc (suc (suc (suc (suc zero)))))) l = refl
 argument_is regs (suc (suc (suc (suc (suc (suc (suc zero))))))) l = refl
 argument_is regs (suc (suc (suc (suc (suc (suc (suc (suc a)))))))) l = absurd (omega arith)
 
--- behind the words of a guard, of which the last, word i, is the branch over the m words of the rest
+-- after the words of a guard, of which the last, word i, is the branch over the m words of the rest
 module _ (pre rest : List MarkedWord) (m : ℕ) (many : length rest ≡ m) (near : m + 1 < 1024) (f : Effect) (does : Does rest f) (at ticks : ℕ) (x : Bench) (st : Stands (pre ++ rest) at x) where
   branches : (i a b : ℕ) (c : Cmp) (rd v n : ℕ) (r : Reach (pre ++ rest) at ticks x st i a b x.bank) → rd < 32 → length pre ≡ i + 1 → length (pre ++ rest) ≡ i + (m + 1)
       → slice_get (pre ++ rest) i ≡ Some (tool (word_of (unless c rd (4 * (m + 1))))) → reg (r.x).regs rd ≡ v → reg (r.x).regs 31 ≡ n

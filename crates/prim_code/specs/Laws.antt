@@ -20,9 +20,11 @@ pub record DoesStatements (slots : List ℕ) (vars : List Var) (stmts : List Stm
   pub harmless : Harmless (body_of slots stmts)
   -- a run comes to its end, with all registers but x5 and x31 as they were
   pub ends : (at ticks : ℕ) (x : Bench) → Stands (body_of slots stmts) at x
-      → (y : Bench) × Route (body_of slots stmts) at ticks 0 (length (body_of slots stmts)) x y × Keeps x y × (y.bank ≡ finished (body_of slots stmts) at x ticks)
-  -- slots that stand for values stand for those behind the statements; each statement may take a start of those to spare
-  pub values : (at ticks spare : ℕ) (x : Bench) (values : List ℕ) → Stands (body_of slots stmts) at x → ticks < 2 ^ 64 → length values ≡ length vars
+      → (y : Bench) × Route (body_of slots stmts) at ticks 0 (length (body_of slots stmts)) x y × Keeps x y
+      × (y.bank ≡ finished (body_of slots stmts) at x ticks)
+  -- slots that stand for values stand for those after the statements; each statement may take a start of those to spare
+  pub values : (at ticks spare : ℕ) (x : Bench) (values : List ℕ) → Stands (body_of slots stmts) at x → ticks < 2 ^ 64
+      → length values ≡ length vars
       → StandFor (places slots vars) (length stmts + spare) values x.bank
       → StandFor (places slots vars) spare (values_after stmts (arguments_of x.regs) values) (finished (body_of slots stmts) at x ticks)
       × SameReadings (places slots vars) ticks x.bank (finished (body_of slots stmts) at x ticks)
@@ -33,9 +35,11 @@ pub record DoesStatements (slots : List ℕ) (vars : List Var) (stmts : List Stm
 -- So it is for all statements that fit the variables, where no two variables share a slot.
 abbrev pub StatementsWork : Type 0
 StatementsWork =
-    (slots : List ℕ) (vars : List Var) (stmts : List Stmt) → length slots ≡ length vars → ArePlaces (places slots vars) → AreStmtsOf vars stmts
+    (slots : List ℕ) (vars : List Var) (stmts : List Stmt) → length slots ≡ length vars → ArePlaces (places slots vars)
+    → AreStmtsOf vars stmts
     → DoesStatements slots vars stmts
 
 -- Statements that fit a plan's variables can be compiled, and each of them has fewer than 1,024 words.
 abbrev pub StatementsCompile : Type 0
-StatementsCompile = (vars : List Var) (stmts : List Stmt) → AreStmtsOf vars stmts → AreBelow (length vars) stmts × (word_count stmts ≤ 1023 * length stmts)
+StatementsCompile =
+    (vars : List Var) (stmts : List Stmt) → AreStmtsOf vars stmts → AreBelow (length vars) stmts × (word_count stmts ≤ 1023 * length stmts)

@@ -35,7 +35,7 @@ fn slot_of(slots: &[u32], variable: u32) -> u64
     u64::from(slots[variable as usize])
 }
 
-/// Appends a condition's words, before a rest of so many words.
+/// Appends a condition's words, before a rest of `rest` words.
 fn append_cond(cond: &Cond, slots: &[u32], rest: u32, out: &mut Vec<MarkedWord>)
     requires named { named.IsLeftBelow (length slots.now) cond.now.left }
     requires room { vec_len out.old + counts.cond_words cond.now ≤ vec_capacity out.old }

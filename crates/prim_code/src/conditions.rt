@@ -9,7 +9,7 @@ use pn_types::Cmp;
 use rv_word::{BranchOp, Instr};
 use tramp_spec::put_number;
 
-/// The branch so many bytes on, where the comparison of a register with x31 fails.
+/// The branch over `over` bytes, taken where the comparison of a register with x31 fails.
 fn unless(cmp: Cmp, register: u32, over: u64) -> Instr
     ensures { result ≡ table.unless cmp register over }
 {
@@ -29,7 +29,7 @@ fn unless(cmp: Cmp, register: u32, over: u64) -> Instr
     }
 }
 
-/// A condition on a counter, before a rest of so many words.
+/// A condition on a counter, before a rest of `rest` words.
 pub fn counter_words(slot: u64, cmp: Cmp, right: u32, rest: u32) -> [Instr; 5]
     requires { slot < 2 ^ 32 }
     ensures { (after : List Instr) → length after ≡ rest
@@ -46,7 +46,7 @@ pub fn counter_words(slot: u64, cmp: Cmp, right: u32, rest: u32) -> [Instr; 5]
     ]
 }
 
-/// A condition on an argument, before a rest of so many words.
+/// A condition on an argument, before a rest of `rest` words.
 pub fn argument_words(argument: u8, cmp: Cmp, right: u32, rest: u32) -> [Instr; 3]
     ensures { (after : List Instr) → length after ≡ rest
         → result ++ after ≡ table.compared cmp (10 + argument) right after }

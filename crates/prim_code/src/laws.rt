@@ -14,14 +14,14 @@ pub fn statements_compile()
     ensures { StatementsCompile }
 {}
 
-/// The body of statements that fit a plan's variables is harmless, brings slots that stand for values to slots that stand for
-/// those behind the statements, keeps what timers read, and leaves every other doubleword of the bank.
+/// The body of statements that fit a plan's variables is harmless. It makes slots that stand for values stand for those after the
+/// statements, keeps what timers read, and leaves every other doubleword of the bank.
 pub fn statements_work()
     ensures { StatementsWork }
 {}
 
-/// Slots go on standing for values where they stay, and where fewer starts are to be spared; a timer that runs reads one more behind
-/// each tick.
+/// Slots go on standing for values where they stay, and where fewer starts are to be spared; a timer that runs reads one more
+/// after each tick.
 pub fn standing_kept()
     ensures { StandingKept }
 {}

@@ -20,7 +20,7 @@ pub fn high(slot: u64) -> Instr
     }
 }
 
-/// A slot into a register, behind the high part of its address.
+/// A slot into a register. The high part of its address is in x31.
 pub fn load(rd: u32, slot: u64) -> Instr
     requires { slot ≤ 2 ^ 32 }
     ensures { result ≡ instr.Load loads.Ld rd 31 (table.low_part slot) }
@@ -33,7 +33,7 @@ pub fn load(rd: u32, slot: u64) -> Instr
     }
 }
 
-/// x5 into a slot, behind the high part of its address.
+/// x5 into a slot. The high part of its address is in x31.
 pub fn keep(slot: u64) -> Instr
     requires { slot ≤ 2 ^ 32 }
     ensures { result ≡ table.keep_slot slot }
@@ -70,7 +70,7 @@ pub fn take_one() -> Instr
     }
 }
 
-/// A branch on x5 and x0, so many bytes on.
+/// A branch on x5 and x0, over `over` bytes.
 pub fn branch(op: BranchOp, over: u64) -> Instr
     ensures { result ≡ instr.Branch op 5 0 over }
 {
