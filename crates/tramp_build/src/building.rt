@@ -58,7 +58,8 @@ pub fn base_block(point: u64, at: u64, moved: &Moved, words: Vec<MarkedWord>) ->
     ensures at { result.at ≡ at }
     ensures base { result.base ≡ true }
     ensures words { result.words ≡ base_words at (tail_of at) moved.now }
-    ensures shape { (program : Words) (word : ℕ) → program_word program point ≡ Some word → moved_of word point (moved_at at) ≡ Some moved.now → at % 4 ≡ 0 → IsBase program point at (tail_of at) result.words }
+    ensures shape { (program : Words) (word : ℕ) → program_word program point ≡ Some word
+        → moved_of word point (moved_at at) ≡ Some moved.now → at % 4 ≡ 0 → IsBase program point at (tail_of at) result.words }
 {
     let mut words = words;
     append(&mut words, &frame_of_base(at));
@@ -79,7 +80,8 @@ pub fn mini_block(point: u64, at: u64, words: Vec<MarkedWord>, next: u64) -> Blo
     ensures at { result.at ≡ at }
     ensures base { result.base ≡ false }
     ensures words { result.words ≡ mini_words at words.items next }
-    ensures shape { Harmless words.items → at % 4 ≡ 0 → jumps.reaches (at + 4 * length words.items) next ≡ true → IsMini at next result.words }
+    ensures shape { Harmless words.items → at % 4 ≡ 0 → jumps.reaches (at + 4 * length words.items) next ≡ true
+        → IsMini at next result.words }
 {
     let mut words = words;
     let end = at + 4 * words.len() as u64;
@@ -99,8 +101,10 @@ pub fn set_next(block: &mut Block, next: u64)
     ensures point { block.new.point ≡ block.old.point }
     ensures at { block.new.at ≡ block.old.at }
     ensures base { block.new.base ≡ block.old.base }
-    ensures words { (body : List Word) (last : Word) → block.old.words ≡ body ++ last ∷ [] → block.new.words ≡ mini_words block.old.at body next }
-    ensures shape { (before : ℕ) → IsMini block.old.at before block.old.words → jumps.reaches (block.old.at + 4 * (length block.old.words - 1)) next ≡ true → IsMini block.new.at next block.new.words }
+    ensures words { (body : List Word) (last : Word) → block.old.words ≡ body ++ last ∷ []
+        → block.new.words ≡ mini_words block.old.at body next }
+    ensures shape { (before : ℕ) → IsMini block.old.at before block.old.words
+        → jumps.reaches (block.old.at + 4 * (length block.old.words - 1)) next ≡ true → IsMini block.new.at next block.new.words }
 {
     let last = block.words.as_slice().len() - 1;
     let jump = MarkedWord::tool(jump_word(block.at + 4 * last as u64, next));
