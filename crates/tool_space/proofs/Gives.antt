@@ -12,7 +12,7 @@ use Rattle.tool_space.proofs.Ranges.{dropped_range, kept_range, range_parts}
 use Rattle.tool_space.proofs.Takes.{from_lower}
 use Rattle.tool_space.proofs.Units.{differ, dropped_units, in_hole, kept_units}
 
--- A hole fits at a place: those before it end before it, and the next begins behind it.
+-- A hole fits at a place: those before it end before it, and the next begins after it.
 pub record FitsAt (holes : List Hole) (place low high : ℕ) (new : Hole) : Type 0 where
   pub within : place ≤ length holes
   pub low_end : low ≤ new.at
@@ -69,7 +69,7 @@ wider [] low low' high high' l h order = tt
 wider (hole ∷ holes) low low' high high' l h order =
     (omega (arith, order.0), order.1, omega (arith, order.2), wider holes (hole.at + hole.len) (hole.at + hole.len) high high' (omega arith) h order.3)
 
--- Behind the first hole the same holds of the rest.
+-- After the first hole the same holds of the rest.
 fits_rest : (hole : Hole) (holes : List Hole) (place low high low' : ℕ) (new : Hole) → FitsAt (hole ∷ holes) (suc place) low high new → low' ≤ new.at → FitsAt holes place low' high new
 fits_rest hole holes place low high low' new fits le = record {
   within = omega (arith, fits.within);

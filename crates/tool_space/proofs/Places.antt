@@ -29,7 +29,7 @@ in_order [] low low' high high' l h are = tt
 in_order (hole ∷ holes) low low' high high' l h are =
     (omega (arith, are.0), are.1, omega (arith, are.2), in_order holes (hole.at + hole.len) (hole.at + hole.len + 1) high high' (omega arith) h are.3)
 
--- What is read at a place doesn't rest on what stands behind the last hole.
+-- What is read at a place doesn't rest on what stands after the last hole.
 pub same_hole : (holes : List Hole) (place : ℕ) (hole : Hole) → place < length holes → hole ≡ get_or holes place hole → get_or holes place no_hole ≡ hole
 same_hole [] place hole within here = absurd (omega arith)
 same_hole (first ∷ holes) zero hole within here = sym here

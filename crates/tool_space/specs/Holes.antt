@@ -20,7 +20,7 @@ InOrder low high [] = Unit {0}
 InOrder low high (hole ∷ holes) =
     (low ≤ hole.at) × (0 < hole.len) × (hole.at + hole.len ≤ high) × InOrder (hole.at + hole.len) high holes
 
--- What stands behind the last hole.
+-- What stands after the last hole.
 abbrev pub no_hole : Hole
 no_hole = record { at = 0; len = 0 }
 

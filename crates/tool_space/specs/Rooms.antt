@@ -3,7 +3,7 @@ use Rattle.std.specs.Prelude.{◌≡◌, ℕ, ◌+◌, ◌-◌, ◌<◌, ◌≤�
 use Rattle.std.specs.List.{list_any, range_with_len}
 
 -- A space has the units with the numbers `from`, from + 1 and so on below `end`. `free` are those that are free, in order.
--- So many takes, and so many gives of what was taken, need no memory.
+-- `takes` is how many takes need no memory, and `gives` how many gives of what was taken.
 pub record Rooms : Type 0 where
   pub from : ℕ
   pub end : ℕ
@@ -43,7 +43,7 @@ abbrev pub new_space : ℕ → ℕ → Rooms
 new_space from units =
     record { from = from; end = from + units; free = range_with_len from units; takes = 0; gives = 0 }
 
--- At least so many takes are reserved.
+-- At least this many takes are reserved.
 abbrev pub after_reserve : Rooms → ℕ → Rooms
 after_reserve space count = record space { takes = max space.takes count }
 

@@ -1,3 +1,5 @@
+//! Runs of free units.
+
 ghost use Rattle.std.specs.Prelude.{◌≡◌, ℕ, ◌+◌, ◌<◌, ◌≤◌, IfNone, IfSome, insert, length, slice_index_or, vec_capacity, vec_len};
 ghost use Rattle.tool_space.specs.Holes.{InOrder, cut_at, join_at, no_hole, put_at};
 
@@ -20,7 +22,7 @@ pub fn first_fit(holes: &[Hole], len: u64) -> Option<usize>
     holes.iter().position(|hole| hole.len >= len)
 }
 
-/// The place of the first hole above a unit, or behind the last.
+/// The place of the first hole above a unit, or how many holes there are where none is.
 pub fn first_above(holes: &[Hole], at: u64) -> usize
     ensures within { result ≤ length holes.now }
     ensures below { (k : ℕ) → k < result → (slice_index_or holes.now k no_hole).at ≤ at }
@@ -30,7 +32,7 @@ pub fn first_above(holes: &[Hole], at: u64) -> usize
     above.unwrap_or(holes.len())
 }
 
-/// Takes units from the front of a hole that has them, and answers the first.
+/// Takes units from the front of a hole that has them. Returns the first.
 pub fn cut(holes: &mut Vec<Hole>, place: usize, len: u64) -> u64
     requires place { place < vec_len holes.old }
     requires order { InOrder 0 u64.MAX holes.old.items }

@@ -1,3 +1,5 @@
+//! Which units are free.
+
 ghost use Rattle.std.specs.Prelude.{◌≡◌, ℕ, ◌+◌, ◌^◌, ◌<◌, ◌≤◌, IfNone, IfOk, IfSome, OnErr, OnOk};
 ghost use Rattle.tool_space.specs.Rooms.{IsLowestRoom, IsRoom, IsTaken, after_give, after_reserve, after_take, new_space};
 
@@ -10,7 +12,7 @@ use std::marker::Model;
 /// given back.
 #[derive(Drop)]
 pub struct Space {
-    // The first unit, and the number behind the last.
+    // The first unit, and the number after the last.
     from: u64,
     end: u64,
     // The runs of free units, in order and apart.
@@ -46,7 +48,7 @@ impl Space {
     ///
     /// # Errors
     ///
-    /// `NoMemory` where memory is wanting.
+    /// `NoMemory` if memory runs out.
     pub fn new(alloc: Global, from: u64, units: u32) -> Result<Self, NoMemory>
         requires { from + units < 2 ^ 64 }
         ensures { IfOk result (λ space. space ≡ new_space from units) }
@@ -69,7 +71,7 @@ impl Space {
     ///
     /// # Errors
     ///
-    /// `NoMemory` where memory is wanting. Then nothing has changed.
+    /// `NoMemory` if memory runs out. Then nothing has changed.
     pub fn reserve(&mut self, count: u32) -> Result<(), NoMemory>
         ensures ok { OnOk result (self.new ≡ after_reserve self.old count) }
         ensures err { OnErr result (self.new ≡ self.old) }
@@ -82,8 +84,8 @@ impl Space {
         Ok(())
     }
 
-    /// Takes the lowest room of `len` units, and answers its first unit: None exactly where no `len` consecutive units are
-    /// free. It uses up a reserved take where it answers a room.
+    /// Takes the lowest room of `len` units. Returns its first unit, or `None` exactly where no `len` consecutive units are free. It
+    /// uses up a reserved take where it returns a room.
     pub fn take(&mut self, len: u32) -> Option<u64>
         requires some { 0 < len }
         requires reserved { 0 < self.old.takes }
