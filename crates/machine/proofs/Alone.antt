@@ -136,7 +136,7 @@ module _ (s : StoredCode) (rows : List Row) (budget : ℕ) (owners : AreOwners s
         below = λ may tick. below_budget (before harts x) r h x.hart e (subst IsTrue (sym (runs harts x e)) may) (ap (λ o. ticks_by o (before harts x)) e ∙ tick);
       }
 
-  -- so many turns of the machine
+  -- this many turns of the machine
   pub record Led (k : ℕ) (harts : List Hart) (x z : Solo) : Type 0 where
     pub reached : IsReached (among harts z)
     pub core : among harts z ≡ replay (quantum_turns k h (before harts x)) (before harts x)

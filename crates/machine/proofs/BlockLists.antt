@@ -52,7 +52,7 @@ no_words [] (suc i) h = refl
 no_words (e ∷ es) zero h = ap (λ o. words_in (map row_of (left (o ∷ es)))) h
 no_words (e ∷ es) (suc i) h = no_words es i h
 
--- those of a block, and of what stands behind it
+-- those of a block, and of what stands after it
 pub words_at : (es : List (Option BlockRow)) (i : ℕ) (x : BlockRow) → get_or es i None ≡ Some x → words_in (map row_of (left (drop i es))) ≡ x.len + words_in (map row_of (left (drop (i + 1) es)))
 words_at es i x h = some_words es i x h ∙ ap (λ k. x.len + words_from k es) (sym (add-one i))
 

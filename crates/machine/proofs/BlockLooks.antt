@@ -105,7 +105,7 @@ left_in (Some y ∷ es) (suc place) x e = inr (left_in es place x e)
 abbrev pub Looks : ℕ → (Row → Bool) → List (Option BlockRow) → Option ℕ → Type 0
 Looks p q es next = Searches point_of (bucket_of p) (λ x. q (row_of x)) es next
 
--- what comes next behind a place
+-- what comes next after a place
 abbrev pub Follows : List (Option ℕ) → ℕ → Option ℕ → Type 0
 Follows buckets place r = (b : ℕ) → bucket_at buckets place ≡ Some b → IsFirst b (place + 1) buckets r
 

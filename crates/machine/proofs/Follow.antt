@@ -35,7 +35,7 @@ abbrev pub NoMore : Linkings → Linkings
 NoMore l = l
 
 -- what is kept, how the blocks follow, that the harts and the words of the text stay but at some addresses, and what linkings there
--- are behind
+-- are afterwards
 pub record Kept (keep fresh : Piece → Type 0) (f : Row → Status) (but : ℕ → Type 0) (more : Linkings → Linkings) (clock : ℕ) (ps : List Piece) (c d : Core) (s : Plain) : Type 0 where
   pub inv : Inv d s
   pub numbers : (l : Linkings) → Numbers l ps clock → Numbers (more l) inv.ps inv.clock

@@ -41,7 +41,7 @@ end_of {x = x} k = finish k.f (k.m).body (k.m).row.at k.i (bench_of x) x.ticks
 
 -- ---- the instrument and its plan
 
--- behind the statements of the program's pc
+-- after the statements of the program's pc
 abbrev pub acted : Plan → PlainHart → Level → Level
 acted plan y v = record { values = site_values (site_at plan y.pc) (arguments_of y.regs) v.values; runs = v.runs }
 

@@ -52,7 +52,7 @@ all_in P [] x a h = absurd h
 all_in P (y ∷ ys) x a (inl e) = subst P (sym e) a.0
 all_in P (y ∷ ys) x a (inr h) = all_in P ys x a.1 h
 
--- no site behind the first has its address
+-- no site after the first has its address
 no_other : (q r : Site) (qs : List Site) → AllByRecursion (λ (z : Site). (q.at == z.at) ≡ false) qs → In r qs → r.at ≡ q.at → ⊥
 no_other q r qs a h e = true≢false (sym (eq-eqb q.at r.at (sym e)) ∙ all_in (λ (z : Site). (q.at == z.at) ≡ false) qs r a h)
 

@@ -196,7 +196,7 @@ module _ (i : Placed) (plan : Plan) (families ages : ℕ → ℕ) where
 
     -- ---- a turn
 
-    -- a hart's level behind a turn
+    -- a hart's level after a turn
     level_other : (h j : ℕ) → (j ≡ h → ⊥) → level c.program plan j (h ∷ []) s (v j) ≡ v j
     level_other h j n = cond-false (h == j) (passed_by (slice_get s.harts j) plan (v j)) (v j) (ne_eqb h j (λ e. n (sym e)))
 

@@ -82,7 +82,7 @@ module _ (i : Placed) (plan : Plan) (families ages : ℕ → ℕ) (t : Words) (g
       owes b.0 b.1
       (subst (λ c. OwesBy i plan families ages t budget ps h y p v c (step_of b.0 h (program_pc code rows x) (record { hart = x; prog = p }))) (sym b.2) (subst (λ (s : Solo). OwesBy i plan families ages t budget ps h y p v false s) (sym b.3) k))
 
-  -- behind a tick a hart is outside, or it leaves
+  -- after a tick a hart is outside, or it leaves
   abbrev Behind : Hart → PlainHart → Type 0
   Behind z u = (z.inside ≡ false) ⊎ ((b : Piece) × In b ps × IsBase b × (b.row.status ≡ Written → ⊥) × (z.inside ≡ true) × AtLeave t b z u)
 

@@ -183,7 +183,7 @@ pub record AtMoved (t : Words) (budget : ℕ) (b : Piece) (x : Hart) (y : PlainH
   pub agree : Agree regs y.regs
   pub is : x.regs ≡ (m.moves).before j regs
 
--- behind the tick
+-- after the tick
 pub record AtLeave (t : Words) (b : Piece) (x : Hart) (y : PlainHart) : Type 0 where
   pub m : MovedWord t b
   pub j : ℕ

@@ -80,7 +80,7 @@ inside_of : {t : Words} {budget : ℕ} {ps : List Piece} {x : Hart} {y : PlainHa
 inside_of (inl k) = k.inside
 inside_of (inr k) = k.inside
 
--- what is claimed of so many turns
+-- what is claimed of this many turns
 abbrev From : ℕ → Type 0
 From most =
     (c : Core) (s : Plain) (v : Inv c s) (h : ℕ) (x : Hart) (y : PlainHart) → slice_get c.harts h ≡ Some x → slice_get s.harts h ≡ Some y
@@ -98,7 +98,7 @@ none_left c s v h x y ex ey d u = by x.stop refl
         at (inr k) b = let p = some_left c.program c.budget c.code c.rows v.ps v.clock v.static x y k in absurd (omega arith)
 
 module _ (most : ℕ) (rest : From most) (c : Core) (s : Plain) (v : Inv c s) (h : ℕ) (x : Hart) (y : PlainHart) (ex : slice_get c.harts h ≡ Some x) (ey : slice_get s.harts h ≡ Some y) where
-  -- behind the turn
+  -- after the turn
   behind : (b : Bool) (z : Solo) (n : ℕ) → n ≤ suc most → OwesBy b c.program c.budget v.ps v.clock (Some n) h z y c.prog → OutWithin most (put_back c h z) h
   unfolding puts
   behind true z n l o =
@@ -266,7 +266,7 @@ module _ (c : Core) (s : Plain) (v : Inv c s) (h : ℕ) (x : Hart) (jump : ℕ) 
           (λ (e : (b : Piece) × In b v.ps × IsBase b × (b.row.point ≡ x.pc) × (b.row.status ≡ Live) × Door c.code b). (e.0, e.1, e.2, e.3, e.5))
           ((v.static).words x.pc r.0 r.1)
 
-  -- where the hart stands behind it
+  -- where the hart stands after it
   entered : (turn_alone c h x).hart ≡ record x { pc = (door.0).row.at; inside = true }
   entered =
       let o = ⊎_elim (λ e. absurd (true≢false (sym e ∙ out))) (λ l. l) can.1 in

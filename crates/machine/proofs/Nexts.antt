@@ -191,12 +191,12 @@ module _ (t : Words) (g : Ground t) (budget : ℕ) (code : Code) (rows : List Ro
         omega arith,
       )
 
-  -- behind a tick that doesn't jump, at a word that leaves
+  -- after a tick that doesn't jump, at a word that leaves
   abbrev pub exit : (b : Piece) (m : MovedWord t b) (w : ℕ) (pc qc : ℕ) (a e : List ℕ) → Alike a e → (j left : ℕ) → own_place m.word < j → j < length m.moved → pc ≡ moved_at b.row.at + 4 * j → slice_get m.moved j ≡ Some (leave left) → jump_of (decode_of left) (moved_at b.row.at + 4 * j) ≡ Some qc
       → AtLeave t b (ticked (own_hart (Go pc) a w (program_pc code rows x) x)) (plain.hart_after (Go qc) e y)
   exit b m w pc qc a e s j left above low at stands home = record { m = m; j = j; above = above; low = low; pc = at; left = left; stands = stands; home = home; agree = s.agree }
 
-  -- behind a tick the hart is outside, or there
+  -- after a tick the hart is outside, or there
   pub tick_place : (b : Piece) → x.inside ≡ true → (m : MovedWord t b) (w : ℕ) (jumped : Bool) (o u : Outcome) → is_jump w ≡ jumped → SameStep jumped (own_place m.word) (moved_at b.row.at) m.moved o u
       → ((own_step (done o x.regs) w (program_pc code rows x) x).hart.inside ≡ false)
       ⊎ (((own_step (done o x.regs) w (program_pc code rows x) x).hart.inside ≡ true) × AtLeave t b (own_step (done o x.regs) w (program_pc code rows x) x).hart (after_done (done u y.regs) y).hart)
@@ -251,7 +251,7 @@ module _ (t : Words) (g : Ground t) (budget : ℕ) (code : Code) (rows : List Ro
 
   -- ---- in a mini block
 
-  -- behind the body it is the jump
+  -- after the body it is the jump
   pub ending : (k : InMini budget ps x y) → k.i ≡ length (k.m).body → (w : ℕ) × (fetched t code x ≡ Some (tool w)) × Hops x.pc (k.m).next w
   ending k e =
       let s = mini_shape t code rows ps clock st k.m k.is_in k.linked in

@@ -84,7 +84,7 @@ all_apart c r = subst (λ (d : Core). AllApart d.rows) (sym r.is) (apart_replay 
 
 -- ---- apart in a room of n words
 
--- a row that is moved down where it stands behind another, by that one's length
+-- a row that is moved down where it stands after another, by that one's length
 abbrev shift : Row → Row → Row
 shift r q = record q { at = cond (nat_le (r.at + 4 * r.len) q.at) (q.at - 4 * r.len) q.at }
 

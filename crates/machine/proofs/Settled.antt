@@ -1,4 +1,4 @@
--- Settling: every hart is outside behind it.
+-- Settling: every hart is outside after it.
 use Rattle.std.proofs.Common.{◌≡◌, ℕ, zero, suc, ◌+◌, ◌<◌, ◌≤◌, ◌-◌, ◌*◌, List, [], ◌∷◌, ◌++◌, length, Option, Some, None, refl, sym, ap, ◌∙◌, ap₂, subst, arith, ⊎_elim, inl, inr}
 use Rattle.std.specs.Prelude.{Bool, true, false, cond, not, is_none, IsTrue, slice_get, ◌⊎◌, ◌||◌, ◌==◌}
 use Rattle.std.proofs.lemmas.Bool.{true≢false, cases_eq, cond-true, cond-false}
@@ -154,12 +154,12 @@ none_left (suc n) h c e = cond-true (is_out c h) [] (Turn h ∷ leaving n h (tur
 pub rest_left : (n k h : ℕ) (c : Core) → n ≡ suc k → is_out c h ≡ false → replay (leaving k h (turn c h)) (turn c h) ≡ replay (leaving n h c) c
 rest_left n k h c s e = sym (ap (λ m. replay (leaving m h c) c) s ∙ ap (λ es. replay es c) (one_left k h c e))
 
--- so many were taken, of which so many are ticks, and the others are these events
+-- of all the events this many turns were taken, this many of them ticks, and the events `es` are left
 pub record Counted (turns ticks : ℕ) (all : List Event) (old : Core) (es : List Event) (now : Core) : Type 0 where
   pub taken : turns + length es ≡ length all
   pub ticked : ticks + length (owns es now) ≡ length (owns all old)
 
--- the ticks behind a turn
+-- the ticks after a turn
 abbrev pub IsCount : ℕ → Bool → ℕ → Type 0
 IsCount count true next = next ≡ count + 1
 IsCount count false next = next ≡ count
@@ -194,7 +194,7 @@ is_count count next false (inr e) = e.1
 
 -- ---- hart by hart
 
--- hart h is next, behind so many turns, of which so many were ticks
+-- hart h is next, and so far this many turns were taken, and this many of them were ticks
 pub record Settling (most turns ticks h : ℕ) (old now : Machine) : Type 0 where
   pub coming : replay (settling_from (length old.core.harts - h) h now.core) now.core ≡ replay (settling old.core) old.core
   pub room : now.room ≡ old.room
@@ -257,7 +257,7 @@ settling_step most turns ticks h taken own old now new s l e t o less low = subs
           less = omega arith;
         }
 
--- behind all harts
+-- after all harts
 pub record AllSettled (turns ticks : ℕ) (old now : Machine) : Type 0 where
   pub is : now ≡ with_core old (replay (settling old.core) old.core)
   pub taken : turns ≡ length (settling old.core)

@@ -10,7 +10,7 @@ use Rattle.tramp_spec.specs.Slots.{places, set_places}
 pub least : (a b i : ℕ) → min a b ≤ i → (a ≤ i) ⊎ (b ≤ i)
 least a b i h = ⊎_elim (λ e. inl (leb-true a i e)) (λ e. inr (grind (arith, common_steps))) (cases_Bool (nat_le a i))
 
--- behind the end of one of the lists no variable is left
+-- after the end of one of the lists no variable is left
 pub none_left : (slots : List ℕ) (vars : List Var) (values : List ℕ) (i ticks : ℕ) (bank : List ℕ) → (length slots ≤ i) ⊎ (length vars ≤ i) → set_places (places (drop i slots) (drop i vars)) values ticks bank ≡ bank
 none_left [] vars values zero ticks bank e = refl
 none_left [] vars values (suc i) ticks bank e = refl

@@ -105,7 +105,7 @@ turns l c s h v n (Some x) e m =
 counted : {more : Linkings → Linkings} {keep fresh : Piece → Type 0} {f : Row → Status} {but : ℕ → Type 0} (l : Linkings) (c d : Core) (s : Plain) (v : Inv c s) → Numbers l v.ps v.clock → Kept keep fresh f but more v.clock v.ps c d s → Counted (more l) d s
 counted l c d s v n k = record { inv = k.inv; numbers = k.numbers l n }
 
--- one event, and the linkings behind it
+-- one event, and the linkings after it
 counted_step : (l : Linkings) (c : Core) (s : Plain) (e : Event) (v : Inv c s) → Numbers l v.ps v.clock → May c e → DoesCounted l c s e
 unfolding arms
 counted_step l c s (Turn h) v n m = turns l c s h v n (slice_get c.harts h) refl m
@@ -128,7 +128,7 @@ counted_step l c s (Sample i) v n m = (tt, record { inv = v; numbers = n })
 pub step : (c : Core) (s : Plain) (e : Event) → Inv c s → May c e → Does c s e
 step c s e v m = let a = counted_step (told_linkings v.ps v.clock) c s e v (told_numbers c s v) m in (a.0, (a.1).inv)
 
--- all events, and the linkings behind them
+-- all events, and the linkings after them
 pub counted_events : (l : Linkings) (es : List Event) (t : Words) (budget : ℕ) (c : Core) (s : Plain) → c.program ≡ t → c.budget ≡ budget → Counted l c s → Legal es c → LegalFrom t budget (owns es c) s × Counted (linkings es c l) (replay es c) (run_from t (owns es c) s)
 counted_events l [] t budget c s et eb v k = (tt, v)
 counted_events l (e ∷ es) t budget c s et eb v k =

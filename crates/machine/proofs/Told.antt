@@ -18,13 +18,13 @@ use Rattle.prim_code.proofs.Keeping.{standing_kept}
 use Rattle.prim_code.proofs.Whole.{statements_work}
 use Rattle.machine.specs.Measures.{Level, counted}
 
--- the slots stand for the values, with so many starts to spare, and where the first variable is a timer it reads its runs
+-- the slots stand for the values, with this many starts to spare, and where the first variable is a timer it reads its runs
 pub record Tells (ps : List VariableSlot) (many spare : ℕ) (v : Level) (bank : List ℕ) (ticks : ℕ) : Type 0 where
   pub size : length v.values ≡ many
   pub slots : StandFor ps spare v.values bank
   pub runs : (p : VariableSlot) → slice_get ps 0 ≡ Some p → p.timer ≡ true → read_place true p.slot ticks bank ≡ v.runs % 2 ^ 64
 
--- the starts that the statements of so many ticks can make
+-- the starts that the statements of this many ticks can make
 abbrev pub starts : ℕ → ℕ
 starts ticks = 32 * ticks
 
@@ -32,11 +32,11 @@ starts ticks = 32 * ticks
 abbrev pub Stand : Placed → ℕ → Level → List ℕ → ℕ → Type 0
 Stand i budget v bank ticks = Tells (places_of i) (length i.vars) (starts (budget - ticks)) v bank ticks
 
--- behind them, before its tick
+-- after them, before its tick
 abbrev pub Stood : Placed → ℕ → Level → List ℕ → ℕ → Type 0
 Stood i budget v bank ticks = Tells (places_of i) (length i.vars) (starts (budget - (ticks + 1))) v bank ticks
 
--- behind statements
+-- after statements
 abbrev pub behind : List Stmt → List ℕ → Level → Level
 behind stmts arguments v = record { values = values_after stmts arguments v.values; runs = v.runs }
 

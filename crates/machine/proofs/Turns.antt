@@ -61,7 +61,7 @@ module _ (t : Words) (g : Ground t) (budget : ℕ) (code : Code) (rows : List Ro
   can_go : x.ticks < budget → IsTrue (may_go (Some y) budget)
   can_go l = and_from _ _ (is_none_of y.stop plain_on) (lt-ltb _ _ (subst (λ n. n < budget) d.ticks l))
 
-  -- the machine's hart behind a word that stops it
+  -- the machine's hart after a word that stops it
   downs : (bound : Option ℕ) (c : Cause) (home : ℕ) (z : PlainHart) → home ≡ y.pc → z ≡ record { pc = y.pc; regs = y.regs; ticks = y.ticks + 1; stop = Some c } → Soon t budget ps clock bound (ticked (stopped x home c)) z
   downs bound c home z e is =
       subst (Soon t budget ps clock bound (ticked (stopped x home c))) (sym is) (
@@ -351,7 +351,7 @@ module _ (t : Words) (g : Ground t) (budget : ℕ) (code : Code) (rows : List Ro
       far : (program_word t x.pc ≡ None) × (is_text_word t x.pc ≡ false) → Owes None (fetched t code x)
       far r = owes None None (fetch_none t g budget code rows ps clock st h x y p d on o.outside r.1) (none_outside o.outside o.pc l (ap (program_word t) (sym o.pc) ∙ r.0))
 
-  -- where the hart is inside, fewer turns are left behind the turn
+  -- where the hart is inside, fewer turns are left after the turn
   abbrev most_of : HartOk t budget ps x y → Option ℕ
   most_of (inl o) = None
   most_of (inr k) = Some (left {t = t} ps clock (inr k))

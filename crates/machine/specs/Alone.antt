@@ -25,7 +25,7 @@ may_alone budget x = may_turn (Some x.hart) budget
 abbrev pub alone_of : Progress → Option Cause → List ℕ → List ℕ → Prog → Solo
 alone_of a stop regs bank p = record { hart = record { pc = a.pc; regs = regs; ticks = a.ticks; stop = stop; inside = a.inside; bank = bank }; prog = p }
 
--- so many turns, each of which the hart could take, lead from the one to the other
+-- this many turns, each of which the hart could take, lead from the one to the other
 abbrev pub Leads : StoredCode → ℕ → ℕ → ℕ → Solo → Solo → Type 0
 Leads s budget h zero x z = z ≡ x
 Leads s budget h (suc k) x z = IsTrue (may_alone budget x) × Leads s budget h k (turned_alone s h x) z
@@ -39,7 +39,7 @@ pub record IsPlaced (s : StoredCode) (budget : ℕ) (x : Solo) : Type 0 where
 abbrev pub ArePlaced : StoredCode → ℕ → ℕ → Solo → Type 0
 ArePlaced s budget h x = (k : ℕ) (z : Solo) → Leads s budget h k x z → IsPlaced s budget z
 
--- the hart took so many turns of at most `most`, and could take no more where these are fewer
+-- the hart took this many turns, at most `most`, and could take no more where these are fewer
 pub record TakesAlone (s : StoredCode) (budget h most : ℕ) (x z : Solo) (turns : ℕ) : Type 0 where
   pub leads : Leads s budget h turns x z
   pub bound : turns ≤ most

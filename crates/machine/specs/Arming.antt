@@ -12,8 +12,9 @@ pub record AreSet (ps : List VariableSlot) (values : List ℕ) (spare ticks : �
   pub others : (q : ℕ) → (IsSlotOf ps q → ⊥) → slice_index next q ≡ slice_index bank q
   pub size : length next ≡ length bank
 
--- So it is behind an arming, where no value is so high that it can't spare so many starts.
+-- So it is after an arming, where every value has this many starts to spare.
 abbrev pub ArmingSets : Type 0
 ArmingSets =
-    (ps : List VariableSlot) (values bank : List ℕ) (spare ticks : ℕ) → ArePlaces ps → length values ≡ length ps → length bank ≡ bank_len → ticks < 2 ^ 64 → AllByRecursion (λ v. v + spare < 2 ^ 64) values
+    (ps : List VariableSlot) (values bank : List ℕ) (spare ticks : ℕ) → ArePlaces ps → length values ≡ length ps → length bank ≡ bank_len
+    → ticks < 2 ^ 64 → AllByRecursion (λ v. v + spare < 2 ^ 64) values
     → AreSet ps values spare ticks bank (set_places ps values ticks bank)

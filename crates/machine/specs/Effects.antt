@@ -55,12 +55,14 @@ mini_linked (Some base) m c = record c { code = lead_to base m c.code; rows = ma
 abbrev pub mini_unlinked : Option Row → Option Row → ℕ → Core → Core
 mini_unlinked None mini m c = c
 mini_unlinked (Some holder) None m c = c
-mini_unlinked (Some holder) (Some mini) m c = record c { code = lead_to holder (next_of c.code mini) c.code; rows = map (with_status (at_set m Retired)) c.rows }
+mini_unlinked (Some holder) (Some mini) m c =
+    record c { code = lead_to holder (next_of c.code mini) c.code; rows = map (with_status (at_set m Retired)) c.rows }
 
 -- the jump to the base block stands at the point, and the base is live
 abbrev pub point_linked : Option Row → ℕ → Core → Core
 point_linked None p c = c
-point_linked (Some base) p c = record c { code = insert c.code p (enter (jump_word p base.at)); rows = map (with_status (at_set base.at Live)) c.rows }
+point_linked (Some base) p c =
+    record c { code = insert c.code p (enter (jump_word p base.at)); rows = map (with_status (at_set base.at Live)) c.rows }
 
 -- the program's word stands at the point, and its base and live mini blocks are retired
 abbrev pub point_unlinked : Option ℕ → ℕ → Core → Core
@@ -69,12 +71,13 @@ point_unlinked (Some word) p c = record c { code = insert c.code p (own word); r
 
 -- the slots of the instrument are set to its opening values for a hart, which walks its frames in this memory
 abbrev pub armed_in : Memory → Placed → Hart → Hart
-armed_in m i x = record x { bank = set_places (places_of i) (opening i.opens (walk_from m (start_of x.stop x.pc x.regs)) i.vars) x.ticks x.bank }
+armed_in m i x =
+    record x { bank = set_places (places_of i) (opening i.opens (walk_from m (start_of x.stop x.pc x.regs)) i.vars) x.ticks x.bank }
 
 abbrev pub armed : Core → Placed → Hart → Hart
 armed c i x = armed_in c.prog.mem i x
 
--- The machine behind an event.
+-- The machine after an event.
 abbrev pub after : Core → Event → Core
 after c (Turn h) = turn c h
 after c (Write block) = written block c

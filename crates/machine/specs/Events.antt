@@ -91,7 +91,9 @@ IsQuiet c = AreOutside c.harts
 
 -- a base block's point has no other that isn't retired, and its head is its own tail; a mini block may have any next
 abbrev pub HasShape : Core → Block → Bool → Type 0
-HasShape c b true = IsBase c.program b.point b.at (tail_of b.at) b.words × ((r : Row) → In r c.rows → r.base ≡ true → r.point ≡ b.point → r.status ≡ Retired)
+HasShape c b true =
+    IsBase c.program b.point b.at (tail_of b.at) b.words
+    × ((r : Row) → In r c.rows → r.base ≡ true → r.point ≡ b.point → r.status ≡ Retired)
 HasShape c b false = (next : ℕ) × IsMini b.at next b.words
 
 -- a block can be written: it has its shape, lies in tool text and overlaps no block that isn't freed

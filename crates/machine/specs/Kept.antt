@@ -26,7 +26,7 @@ use Rattle.machine.specs.Replays.{replay, Legal}
 
 -- ---- words
 
--- these words stand at an address and behind it
+-- these words stand at an address and after it
 abbrev pub Stands : Code → ℕ → List MarkedWord → Type 0
 Stands code at [] = Unit {0}
 Stands code at (w ∷ ws) = (get code at ≡ Some w) × Stands code (at + 4) ws
@@ -81,7 +81,8 @@ pub record IsOpen (code : Code) (b : Row) : Type 0 where
 
 -- at an address of the text stands the program's word, or a jump that enters a live base block of that point
 abbrev pub IsTextWord : Core → ℕ → ℕ → Type 0
-IsTextWord c a word = (get c.code a ≡ Some (own word)) ⊎ ((b : Row) × In b c.rows × (b.base ≡ true) × (b.point ≡ a) × (b.status ≡ Live) × IsOpen c.code b)
+IsTextWord c a word =
+    (get c.code a ≡ Some (own word)) ⊎ ((b : Row) × In b c.rows × (b.base ≡ true) × (b.point ≡ a) × (b.status ≡ Live) × IsOpen c.code b)
 
 -- ---- ways from block to block
 
@@ -98,13 +99,18 @@ no_linkings = record { count = 0; number = λ a. 0; under = λ a. 0 }
 -- one more, of the mini block at m
 abbrev pub link_under : Option Row → ℕ → Linkings → Linkings
 link_under None m l = l
-link_under (Some base) m l = record { count = l.count + 1; number = λ a. if a == m then l.count + 1 else l.number a; under = λ a. if a == m then base.at else l.under a }
+link_under (Some base) m l =
+    record {
+      count = l.count + 1;
+      number = λ a. if a == m then l.count + 1 else l.number a;
+      under = λ a. if a == m then base.at else l.under a;
+    }
 
 abbrev pub linkings_after : Core → Event → Linkings → Linkings
 linkings_after c (LinkMini p m) l = link_under (current_base c.rows p) m l
 linkings_after c e l = l
 
--- The linkings behind these events.
+-- The linkings after these events.
 abbrev pub linkings : List Event → Core → Linkings → Linkings
 linkings [] c l = l
 linkings (e ∷ es) c l = linkings es (after c e) (linkings_after c e l)
@@ -145,7 +151,7 @@ pub record HasBase (l : Linkings) (c : Core) (r b : Row) : Type 0 where
 
 -- ---- harts
 
--- the tick of the program's word at a point lies at or behind word j of a block of it
+-- the tick of the program's word at a point lies at or after word j of a block of it
 abbrev pub IsBeforeTick : Core → Row → ℕ → Type 0
 IsBeforeTick c r j = (r.base ≡ false) ⊎ ((word : ℕ) × (program_word c.program r.point ≡ Some word) × (j ≤ 3 + own_place word))
 
@@ -162,21 +168,24 @@ pub record IsInside (c : Core) (x : Hart) : Type 0 where
 
 -- ---- together
 
--- All this is so of a state behind these linkings.
+-- All this is so of a state after these linkings.
 pub record IsKept (l : Linkings) (c : Core) : Type 0 where
   pub blocks : (r : Row) → In r c.rows → IsBlock c r
   pub apart : (r s : Row) → In r c.rows → In s c.rows → (r ≡ s) ⊎ Apart r.at r.len s.at s.len
-  pub bases : (b d : Row) → In b c.rows → In d c.rows → b.base ≡ true → d.base ≡ true → b.point ≡ d.point → is_current b.status ≡ true → is_current d.status ≡ true → b ≡ d
+  pub bases : (b d : Row) → In b c.rows → In d c.rows → b.base ≡ true → d.base ≡ true → b.point ≡ d.point → is_current b.status ≡ true
+      → is_current d.status ≡ true → b ≡ d
   pub text : (a word : ℕ) → program_word c.program a ≡ Some word → IsTextWord c a word
   pub open_at : (b : Row) → In b c.rows → b.base ≡ true → b.status ≡ Live → IsOpen c.code b
   pub numbers : (r : Row) → In r c.rows → r.base ≡ false → WasLinked r → (0 < l.number r.at) × (l.number r.at ≤ l.count)
-  pub distinct : (r s : Row) → In r c.rows → In s c.rows → r.base ≡ false → s.base ≡ false → WasLinked r → WasLinked s → l.number r.at ≡ l.number s.at → r ≡ s
+  pub distinct : (r s : Row) → In r c.rows → In s c.rows → r.base ≡ false → s.base ≡ false → WasLinked r → WasLinked s
+      → l.number r.at ≡ l.number s.at → r ≡ s
   pub families : (r : Row) → In r c.rows → r.base ≡ false → WasLinked r → (b : Row) × HasBase l c r b
-  pub ways : (r : Row) → In r c.rows → r.base ≡ false → WasLinked r → LeadsDown l c (l.under r.at) (l.number r.at) (next_of c.code r) (is_live r.status)
+  pub ways : (r : Row) → In r c.rows → r.base ≡ false → WasLinked r
+      → LeadsDown l c (l.under r.at) (l.number r.at) (next_of c.code r) (is_live r.status)
   pub heads : (b : Row) → In b c.rows → b.base ≡ true → LeadsDown l c b.at (l.count + 1) (next_of c.code b) (is_current b.status)
   pub harts : (h : ℕ) (x : Hart) → slice_get c.harts h ≡ Some x → x.inside ≡ true → IsInside c x
 
--- That is so behind every list of events of which each may happen when it comes.
+-- That is so after every list of events of which each may happen when it comes.
 abbrev pub Keeps : Type 0
 Keeps =
     (image : Image) (n budget : ℕ) (es : List Event) → IsProgram image → Legal es (start_core image n budget)

@@ -22,11 +22,12 @@ pub record IsProgram (i : Image) : Type 0 where
   pub narrow : AllByRecursion (λ w. w < 2 ^ 32) (words_of (text_of i))
   pub unscratched : scratch_in (words_of (text_of i)) i.text_at ≡ None
 
--- The ticks of these events are a run of the unpatched program, and the patched machine is that program's state behind it.
+-- The ticks of these events are a run of the unpatched program, and the patched machine is that program's state after it.
 pub record Erases (image : Image) (n budget : ℕ) (es : List Event) : Type 0 where
   pub legal : IsLegal image n budget (owns es (start_core image n budget))
   pub same : SameProgram (replay es (start_core image n budget)) (run image n (owns es (start_core image n budget)))
 
 -- That is so of every list of events of which each may happen when it comes.
 abbrev pub Erasure : Type 0
-Erasure = (image : Image) (n budget : ℕ) (es : List Event) → IsProgram image → Legal es (start_core image n budget) → Erases image n budget es
+Erasure =
+    (image : Image) (n budget : ℕ) (es : List Event) → IsProgram image → Legal es (start_core image n budget) → Erases image n budget es

@@ -23,23 +23,26 @@ is_out_now (Some x) = not (is_none x.stop) || not x.inside
 abbrev pub is_out : Core → ℕ → Bool
 is_out c h = is_out_now (slice_get c.harts h)
 
--- hart h is so after at most so many turns, each of which it can take
+-- hart h is so after at most this many turns, each of which it can take
 abbrev pub OutWithin : ℕ → Core → ℕ → Type 0
 OutWithin zero c h = is_out c h ≡ true
 OutWithin (suc most) c h = (is_out c h ≡ true) ⊎ (IsTrue (is_runnable c h) × OutWithin most (turn c h) h)
 
 -- a hart that is inside stands in a block, and is out within the words of the blocks of its point
 abbrev pub OutSoon : Core → Type 0
-OutSoon c = (h : ℕ) (x : Hart) → slice_get c.harts h ≡ Some x → x.inside ≡ true → (r : Row) × (block_at c.rows x.pc ≡ Some r) × OutWithin (words_at r.point c.rows) c h
+OutSoon c =
+    (h : ℕ) (x : Hart) → slice_get c.harts h ≡ Some x → x.inside ≡ true
+    → (r : Row) × (block_at c.rows x.pc ≡ Some r) × OutWithin (words_at r.point c.rows) c h
 
--- A hart outside that can take the jump into a trampoline is out within one turn more than that: behind the jump, within the words
+-- A hart outside that can take the jump into a trampoline is out within one turn more than that: after the jump, within the words
 -- of the blocks of the point at which it stood.
 abbrev pub OutSoonBehindEnter : Core → Type 0
 OutSoonBehindEnter c =
-    (h : ℕ) (x : Hart) (jump : ℕ) → slice_get c.harts h ≡ Some x → x.inside ≡ false → IsTrue (is_runnable c h) → fetched c.program c.code x ≡ Some (enter jump)
+    (h : ℕ) (x : Hart) (jump : ℕ) → slice_get c.harts h ≡ Some x → x.inside ≡ false → IsTrue (is_runnable c h)
+    → fetched c.program c.code x ≡ Some (enter jump)
     → OutWithin (words_at x.pc c.rows) (turn c h) h
 
--- Both are so behind every list of events of which each may happen when it comes.
+-- Both are so after every list of events of which each may happen when it comes.
 abbrev pub LeavesSoon : Type 0
 LeavesSoon =
     (image : Image) (n budget : ℕ) (es : List Event) → IsProgram image → Legal es (start_core image n budget)

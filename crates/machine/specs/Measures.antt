@@ -13,7 +13,7 @@ use Rattle.frame_walk.specs.Walks.{walk}
 
 -- ---- values
 
--- the values of a plan's variables for one hart, and at how many of its positions so far the first wasn't 0 behind the
+-- the values of a plan's variables for one hart, and at how many of its positions so far the first wasn't 0 after the
 -- position's own statements
 pub record Level : Type 0 where
   pub values : List ℕ
@@ -30,7 +30,7 @@ site_at plan a = find (λ s. s.at == a) plan.sites
 abbrev pub counted : List ℕ → ℕ → Level
 counted values runs = record { values = values; runs = if slice_index values 0 == 0 then runs else runs + 1 }
 
--- behind a position of the hart
+-- after a position of the hart
 abbrev pub passed : Plan → PlainHart → Level → Level
 passed plan x v = counted (site_values (site_at plan x.pc) (arguments_of x.regs) v.values) v.runs
 
@@ -38,7 +38,7 @@ abbrev pub passed_by : Option PlainHart → Plan → Level → Level
 passed_by None plan v = v
 passed_by (Some x) plan v = passed plan x v
 
--- hart h's level behind these turns, from a state and its level there
+-- hart h's level after these turns, from a state and its level there
 abbrev pub level : Words → Plan → ℕ → List ℕ → Plain → Level → Level
 level t plan h [] s v = v
 level t plan h (g ∷ turns) s v = level t plan h turns (plain t g s) (if g == h then passed_by (slice_get s.harts h) plan v else v)
@@ -47,9 +47,10 @@ level t plan h (g ∷ turns) s v = level t plan h turns (plain t g s) (if g == h
 abbrev pub opened : Plan → Plain → ℕ → Level
 opened plan s h = record { values = opening plan.opens (walk s h) plan.vars; runs = 0 }
 
--- Hart h's level behind its positions from time a to time k.
+-- Hart h's level after its positions from time a to time k.
 abbrev pub level_at : Words → Plan → ℕ → ℕ → ℕ → List ℕ → Plain → Level
-level_at t plan h a k turns s = level t plan h (drop a (take k turns)) (run_from t (take a turns) s) (opened plan (run_from t (take a turns) s) h)
+level_at t plan h a k turns s =
+    level t plan h (drop a (take k turns)) (run_from t (take a turns) s) (opened plan (run_from t (take a turns) s) h)
 
 -- ---- measures
 
@@ -67,7 +68,8 @@ difference from to = (to + (2 ^ 64 - from % 2 ^ 64)) % 2 ^ 64
 
 -- over the time from b to c, for a hart
 abbrev pub measure_of : Words → Plan → ℕ → ℕ → ℕ → ℕ → List ℕ → Plain → ℕ
-measure_of t plan a b c h turns s = difference (measured plan (level_at t plan h a b turns s)) (measured plan (level_at t plan h a c turns s))
+measure_of t plan a b c h turns s =
+    difference (measured plan (level_at t plan h a b turns s)) (measured plan (level_at t plan h a c turns s))
 
 -- What a plan measures over the time from b to c, for these harts together, where it was armed at time a.
 abbrev pub measure : Words → Plan → List ℕ → ℕ → ℕ → ℕ → List ℕ → Plain → ℕ

@@ -13,7 +13,7 @@ use Rattle.tramp_spec.specs.declared.mark.MarkedWord.{MarkedWord}
 use Rattle.code_store.specs.Stores.{StoredCode}
 use Rattle.machine.specs.Places.{home_of_word}
 
--- where a hart stands behind a word that isn't the program's
+-- where a hart stands after a word that isn't the program's
 abbrev pub stood_after : Option Cause → ℕ → Bench → Result Stood Cause
 stood_after None pc x = Ok (stand pc x)
 stood_after (Some cause) pc x = Err cause

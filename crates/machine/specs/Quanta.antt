@@ -8,7 +8,7 @@ use Rattle.machine.specs.Laws.{IsProgram}
 use Rattle.machine.specs.Replays.{replay, Legal, owns}
 use Rattle.machine.specs.States.{quantum_turns}
 
--- These events are turns of hart h, at most so many, each of which it could take when it came.
+-- These events are turns of hart h, at most this many, each of which it could take when it came.
 pub record IsQuantum (most h : ℕ) (es : List Event) (c : Core) : Type 0 where
   pub legal : Legal es c
   pub owned : owns es c ≡ replicate (length (owns es c)) h
@@ -31,6 +31,8 @@ TimeGoesOn = (es : List Event) (c : Core) → ticks_in (replay es c).harts ≡ t
 abbrev pub KeepsBudget : Core → Type 0
 KeepsBudget c = (h : ℕ) (x : Hart) → slice_get c.harts h ≡ Some x → x.ticks ≤ c.budget
 
--- That is so behind every list of events of which each may happen when it comes.
+-- That is so after every list of events of which each may happen when it comes.
 abbrev pub BudgetIsKept : Type 0
-BudgetIsKept = (image : Image) (n budget : ℕ) (es : List Event) → IsProgram image → Legal es (start_core image n budget) → KeepsBudget (replay es (start_core image n budget))
+BudgetIsKept =
+    (image : Image) (n budget : ℕ) (es : List Event) → IsProgram image → Legal es (start_core image n budget)
+    → KeepsBudget (replay es (start_core image n budget))

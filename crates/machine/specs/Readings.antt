@@ -33,8 +33,8 @@ ticks_of es c = length (owns es c)
 
 -- ---- the law
 
--- An instrument is armed in the course of these events, where it carries a plan, and is in force since. It can be sampled behind
--- the first of the events since, which may be none, and again behind all.
+-- An instrument is armed in the course of these events, where it carries a plan, and is in force since. It can be sampled after
+-- the first of the events since, which may be none, and again after all.
 pub record IsSampled (i : Placed) (plan : Plan) (es : List Event) (c : Core) : Type 0 where
   pub force : InForce i es c
   pub carries : Carries (replay force.before c) i plan
@@ -58,5 +58,6 @@ MeasuresFor harts t s {i = i} {plan = plan} {es = es} {c = c} r =
 -- That is so for every list of events of which each may happen when it comes.
 abbrev pub ReadingsMeasure : Type 0
 ReadingsMeasure =
-    (image : Image) (n budget : ℕ) (i : Placed) (plan : Plan) (harts : List ℕ) (es : List Event) → IsProgram image → budget ≤ MAX_BUDGET → IsMeasurable plan → Legal es (start_core image n budget)
+    (image : Image) (n budget : ℕ) (i : Placed) (plan : Plan) (harts : List ℕ) (es : List Event) → IsProgram image → budget ≤ MAX_BUDGET
+    → IsMeasurable plan → Legal es (start_core image n budget)
     → (r : IsSampled i plan es (start_core image n budget)) → MeasuresFor harts (program_of image) (start image n) r

@@ -4,7 +4,7 @@ use Rattle.machine.specs.Cores.{Core}
 use Rattle.machine.specs.Events.{Event, May}
 use Rattle.machine.specs.Effects.{after, owned}
 
--- The state behind these events.
+-- The state after these events.
 abbrev pub replay : List Event → Core → Core
 replay [] c = c
 replay (e ∷ es) c = replay es (after c e)

@@ -16,7 +16,7 @@ with_core m c = record { core = c; room = m.room }
 
 -- ---- a quantum: a hart takes turns as long as it is runnable
 
--- The turns of hart h, at most so many.
+-- The turns of hart h, at most this many.
 abbrev pub quantum_turns : ℕ → ℕ → Core → List Event
 quantum_turns zero h c = []
 quantum_turns (suc most) h c = if is_runnable c h then Turn h ∷ quantum_turns most h (turn c h) else []
@@ -28,12 +28,12 @@ abbrev pub words_in : List Row → ℕ
 words_in [] = 0
 words_in (r ∷ rs) = r.len + words_in rs
 
--- the turns of hart h until it is out, at most so many
+-- the turns of hart h until it is out, at most this many
 abbrev pub leaving : ℕ → ℕ → Core → List Event
 leaving zero h c = []
 leaving (suc most) h c = if is_out c h then [] else Turn h ∷ leaving most h (turn c h)
 
--- the same of so many harts from h on, one after another
+-- the same of this many harts from h on, one after another
 abbrev pub settling_from : ℕ → ℕ → Core → List Event
 settling_from zero h c = []
 settling_from (suc more) h c = leaving (words_in c.rows) h c ++ settling_from more (h + 1) (replay (leaving (words_in c.rows) h c) c)

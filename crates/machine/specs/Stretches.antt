@@ -11,7 +11,7 @@ use Rattle.tramp_spec.specs.declared.mark.Mark.TheVariants.{Own}
 use Rattle.tramp_spec.specs.declared.mark.MarkedWord.{MarkedWord}
 use Rattle.code_store.specs.Stores.{StoredCode}
 
--- where a hart is behind a word, with what all harts share
+-- where a hart is after a word, with what all harts share
 pub record Left : Type 0 where
   pub pc : ℕ
   pub stop : Option Cause
@@ -34,7 +34,8 @@ abbrev pub HasOwn : Option MarkedWord → (Option Instr → Type 0) → Type 0
 HasOwn None claim = ⊥
 HasOwn (Some w) claim = (w.mark ≡ Own) × claim (decode_of w.word)
 
--- So many words of the program, each of which a hart outside fetches and runs, lead from the one to the other.
+-- This many words of the program, each of which a hart outside fetches and runs, lead from the one to the other.
 abbrev pub AreRun : StoredCode → ℕ → ℕ → Left → Left → Type 0
 AreRun s h zero x z = z ≡ x
-AreRun s h (suc n) x z = (x.stop ≡ None) × HasOwn (fetched_at s.program s.code x.pc false) (λ i. AreRun s h n (ran h i x.pc x.regs x.prog) z)
+AreRun s h (suc n) x z =
+    (x.stop ≡ None) × HasOwn (fetched_at s.program s.code x.pc false) (λ i. AreRun s h n (ran h i x.pc x.regs x.prog) z)

@@ -31,7 +31,7 @@ abbrev pub turn_by : Option Hart → Core → ℕ → Core
 turn_by None c h = c
 turn_by (Some x) c h = put_back c h (turn_alone c h x)
 
--- The machine behind a turn of hart h.
+-- The machine after a turn of hart h.
 abbrev pub turn : Core → ℕ → Core
 turn c h = turn_by (slice_get c.harts h) c h
 

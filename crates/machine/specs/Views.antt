@@ -24,7 +24,8 @@ pub record BlockList : Type 0 where
   pub room : ℕ
 
 abbrev pub core_of : List Hart → Prog → StoredCode → List Row → ℕ → Core
-core_of harts prog store rows budget = record { program = store.program; budget = budget; harts = harts; prog = prog; code = store.code; rows = rows }
+core_of harts prog store rows budget =
+    record { program = store.program; budget = budget; harts = harts; prog = prog; code = store.code; rows = rows }
 
 -- the parts of a machine fit each other
 pub record IsSound (harts : List Hart) (prog : Prog) (store : StoredCode) (rows : List Row) (budget : ℕ) : Type 0 where

@@ -1,3 +1,5 @@
+//! The blocks of a machine.
+
 ghost use Rattle.std.specs.Prelude.{◌≡◌, ◌+◌, ◌-◌, ◌*◌, ◌^◌, ◌<◌, ◌≤◌, ◌&&◌, ◌==◌, [], ◌∷◌, ◌++◌, find, filter, map, length, max, IfOk, IsTrue, OnErr, OnOk};
 ghost use Rattle.std.specs.Option.{option_map};
 ghost use Rattle.pn_types.specs.declared.limits.TheConstants.{TOOL_TEXT_LEN};
@@ -70,10 +72,11 @@ fn words_of(rows: &[Option<BlockRow>]) -> u32
     words
 }
 
-/// Puts the places of blocks into the buckets of their points, behind those that are there.
+/// Puts the places of blocks into the buckets of their points, after those that are there.
 fn put_places(rows: &[Option<BlockRow>], places: &mut Chains)
     requires { length rows.now ≤ places.old.room }
-    ensures { places.new ≡ record { buckets = places.old.buckets ++ buckets_of (λ r. r.point) rows.now; room = places.old.room - length rows.now } }
+    ensures { places.new
+        ≡ record { buckets = places.old.buckets ++ buckets_of (λ r. r.point) rows.now; room = places.old.room - length rows.now } }
 {
     for row in rows {
         match row {
@@ -88,7 +91,7 @@ impl Blocks {
     ///
     /// # Errors
     ///
-    /// `NoMemory` where memory is wanting.
+    /// `NoMemory` if memory runs out.
     pub fn new(alloc: Global) -> Result<Blocks, NoMemory>
         ensures { IfOk result (λ blocks. blocks ≡ record { rows = []; room = 0 }) }
     {
@@ -100,11 +103,11 @@ impl Blocks {
         })
     }
 
-    /// Room for so many blocks more, counting the room that there is. Only this takes memory.
+    /// Makes room for `blocks` more blocks, counting the room that there is. Only this takes memory.
     ///
     /// # Errors
     ///
-    /// `NoMemory` where memory is wanting. Then nothing has changed.
+    /// `NoMemory` if memory runs out. Then nothing has changed.
     pub fn reserve(&mut self, blocks: u32) -> Result<(), NoMemory>
         ensures ok { OnOk result (self.new ≡ record self.old { room = max blocks self.old.room }) }
         ensures err { OnErr result (self.new ≡ self.old) }
@@ -117,7 +120,7 @@ impl Blocks {
         Ok(())
     }
 
-    /// Leaves out the places that have no block, where they are more than half of the places and more than the buckets.
+    /// Removes the places that have no block, where these are more than half of the places and more than the buckets.
     fn compact(&mut self)
         ensures { self.new ≡ self.old }
     {
@@ -130,7 +133,7 @@ impl Blocks {
         self.empty = 0;
     }
 
-    /// One block more, behind the others.
+    /// Appends a block.
     pub fn push(&mut self, row: BlockRow)
         requires { 0 < self.old.room }
         ensures { self.new ≡ record { rows = self.old.rows ++ row_of row ∷ []; room = self.old.room - 1 } }
@@ -209,7 +212,7 @@ impl Blocks {
         None
     }
 
-    /// The block at an address has a status from now on. It must be of the point, if there is one.
+    /// Gives the block at an address a status. It must be of the point, if there is one.
     pub fn set_status(&mut self, point: u64, at: u64, status: BlockStatus)
         requires { (r : Row) → In r self.old.rows → r.at ≡ at → r.point ≡ point }
         ensures { self.new ≡ record self.old { rows = map (with_status (at_set at (status_of status))) self.old.rows } }
@@ -225,7 +228,7 @@ impl Blocks {
         }
     }
 
-    /// What is linked at a point is retired from now on.
+    /// Retires what is linked at a point.
     pub fn retire_point(&mut self, point: u64)
         ensures { self.new ≡ record self.old { rows = map (with_status (retired_at point)) self.old.rows } }
     {
@@ -243,7 +246,7 @@ impl Blocks {
         }
     }
 
-    /// Takes the retired blocks of a point out. Their words belong to no block any more.
+    /// Removes the retired blocks of a point. Their words belong to no block any more.
     pub fn remove_retired(&mut self, point: u64, store: &mut Store)
         requires { (r : Row) → In r self.old.rows → IsWithin store.old.program r }
         ensures rows { self.new ≡ record self.old { rows = filter (is_kept point) self.old.rows } }

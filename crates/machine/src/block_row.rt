@@ -1,3 +1,5 @@
+//! What a machine knows of one block.
+
 ghost use Rattle.std.specs.Prelude.{◌≡◌, ◌^◌, ◌<◌, ◌&&◌, ◌==◌, Some};
 ghost use Rattle.machine.specs.Cores.{is_current};
 ghost use Rattle.machine.specs.Effects.{is_kept};

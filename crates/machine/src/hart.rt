@@ -1,3 +1,5 @@
+//! What one hart has.
+
 ghost use Rattle.std.specs.Prelude.{◌≡◌, ◌<◌, ◌+◌, ◌^◌, true, None, Some, IfOk, length};
 ghost use Rattle.std.specs.List.{AllByRecursion};
 ghost use Rattle.tramp_spec.specs.Banks.{bank_len};
@@ -48,8 +50,8 @@ impl Model for HartState {
     ghost invariant = { λ h. length h.bank.items ≡ bank_len };
 }
 
-/// The home of a pc: the point of the block in which a hart stands that is inside, but behind the program's word the address
-/// to which it leaves.
+/// The home of a pc. Of a hart that is inside it is the point of the block in which it stands, but after the program's word the
+/// address to which it leaves.
 #[inline(never)]
 pub fn home(store: &Store, pc: u64, inside: bool) -> u64
     requires { inside ≡ true → is_tool_word store.now.program pc ≡ true }
@@ -69,13 +71,17 @@ pub fn home(store: &Store, pc: u64, inside: bool) -> u64
 
 impl HartState {
     /// A hart that starts outside, with nothing in its bank.
+    ///
+    /// # Errors
+    ///
+    /// `NoMemory` if memory runs out.
     pub fn first(alloc: Global, pc: u64, regs: Regs) -> Result<HartState, NoMemory>
         ensures { IfOk result (λ hart. hart ≡ first_hart (record { pc = pc; regs = regs; ticks = 0; stop = None })) }
     {
         HartState::with_bank(alloc, pc, regs, BANK_LEN as usize)
     }
 
-    /// The same, with so many doublewords in its bank.
+    /// The same, with `len` doublewords in its bank.
     fn with_bank(alloc: Global, pc: u64, regs: Regs, len: usize) -> Result<HartState, NoMemory>
         requires { len ≡ bank_len }
         ensures { IfOk result (λ hart. hart ≡ first_hart (record { pc = pc; regs = regs; ticks = 0; stop = None })) }

@@ -1,3 +1,5 @@
+//! Arming and reading instruments.
+
 ghost use Rattle.std.specs.Prelude.{◌≡◌, ◌↔◌, if◌then◌else◌, false, map, IsTrue, length};
 ghost use Rattle.std.specs.List.{AllByRecursion, list_all};
 ghost use Rattle.tramp_spec.specs.Codes.{fetched_at};
@@ -41,8 +43,8 @@ fn read_harts(harts: &[HartState], instrument: &Placed, readings: &mut Seq<u64>)
 }
 
 impl Machine {
-    /// Arms an instrument: on each hart its variables get their opening values, which tell of the procedures that are open there. It
-    /// answers false exactly where a hart is inside a trampoline or a site of the instrument isn't linked; then nothing changes. It
+    /// Arms an instrument: on each hart its variables get their opening values, which tell of the procedures that are open there.
+    /// Returns false exactly where a hart is inside a trampoline or a site of the instrument isn't linked; then nothing changes. It
     /// takes no memory.
     pub fn arm(&mut self, instrument: &Placed) -> bool
         requires small { AllByRecursion IsSmall instrument.now.opens }
@@ -56,8 +58,8 @@ impl Machine {
         true
     }
 
-    /// Reads an instrument on each hart. It answers false exactly where a hart is inside a trampoline; then the sample stays. There
-    /// must be as many readings as harts.
+    /// Reads an instrument on each hart. Returns false exactly where a hart is inside a trampoline; then the sample stays as it is.
+    /// There must be as many readings as harts.
     pub fn sample(&self, instrument: &Placed, sample: &mut Sample) -> bool
         requires { length sample.old.readings ≡ length self.now.core.harts }
         ensures quiet { IsTrue result ↔ IsQuiet self.now.core }

@@ -10,9 +10,9 @@ ghost use Rattle.machine.specs.Readings.{ReadingsMeasure};
 
 /// Erasure. Take any image whose text is of words of 32 bits that never name x31, any number of harts and budget, and any list of
 /// events each of which may happen when it comes: turns, also inside trampolines, and blocks that are written, linked,
-/// unlinked and freed. The turns that execute words of the program are a legal run of the unpatched program, and behind the list the patched
-/// machine is that program behind this run: memory, reservations and output are equal, and each hart has the program's ticks, stop,
-/// pc and registers x1 to x30, those that the tool has saved or is rebuilding being taken from where they are.
+/// unlinked and freed. The turns that execute words of the program are a legal run of the unpatched program, and after the list the
+/// patched machine is that program after this run: memory, reservations and output are equal, and each hart has the program's
+/// ticks, stop, pc and registers x1 to x30, those that the tool has saved or is rebuilding being taken from where they are.
 pub fn erasure()
     ensures { Erasure }
 {}
@@ -25,10 +25,11 @@ pub fn kept()
     ensures { Keeps }
 {}
 
-/// Readings. Take any list of events each of which may happen when it comes, and an instrument that is armed in its course, carries a
-/// plan there and is in force since. Its readings for any harts together, minus those of an earlier moment since the arming at which no hart
-/// was inside, are what the plan measures between the two on the unpatched program, whose run is the ticks of these events. All else
-/// may happen meanwhile: slots that were another's before, other instruments at the same points, links, unlinks and frees.
+/// Readings. Take any list of events each of which may happen when it comes, and an instrument that is armed in its course, carries
+/// a plan there and is in force since. Its readings for any harts together, minus those of an earlier moment since the arming at
+/// which no hart was inside, are what the plan measures between the two on the unpatched program, whose run is the ticks of these
+/// events. All else may happen meanwhile: slots that were another's before, other instruments at the same points, links, unlinks
+/// and frees.
 pub fn readings_measure()
     ensures { ReadingsMeasure }
 {}

@@ -17,7 +17,7 @@ use code_store::Store;
 use pn_types::NoMemory;
 use tramp_spec::{Block, MarkedWord, jump_word};
 
-/// The word that leads from a block to the next leads to an address from now on.
+/// Lets the word that leads from a block to the next lead to an address.
 fn lead_to(store: &mut Store, row: &BlockRow, target: u64)
     requires { HasLink store.old.program (row_of row.now) }
     ensures { store.new ≡ record store.old { code = lead_to (row_of row.now) target store.old.code } }
@@ -27,11 +27,11 @@ fn lead_to(store: &mut Store, row: &BlockRow, target: u64)
 }
 
 impl Machine {
-    /// Room for so many blocks more, counting the room that there is. Of the calls that patch only this one takes memory.
+    /// Makes room for `blocks` more blocks, counting the room that there is. Of the calls that patch only this one takes memory.
     ///
     /// # Errors
     ///
-    /// `NoMemory` where memory is wanting. Then nothing has changed.
+    /// `NoMemory` if memory runs out. Then nothing has changed.
     pub fn reserve(&mut self, blocks: u32) -> Result<(), NoMemory>
         ensures ok { OnOk result (self.new ≡ record self.old { room = max blocks self.old.room }) }
         ensures err { OnErr result (self.new ≡ self.old) }
@@ -109,8 +109,8 @@ impl Machine {
         }
     }
 
-    /// Frees the retired blocks of a point, so that others can be written in their place: true exactly where no hart is inside a
-    /// block of the point, and else nothing changes. For how many more blocks there is room stays.
+    /// Frees the retired blocks of a point, so that others can be written in their place. Returns true exactly where no hart is inside
+    /// a block of the point; else nothing changes. The room for more blocks stays as it is.
     pub fn free(&mut self, point: u64) -> bool
         ensures may { IsTrue result ↔ May self.old.core (Free point) }
         ensures state { self.new ≡ if result then with_core self.old (after self.old.core (Free point)) else self.old }
@@ -134,14 +134,14 @@ impl Machine {
         }
     }
 
-    /// A hart is inside a block of the point.
+    /// Whether a hart is inside a block of the point.
     fn has_hart_at(&self, point: u64) -> bool
         ensures { result ≡ list_any (λ x. x.inside && is_of point (owner_by self.now.core.rows x.pc)) self.now.core.harts }
     {
         self.harts.iter().any(|hart| self.is_at(hart, point))
     }
 
-    /// The hart is inside, at a word of a block of the point.
+    /// Whether the hart is inside, at a word of a block of the point.
     fn is_at(&self, hart: &HartState, point: u64) -> bool
         ensures { result ≡ hart.now.inside && is_of point (owner_by self.now.core.rows hart.now.pc) }
     {

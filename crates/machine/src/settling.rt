@@ -1,3 +1,5 @@
+//! Settling: harts that are inside trampolines go on until they are outside.
+
 ghost use Rattle.std.specs.Prelude.{◌≡◌, ◌-◌, ◌<◌, ◌≤◌, length};
 ghost use Rattle.machine.specs.Events.{IsQuiet};
 ghost use Rattle.machine.specs.Leaving.{is_out};
@@ -9,8 +11,8 @@ use crate::quantum::Taken;
 use pn_types::HartNo;
 
 impl Machine {
-    /// Each hart that is inside a trampoline, by number, takes turns until it is outside or stopped. It answers how many of these
-    /// turns weren't ticks, and takes no memory. Then no hart is inside.
+    /// Lets each hart that is inside a trampoline, by number, take turns until it is outside or stopped. Then no hart is inside. Returns
+    /// how many of these turns weren't ticks, and takes no memory.
     pub fn settle(&mut self) -> u64
         ensures settled { self.new ≡ with_core self.old (replay (settling self.old.core) self.old.core) }
         ensures idle { result ≡ length (settling self.old.core) - length (owns (settling self.old.core) self.old.core) }
@@ -21,7 +23,7 @@ impl Machine {
         u64::from(taken.turns - taken.ticks)
     }
 
-    /// Settles, and answers how many turns that took and how many of them were ticks.
+    /// Settles. Returns how many turns that took, and how many of them were ticks.
     pub fn take_settling(&mut self) -> Taken
         ensures settled { self.new ≡ with_core self.old (replay (settling self.old.core) self.old.core) }
         ensures few { result.ticks ≤ result.turns }
@@ -41,7 +43,7 @@ impl Machine {
         Taken { turns, ticks }
     }
 
-    /// The hart takes turns until it is outside or stopped, at most so many. It answers how many these were.
+    /// Lets the hart take turns until it is outside or stopped, at most `most`. Returns how many these were.
     fn leave(&mut self, hart: HartNo, most: u32) -> Taken
         requires { hart < length self.old.core.harts }
         ensures left { self.new ≡ with_core self.old (replay (leaving most hart self.old.core) self.old.core) }

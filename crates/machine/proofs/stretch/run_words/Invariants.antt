@@ -4,7 +4,7 @@ use Rattle.machine.specs.Stretches.{AreRun}
 use Rattle.machine.proofs.Stretches.{left}
 use Rattle.machine.proofs.stretch.run_words.Given as goal
 
--- so many words led here
+-- the words so far led here
 abbrev pub invariant-loop-turns : goal.invariant-loop-turns
 invariant-loop-turns l = record {
   ran : AreRun l.store l.number l.turns (left l.fn.pc None l.fn.regs (prog_of l.fn.mem l.fn.resv l.fn.out)) (left l.pc l.stop l.regs (prog_of l.mem l.resv l.out));
