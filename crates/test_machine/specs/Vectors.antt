@@ -67,7 +67,7 @@ reserved true i pc h regs p = do
   lr ← reserving i
   gone (exec_of (word_of lr) pc h regs p)
 
--- ---- behind the word
+-- ---- after the word
 
 -- the eight bytes at the address that was accessed, if one was
 abbrev pub bytes_left : Memory → Option ℕ → Option (Option ℕ)

@@ -56,7 +56,7 @@ struct Filled {
     refused: Option<Refused>,
 }
 
-/// Admits a plan over and over, where so many instruments are allowed, up to the first time that it is refused.
+/// Admits a plan over and over, where `instruments` instruments are allowed, up to the first time that it is refused.
 fn fill(alloc: Global, instruments: u32, plan: &Plan, cost: Option<u64>) -> Result<Filled, NoMemory>
     requires some { 0 < instruments }
     requires few { instruments ≤ MAX_INSTRUMENTS }
@@ -117,7 +117,7 @@ fn first_open(alloc: Global, plan: &Plan) -> Result<Option<Opened>, NoMemory>
     }
 }
 
-/// Prints how often a plan is admitted, where so many instruments are allowed.
+/// Prints how often a plan is admitted, where `instruments` instruments are allowed.
 fn print_filled(
     rt: &impl Print,
     alloc: Global,

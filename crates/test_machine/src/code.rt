@@ -15,7 +15,7 @@ use numbers::Numbers;
 use std::alloc::Global;
 use std::io;
 
-/// Prints a row and the answer of its call; `no call` where it isn't understood.
+/// Prints a row and what its call returns; `no call` where it isn't understood.
 pub fn answer(rt: &impl Print, alloc: Global, row: &str) -> io::Result<()> {
     println!(rt; "{row}")?;
     let mut words = row.split(' ');

@@ -1,4 +1,4 @@
-//! Compares what words mean here with answers from outside.
+//! Compares what words mean here with what they mean elsewhere.
 //!
 //! A row has columns, which tabs separate and whose numbers are hexadecimal:
 //!
@@ -34,6 +34,10 @@ pub struct Judge {
 
 impl Judge {
     /// A machine at its start, and no rows.
+    ///
+    /// # Errors
+    ///
+    /// `NoMemory` if memory runs out.
     pub fn new(alloc: Global) -> Result<Judge, NoMemory> {
         Ok(Judge {
             machine: Machine::new(alloc)?,

@@ -1,8 +1,8 @@
-//! Answers the lines of the standard input. A line is a word that names a table, and behind a space a row of it:
+//! Does what the lines of the standard input say. A line is a word that names a table, a space, and a row of that table:
 //!
 //! - `admissions`: plans that are admitted up to the first refusal ([`admissions`]);
 //! - `code`: calls on moved words, blocks and the store of code ([`code`]);
-//! - `conformance`: what words mean, compared with answers from outside ([`conformance`]);
+//! - `conformance`: what words mean, compared with what they mean elsewhere ([`conformance`]);
 //! - `patched`: what is done with a patched machine, in order ([`patched`]).
 //!
 //! A line that begins with `#` says nothing. At the end the rows of `conformance` are counted; the status is 0 exactly where each of
@@ -41,7 +41,7 @@ impl Table {
     }
 }
 
-/// Prints the answer to a line.
+/// Does what a line says, and prints what comes of it.
 fn answer(rt: &impl Print, alloc: Global, judge: &mut Judge, line: &str) -> io::Result<()> {
     if line.starts_with('#') {
         return Ok(());

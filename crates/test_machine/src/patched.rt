@@ -1,7 +1,7 @@
 //! Runs of a patched machine of one hart, by its own calls. A row is the name of a machine ([`machines`]) and what is done with it, in
-//! order, between single spaces; it is printed, then what each of these answers, and then how the machine stands:
+//! order, between single spaces; it is printed, then what each of these returns, and then how the machine stands:
 //!
-//! - a number: the hart takes so many turns, or as many as it can; how many of them were ticks.
+//! - a number: the hart takes this many turns, or as many as it can; how many of them were ticks.
 //! - `arm-NAME`: whether the counter of that name was armed. `sample-NAME`: what it reads, or `false`.
 //! - `free`: whether the unlinked blocks of the point were freed. `settle`: how many turns weren't ticks.
 

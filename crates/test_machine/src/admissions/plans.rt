@@ -25,7 +25,11 @@ fn variable(alloc: Global, timer: bool) -> Var
     }
 }
 
-/// So many variables, all timers or all counters, and no site.
+/// A plan of `count` variables, all timers or all counters, and no site.
+///
+/// # Errors
+///
+/// `NoMemory` if memory runs out.
 pub fn variables(alloc: Global, count: u32, timers: bool) -> Result<Plan, NoMemory>
     ensures slots { IfOk result (λ plan. slot_count plan.vars ≡ (if timers then 2 else 1) * count) }
     ensures sites { IfOk result (λ plan. plan.sites ≡ []) }
@@ -65,7 +69,7 @@ fn counting_site(alloc: Global, at: u64) -> Result<Site, NoMemory>
     })
 }
 
-/// The first variable is counted up where a hart is inside so many words from an address on.
+/// The first variable is counted up where a hart is inside the `words` words from an address on.
 fn counting_opens(alloc: Global, at: u64, words: u32) -> Result<Seq<Open>, NoMemory>
     ensures { IfOk result (AllByRecursion IsSmall) }
 {
@@ -78,7 +82,12 @@ fn counting_opens(alloc: Global, at: u64, words: u32) -> Result<Seq<Open>, NoMem
     Ok(Seq::from_vec(opens))
 }
 
-/// One counter, which is counted up at each of so many words from an address on, and for each hart that is inside them.
+/// A plan of one counter, which is counted up at each of the `words` words from an address on, and for each hart that is inside
+/// them.
+///
+/// # Errors
+///
+/// `NoMemory` if memory runs out.
 pub fn counted_words(alloc: Global, at: u64, words: u32) -> Result<Plan, NoMemory>
     requires { at < 2 ^ 62 }
     ensures vars { IfOk result (λ plan. length plan.vars ≡ 1) }

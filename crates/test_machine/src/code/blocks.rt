@@ -48,6 +48,7 @@ fn moved(word: u64, from: u64, to: u64) -> Option<Moved> {
     move_word((word % 0x1_0000_0000) as u32, from, to).ok()
 }
 
+/// Prints how many words a moved word has, and these.
 pub fn print_moved(rt: &impl Print, numbers: Numbers) -> io::Result<()> {
     let count = moved_len((numbers.first % 0x1_0000_0000) as u32);
     println!(rt; "{count}")?;
@@ -73,6 +74,10 @@ pub fn print_base(rt: &impl Print, alloc: Global, numbers: Numbers) -> io::Resul
 }
 
 /// The mini block of one counter in slot 2.
+///
+/// # Errors
+///
+/// `NoMemory` if memory runs out.
 pub fn counter(alloc: Global, at: u64, next: u64) -> Result<Block, NoMemory>
     requires low { at < 2 ^ 30 }
     ensures { IfOk result (λ b. (length b.words ≡ 5) × (b.at ≡ at)) }
@@ -87,6 +92,7 @@ pub fn counter(alloc: Global, at: u64, next: u64) -> Result<Block, NoMemory>
     Ok(mini_block(0x10000, at, body, next))
 }
 
+/// Prints the mini block of a counter.
 pub fn print_mini(rt: &impl Print, alloc: Global, numbers: Numbers) -> io::Result<()> {
     if numbers.first >= TOP {
         return println!(rt; "too high");

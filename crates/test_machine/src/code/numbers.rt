@@ -16,6 +16,7 @@ fn number(text: Option<&str>) -> u64 {
 }
 
 impl Numbers {
+    /// Reads three hexadecimal numbers. What isn't one counts as 0.
     pub fn of(first: Option<&str>, second: Option<&str>, third: Option<&str>) -> Numbers {
         Numbers {
             first: number(first),

@@ -31,7 +31,7 @@ fn image(alloc: Global) -> Result<Image, NoMemory>
     })
 }
 
-/// So many words from an address on lie in the tool text.
+/// Whether `len` words from an address on lie in the tool text.
 fn is_inside(store: &Store, at: u64, len: u64) -> bool
     requires { len < 2 ^ 32 }
     ensures { IsTrue result → IsInToolText store.now.program at len }

@@ -1,3 +1,5 @@
+//! Rows of what an assembler made of a text.
+
 ghost use Rattle.std.specs.Prelude.{◌≡◌, ◌↔◌, IsTrue, IfSome, is_some, true};
 ghost use Rattle.rv_word.specs.Table.{decode_of};
 
@@ -11,7 +13,7 @@ use std::alloc::Global;
 pub struct Assembled<'a> {
     /// The first word.
     pub first: u32,
-    /// The word behind it, if the text stands for two.
+    /// The second word, if the text stands for two.
     pub second: Option<u32>,
     /// The text.
     pub text: &'a str,
@@ -48,8 +50,7 @@ impl<'a> Assembled<'a> {
         is_instruction(self.first) && self.second.is_none_or(is_instruction)
     }
 
-    /// Whether each word is an instruction here, and the text assembles to these words. Where memory is wanting it
-    /// doesn't.
+    /// Whether each word is an instruction here, and the text assembles to these words. Where memory runs out it doesn't.
     pub fn agrees(&self, alloc: Global) -> bool {
         self.has_instructions()
             && assembles_to(alloc, self.text, self.distance, self.first, self.second).unwrap_or(

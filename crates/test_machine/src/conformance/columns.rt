@@ -1,8 +1,10 @@
+//! The columns of rows.
+
 ghost use Rattle.test_machine.specs.Columns.{ReadsHexadecimal};
 
 use std::str::Split;
 
-/// The columns of a line that aren't taken yet. Each is taken from the left; none is left behind the last.
+/// The columns of a line that aren't taken yet. They are taken from the left; after the last none is left.
 #[derive(Drop)]
 pub struct Columns<'a> {
     rest: Split<'a, char>,

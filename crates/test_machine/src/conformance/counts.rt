@@ -1,3 +1,5 @@
+//! How many rows there were, and how many agree.
+
 ghost use Rattle.std.specs.Prelude.{◌≡◌, ◌↔◌, ◌+◌, IsTrue, min, if◌then◌else◌};
 
 use crate::conformance::line::Line;

@@ -1,3 +1,5 @@
+//! The machine on which words are executed.
+
 ghost use Rattle.std.specs.Prelude.{◌≡◌, ◌<◌, ◌↔◌, IfOk, IsTrue, MatchOption, Some, None, length};
 ghost use Rattle.pn_types.specs.Images.{IsImage};
 

@@ -1,3 +1,5 @@
+//! Rows of each kind.
+
 use crate::conformance::assembled::Assembled;
 use crate::conformance::columns::Columns;
 use crate::conformance::executor::Machine;

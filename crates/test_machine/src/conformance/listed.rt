@@ -1,3 +1,5 @@
+//! Rows of what a list says of a word.
+
 ghost use Rattle.std.specs.Prelude.{◌≡◌, ◌↔◌, IsTrue, is_some};
 ghost use Rattle.rv_word.specs.Table.{decode_of};
 ghost use Rattle.rv_word.specs.Names.{has_scratch};

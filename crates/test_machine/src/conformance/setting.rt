@@ -1,4 +1,4 @@
-//! What stands in registers before a word and behind it, and which memory it accesses.
+//! What stands in registers before a word and after it, and which memory it accesses.
 
 ghost use Rattle.std.specs.Prelude.{◌≡◌, ◌<◌};
 ghost use Rattle.test_machine.specs.Vectors.{register, registers, accessed, reserving, result_left};

@@ -1,3 +1,5 @@
+//! The text that is assembled for a row.
+
 use pn_types::NoMemory;
 use rv_asm::assemble;
 use std::alloc::Global;
@@ -10,7 +12,7 @@ pub enum Distance {
 }
 
 impl Distance {
-    /// Reads a decimal number; behind is below zero.
+    /// Reads a decimal number, which is negative where the label stands before the word.
     pub fn parse(text: &str) -> Option<Distance> {
         match text.strip_prefix('-') {
             Some(digits) => Some(Distance::Behind(digits.parse().ok()?)),
@@ -76,7 +78,11 @@ fn stand_at(bytes: &[u8], place: u64, first: u32, second: Option<u32>) -> bool {
         && rest[4..].starts_with(&second.to_le_bytes())
 }
 
-/// Whether a text assembles to words. Its label stands at a distance of its last word.
+/// Tests whether a text assembles to words. Its label stands at a distance of its last word.
+///
+/// # Errors
+///
+/// `NoMemory` if memory runs out.
 pub fn assembles_to(
     alloc: Global,
     text: &str,

@@ -1,3 +1,5 @@
+//! Rows of what one instruction did on another machine.
+
 use crate::conformance::columns::Columns;
 
 /// Where a word stands that doesn't read its own address.

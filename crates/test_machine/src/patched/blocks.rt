@@ -15,6 +15,10 @@ use tramp_spec::{Block, MarkedWord, Moved};
 pub const POINT: u64 = 0x10000;
 
 /// The base block of the loop's word, at 0x11000.
+///
+/// # Errors
+///
+/// `NoMemory` if memory runs out.
 pub fn loop_base(alloc: Global) -> Result<Block, NoMemory>
     ensures { IfOk result (λ block. block ≡ example.loop_base) }
 {
@@ -23,6 +27,10 @@ pub fn loop_base(alloc: Global) -> Result<Block, NoMemory>
 }
 
 /// The base block of the first of the three words, at 0x11000.
+///
+/// # Errors
+///
+/// `NoMemory` if memory runs out.
 pub fn words_base(alloc: Global) -> Result<Block, NoMemory>
     ensures { IfOk result (λ block. block ≡ turns.first_base) }
 {
@@ -31,6 +39,10 @@ pub fn words_base(alloc: Global) -> Result<Block, NoMemory>
 }
 
 /// A mini block that counts on a slot, and leads to the next.
+///
+/// # Errors
+///
+/// `NoMemory` if memory runs out.
 pub fn mini(alloc: Global, slot: u32, at: u64, next: u64) -> Result<Block, NoMemory>
     requires { at < 2 ^ 62 }
     ensures { IfOk result (λ block. block ≡ mini_on slot at next) }
@@ -46,6 +58,10 @@ pub fn mini(alloc: Global, slot: u32, at: u64, next: u64) -> Result<Block, NoMem
 }
 
 /// A counter on a slot, with a mini block at an address.
+///
+/// # Errors
+///
+/// `NoMemory` if memory runs out.
 pub fn counter(alloc: Global, slot: u32, mini: u64) -> Result<Placed, NoMemory>
     ensures { IfOk result (λ placed. placed ≡ counter_on slot mini) }
 {

@@ -45,7 +45,7 @@ pub fn arm(machine: &mut Machine, counter: &Placed)
     let _armed = machine.arm(counter);
 }
 
-/// So many turns of hart 0.
+/// Takes `count` turns of hart 0.
 pub fn take_turns(machine: &mut Machine, count: u64)
     requires { Legal (turns count) machine.old.core }
     ensures { machine.new ≡ with_core machine.old (replay (turns count) machine.old.core) }

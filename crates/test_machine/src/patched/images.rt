@@ -8,6 +8,10 @@ use pn_types::{Image, NoMemory, Segment, Seq};
 use std::alloc::Global;
 
 /// `addi a0, a0, 1`, `li a7, 93` and `ecall`: exit with status 1.
+///
+/// # Errors
+///
+/// `NoMemory` if memory runs out.
 pub fn words_image(alloc: Global) -> Result<Image, NoMemory>
     ensures { IfOk result (λ image. image ≡ three_image) }
 {
@@ -29,6 +33,10 @@ pub fn words_image(alloc: Global) -> Result<Image, NoMemory>
 }
 
 /// A jump to itself.
+///
+/// # Errors
+///
+/// `NoMemory` if memory runs out.
 pub fn loop_image(alloc: Global) -> Result<Image, NoMemory>
     ensures { IfOk result (λ image. image ≡ example.loop) }
 {

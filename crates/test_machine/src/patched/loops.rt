@@ -46,6 +46,10 @@ fn three_linked(alloc: Global) -> Result<Machine, NoMemory>
 }
 
 /// The same with the three counters armed.
+///
+/// # Errors
+///
+/// `NoMemory` if memory runs out.
 pub fn three_counted(alloc: Global) -> Result<Machine, NoMemory>
     ensures { IfOk result (λ machine. machine ≡ record { core = counted; room = 1 }) }
 {

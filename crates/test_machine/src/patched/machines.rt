@@ -2,9 +2,9 @@
 //!
 //! - `words`: `addi a0, a0, 1`, `li a7, 93` and `ecall`. At the first a mini block is linked, whose counter is `w`. It isn't armed.
 //! - `loop`: a jump to itself, with three mini blocks whose counters `a`, `b` and `c` are armed. A hart goes through them from the last.
-//! - `passed`: the same behind eight turns, with the hart at the mini block of `b`; this and that of `a` are unlinked then.
+//! - `passed`: the same after eight turns, with the hart at the mini block of `b`; this and that of `a` are unlinked then.
 //! - `renewed`: the same once the hart has left and both are freed, with a fourth mini block in the room of the first, whose counter `d`
-//!   is armed. What freeing and settling answered is printed.
+//!   is armed. What freeing and settling returned is printed.
 
 ghost use Rattle.std.specs.Prelude.{◌≡◌, IfOk, IfSome, length};
 ghost use Rattle.machine.specs.Cores.{start_core};

@@ -20,7 +20,7 @@ fn place(name: &str) -> Option<(u32, u64)> {
     }
 }
 
-/// Arms a counter. It answers whether it was armed.
+/// Arms a counter. Returns whether it was armed.
 fn arm(alloc: Global, machine: &mut Machine, place: (u32, u64)) -> Result<bool, NoMemory>
     ensures { length machine.new.core.harts ≡ length machine.old.core.harts }
 {
@@ -77,14 +77,14 @@ fn take_counter(rt: &impl Print, alloc: Global, machine: &mut Machine, step: &st
     }
 }
 
-/// Frees the unlinked blocks of the point. It answers whether that happened.
+/// Frees the unlinked blocks of the point. Returns whether that happened.
 fn free(machine: &mut Machine) -> bool
     ensures { length machine.new.core.harts ≡ length machine.old.core.harts }
 {
     machine.free(POINT)
 }
 
-/// Does a step and prints what it answers.
+/// Does a step and prints what it returns.
 pub fn take(rt: &impl Print, alloc: Global, machine: &mut Machine, step: &str) -> io::Result<()>
     requires { length machine.old.core.harts ≡ 1 }
     ensures { length machine.new.core.harts ≡ 1 }

@@ -11,7 +11,11 @@ use pn_types::{NoMemory, Placed};
 use std::alloc::Global;
 use tramp_spec::Block;
 
-/// The first two mini blocks are unlinked while the hart is at the second.
+/// The loop of which the first two mini blocks were unlinked while the hart was at the second.
+///
+/// # Errors
+///
+/// `NoMemory` if memory runs out.
 pub fn passed_by(alloc: Global) -> Result<Machine, NoMemory>
     ensures { IfOk result (λ machine. machine ≡ record { core = example.passed_by; room = 1 }) }
 {
@@ -22,7 +26,7 @@ pub fn passed_by(alloc: Global) -> Result<Machine, NoMemory>
     Ok(machine)
 }
 
-/// What freeing answered, how many turns of settling weren't ticks, and what freeing answered behind it.
+/// What freeing returned, how many turns of settling weren't ticks, and what freeing returned after that.
 #[derive(Debug, Drop)]
 pub struct Renewal {
     pub held: bool,

@@ -18,7 +18,7 @@ settle d = replay (settling d) d
 abbrev freed : Core
 freed = after gone_on (Free 0x10000)
 
--- behind the first try, the settling and the second try
+-- after the first try, the settling and the second try
 tried : (m1 m2 m3 m4 : Machine) (a b : Bool) → m1 ≡ record { core = passed_by; room = 1 }
     → IsTrue a ↔ May m1.core (Free 0x10000) → m2 ≡ (if a then with_core m1 (after m1.core (Free 0x10000)) else m1)
     → m3 ≡ with_core m2 (settle m2.core)
