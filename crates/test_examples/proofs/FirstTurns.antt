@@ -145,7 +145,7 @@ unfolding with_reg body_of
 begins = refl
 
 module _ (code : Code) (s : Stand code) where
-  -- the states behind so many turns
+  -- the states after this many turns
   after_11 : replay (turns 11) (core code (hart 0x10000 (file 0 0 7) 0 None false 0 0)) ≡ core code (hart 0x10004 (file 1 0 7) 1 None false 7 1)
   after_11 = leads 10 _ _ _ (step_0 code s) ∙ leads 9 _ _ _ (step_1 code s) ∙ leads 8 _ _ _ (step_2 code s) ∙ leads 7 _ _ _ (step_3 code s) ∙ leads 6 _ _ _ (step_4 code s) ∙ leads 5 _ _ _ (step_5 code s) ∙ leads 4 _ _ _ (step_6 code s) ∙ leads 3 _ _ _ (step_7 code s) ∙ leads 2 _ _ _ (step_8 code s) ∙ leads 1 _ _ _ (step_9 code s) ∙ leads 0 _ _ _ (step_10 code s)
 

@@ -154,7 +154,7 @@ module _ (code : Code) (s : Stand code) (rest : List ℕ) where
 
 -- ---- the law
 
--- the doublewords behind slot 2
+-- the doublewords after slot 2
 rest : List ℕ
 rest = 0 ∷ 0 ∷ replicate bank_five.0 0
 

@@ -132,7 +132,7 @@ module _ (code : Code) (s : Stand code) (prog : Prog) (rest : List ℕ) where
 
 -- ---- from the arming on
 
--- the doublewords behind the counter's slot
+-- the doublewords after the counter's slot
 rest : List ℕ
 rest = 0 ∷ replicate bank_is.0 0
 

@@ -49,11 +49,11 @@ arms code rows x slot mini head f t o i s = record { quiet = quiet_at code rows 
 arms_so : (code : Code) (rows : List Row) (x : Hart) (slot mini : ℕ) → after (at code rows x) (Arm (counter_on slot mini)) ≡ at code rows (record x { bank = slice_set x.bank slot 0 })
 arms_so code rows x slot mini = ap (at code rows) (armed_cold (at code rows x) (counter_on slot mini) x refl)
 
--- with so many slots set to 0
+-- with this many slots set to 0
 abbrev with_bank : List ℕ → Core
 with_bank bank = at three_code (rows_third Live) (record unarmed { bank = slice_set (slice_set (slice_set bank 2 0) 3 0) 4 0 })
 
--- the doublewords behind slot 4
+-- the doublewords after slot 4
 rest : List ℕ
 rest = replicate bank_five.0 0
 

@@ -60,7 +60,7 @@ module _ (number : ℕ) (program : Words) (budget : ℕ) (homes : Hart → ℕ) 
   abbrev pub stepped : MarkedWord → Solo → Solo
   stepped w s = step_of (Some w) number (homes s.hart) s
 
-  -- behind the words
+  -- after the words
   abbrev pub traced : Trace → Solo → Solo
   traced [] s = s
   traced (w ∷ ws) s = traced ws (stepped w.1 s)
@@ -82,7 +82,7 @@ abbrev pub ticks_on : ℕ → Trace → List ℕ
 ticks_on number [] = []
 ticks_on number (w ∷ ws) = tick_on number w.1 ++ ticks_on number ws
 
--- so many turns and some to spare
+-- this many turns and some to spare
 abbrev pub more : Trace → ℕ → ℕ
 more [] spare = spare
 more (w ∷ ws) spare = suc (more ws spare)
@@ -160,7 +160,7 @@ module _ (program : Words) (budget : ℕ) (code : Code) (rows : List Row) where
       → Run (turns (length ws)) (one program budget code rows s) (one program budget code rows (traced 0 program budget homes_alone ws s)) (ticks_on 0 ws)
   follows ws s f e = follows_seated alone program budget code rows ws s f e
 
-  -- Where it is no more inside behind them, these are the turns in which it leaves.
+  -- Where it is no more inside after them, these are the turns in which it leaves.
   pub leaving_so : (ws : Trace) (s : Solo) (spare : ℕ) → fits 0 program budget homes_alone ws s ≡ true → AllStand code ws → leaves 0 program budget homes_alone ws s ≡ true
       → leaving (more ws spare) 0 (one program budget code rows s) ≡ turns (length ws)
   leaving_so [] s zero f e l = refl

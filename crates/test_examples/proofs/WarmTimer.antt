@@ -42,7 +42,7 @@ with_harts harts = record { program = program_of procedure; budget = 1000; harts
 abbrev with_bank : List ℕ → ℕ → ℕ → Hart
 with_bank bank h ticks = record { pc = 0x10004; regs = start_regs h 2; ticks = ticks; stop = None; inside = false; bank = bank }
 
--- the doublewords behind slot 4
+-- the doublewords after slot 4
 rest : List ℕ
 rest = replicate bank_five.0 0
 

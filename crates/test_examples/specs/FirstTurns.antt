@@ -24,17 +24,31 @@ small_core =
     record {
       program = three_words;
       budget = 1000;
-      harts = record { pc = 0x10000; regs = with_reg (replicate 32 0) 5 7; ticks = 0; stop = None; inside = false; bank = replicate 4 0 } ∷ [];
+      harts = record {
+        pc = 0x10000;
+        regs = with_reg (replicate 32 0) 5 7;
+        ticks = 0;
+        stop = None;
+        inside = false;
+        bank = replicate 4 0;
+      } ∷ [];
       prog = prog_of (memory_of 0x10000 12 []) (None ∷ []) [];
       code = text_code three_words;
       rows = [];
     }
 
 abbrev pub first_base : Block
-first_base = record { point = 0x10000; at = 0x11000; words = base_words 0x11000 0x11008 (own 0x00150513 ∷ leave 0xff5fe06f ∷ []); base = true }
+first_base =
+    record { point = 0x10000; at = 0x11000; words = base_words 0x11000 0x11008 (own 0x00150513 ∷ leave 0xff5fe06f ∷ []); base = true }
 
 abbrev pub first_mini : Block
-first_mini = record { point = 0x10000; at = 0x11014; words = mini_words 0x11014 (body_of (2 ∷ []) (record { conds = []; act = Up 0 } ∷ [])) 0x11008; base = false }
+first_mini =
+    record {
+      point = 0x10000;
+      at = 0x11014;
+      words = mini_words 0x11014 (body_of (2 ∷ []) (record { conds = []; act = Up 0 } ∷ [])) 0x11008;
+      base = false;
+    }
 
 -- both blocks are written and linked
 abbrev pub first_linking : List Event

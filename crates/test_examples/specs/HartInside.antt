@@ -12,7 +12,18 @@ use Rattle.machine.specs.Replays.{replay, Legal}
 use Rattle.machine.specs.States.{settling}
 
 abbrev pub three_image : Image
-three_image = record { segments = record { at = 0x10000; bytes = 0x13 ∷ 0x05 ∷ 0x15 ∷ 0 ∷ 0x93 ∷ 0x08 ∷ 0xd0 ∷ 0x05 ∷ 0x73 ∷ 0 ∷ 0 ∷ 0 ∷ []; size = 12 } ∷ []; text_at = 0x10000; text_len = 12; entry = 0x10000; symbols = [] }
+three_image =
+    record {
+      segments = record {
+        at = 0x10000;
+        bytes = 0x13 ∷ 0x05 ∷ 0x15 ∷ 0 ∷ 0x93 ∷ 0x08 ∷ 0xd0 ∷ 0x05 ∷ 0x73 ∷ 0 ∷ 0 ∷ 0 ∷ [];
+        size = 12;
+      } ∷ [];
+      text_at = 0x10000;
+      text_len = 12;
+      entry = 0x10000;
+      symbols = [];
+    }
 
 -- the counter at the first word
 abbrev pub first_counter : Placed

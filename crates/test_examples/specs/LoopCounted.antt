@@ -1,4 +1,4 @@
--- An example: a hart goes round a loop of one word, which a counter counts. Armed before three rounds, it reads 3 behind them.
+-- An example: a hart goes round a loop of one word, which a counter counts. Armed before three rounds, it reads 3 after them.
 use Rattle.std.specs.Prelude.{◌≡◌, ℕ, true, false, List, [], ◌∷◌, ◌++◌, codes, replicate}
 use Rattle.pn_types.specs.declared.image.Image.{Image}
 use Rattle.pn_types.specs.declared.placed.Placed.{Placed}
@@ -21,7 +21,14 @@ use Rattle.machine.specs.Replays.{replay, Legal, owns}
 
 -- the one word is a jump to itself
 abbrev pub loop : Image
-loop = record { segments = record { at = 0x10000; bytes = 0x6f ∷ 0 ∷ 0 ∷ 0 ∷ []; size = 4 } ∷ []; text_at = 0x10000; text_len = 4; entry = 0x10000; symbols = [] }
+loop =
+    record {
+      segments = record { at = 0x10000; bytes = 0x6f ∷ 0 ∷ 0 ∷ 0 ∷ []; size = 4 } ∷ [];
+      text_at = 0x10000;
+      text_len = 4;
+      entry = 0x10000;
+      symbols = [];
+    }
 
 abbrev pub loop_core : ℕ → Core
 loop_core budget = start_core loop 1 budget
@@ -30,7 +37,12 @@ abbrev pub count_up : List Stmt
 count_up = record { conds = []; act = Up 0 } ∷ []
 
 abbrev pub rounds : Plan
-rounds = record { vars = record { name = codes "rounds"; timer = false; initially = 0 } ∷ []; sites = record { at = 0x10000; stmts = count_up } ∷ []; opens = [] }
+rounds =
+    record {
+      vars = record { name = codes "rounds"; timer = false; initially = 0 } ∷ [];
+      sites = record { at = 0x10000; stmts = count_up } ∷ [];
+      opens = [];
+    }
 
 abbrev pub counter : Placed
 counter = record { vars = rounds.vars; slots = 2 ∷ []; sites = record { at = 0x10000; mini = 0x11010 } ∷ []; opens = [] }

@@ -1,5 +1,5 @@
 -- An example: two harts stand in a procedure when a timer of it is armed. The timer finds it open on both, and runs from then on.
--- Behind three rounds of both together, around the procedure's jump, it reads 3.
+-- After three rounds of both together, around the procedure's jump, it reads 3.
 use Rattle.std.specs.Prelude.{◌≡◌, true, false, List, [], ◌∷◌, ◌++◌, codes, map, replicate, slice_index}
 use Rattle.pn_types.specs.declared.compare.Cmp.TheVariants.{Eq, Ne}
 use Rattle.pn_types.specs.declared.image.Image.{Image}
@@ -27,14 +27,27 @@ use Rattle.machine.specs.Replays.{replay, Legal, owns}
 
 -- the procedure's words are `nop` and a jump to itself, where both harts begin
 abbrev pub procedure : Image
-procedure = record { segments = record { at = 0x10000; bytes = 0x13 ∷ 0 ∷ 0 ∷ 0 ∷ 0x6f ∷ 0 ∷ 0 ∷ 0 ∷ []; size = 8 } ∷ []; text_at = 0x10000; text_len = 8; entry = 0x10004; symbols = [] }
+procedure =
+    record {
+      segments = record { at = 0x10000; bytes = 0x13 ∷ 0 ∷ 0 ∷ 0 ∷ 0x6f ∷ 0 ∷ 0 ∷ 0 ∷ []; size = 8 } ∷ [];
+      text_at = 0x10000;
+      text_len = 8;
+      entry = 0x10004;
+      symbols = [];
+    }
 
 abbrev pub two_harts : Core
 two_harts = start_core procedure 2 1000
 
 -- where the procedure is open, `on` goes up, and since it isn't 0 then, `time` starts
 abbrev pub procedure_open : Open
-procedure_open = record { start = 0x10000; len = 8; stmts = record { conds = []; act = Up 1 } ∷ record { conds = record { left = Counter 1; cmp = Ne; right = 0 } ∷ []; act = Start 0 } ∷ [] }
+procedure_open =
+    record {
+      start = 0x10000;
+      len = 8;
+      stmts = record { conds = []; act = Up 1 }
+          ∷ record { conds = record { left = Counter 1; cmp = Ne; right = 0 } ∷ []; act = Start 0 } ∷ [];
+    }
 
 -- at the jump `time` would stop if `on` were 0
 abbrev pub stop_if_off : List Stmt
@@ -52,7 +65,13 @@ procedure_time =
 
 -- `time` has its sum in slot 2 and its number of starts in slot 3, and `on` is slot 4
 abbrev pub timer : Placed
-timer = record { vars = procedure_time.vars; slots = 2 ∷ 4 ∷ []; sites = record { at = 0x10004; mini = 0x11010 } ∷ []; opens = procedure_time.opens }
+timer =
+    record {
+      vars = procedure_time.vars;
+      slots = 2 ∷ 4 ∷ [];
+      sites = record { at = 0x10004; mini = 0x11010 } ∷ [];
+      opens = procedure_time.opens;
+    }
 
 abbrev pub timer_base : Block
 timer_base = record { point = 0x10004; at = 0x11000; words = base_words 0x11000 0x11008 (own 0xff9fe06f ∷ []); base = true }

@@ -34,7 +34,7 @@ pub fn hart_inside()
 
 /// A timer of a procedure is armed while two harts stand in it. On both harts its Open acts, and starts it under a condition that holds.
 /// Then the harts go round the procedure's jump, both inside the trampoline for a while, and a site there looks each time whether the
-/// timer stops, which it doesn't. Behind three rounds of both together it reads 3.
+/// timer stops, which it doesn't. After three rounds of both together it reads 3.
 pub fn warm_timer()
     ensures { WarmTimer }
 {}
