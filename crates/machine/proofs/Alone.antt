@@ -36,9 +36,10 @@ none_is None e = refl
 none_is (Some cause) e = absurd (true≢false (sym e))
 
 -- a hart can take a turn that isn't stopped, and is inside or has fewer ticks than the budget
-pub alone_may : (a : Progress) (stop : Option Cause) (regs bank : List ℕ) (p : Prog) (budget : ℕ) → stop ≡ None → (a.inside ≡ true) ⊎ (a.ticks < budget) → IsTrue (may_alone budget (alone_of a stop regs bank p))
-alone_may a stop regs bank p budget e (inl i) = grind (arith, common_steps)
-alone_may a stop regs bank p budget e (inr l) = grind (arith, common_steps)
+pub alone_may : (a : Progress) (x : Hart) (p : Prog) (budget : ℕ) → x.stop ≡ None → (a.inside ≡ true) ⊎ (a.ticks < budget)
+    → IsTrue (may_alone budget (alone_of a x p))
+alone_may a x p budget e (inl i) = grind (arith, common_steps)
+alone_may a x p budget e (inr l) = grind (arith, common_steps)
 
 one_at_most : (b : Bool) (n : ℕ) → (n ≤ cond b (n + 1) n) × (cond b (n + 1) n ≤ n + 1)
 one_at_most true n = (omega arith, omega arith)

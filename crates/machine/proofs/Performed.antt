@@ -10,12 +10,13 @@ use Rattle.rv_exec.specs.Flat.{instr_of}
 use Rattle.rv_exec.specs.Gives.{next_after}
 use Rattle.rv_exec.specs.declared.flat.Flat.{Flat}
 use Rattle.tramp_spec.specs.Banks.{bank_len}
+use Rattle.tramp_spec.specs.Harts.{Solo}
 use Rattle.tramp_spec.specs.declared.mark.Mark.{Mark}
 use Rattle.tramp_spec.specs.declared.mark.Mark.TheVariants.{Own, Enter, Tool, Leave}
 use Rattle.tramp_spec.specs.declared.mark.MarkedWord.{MarkedWord}
 use Rattle.code_store.specs.Operations.{Does, IsOperationBy, IsOperationOf, done_as, stands_as}
 use Rattle.code_store.specs.declared.operation.Operation.TheVariants.{Run, LoadBank, StoreBank, NoAccess}
-use Rattle.machine.specs.Performing.{Performs, PerformsBy, PerformsOther, stood_after, bench_from}
+use Rattle.machine.specs.Performing.{Performs, PerformsBy, PerformsOther, stood_after, bench_from, bench_in}
 
 -- ---- the numbers of an operation fit
 
@@ -66,27 +67,29 @@ stood_is : (stop : Option Cause) (pc : ℕ) (regs bank : List ℕ) → stands_as
 stood_is None pc regs bank = refl
 stood_is (Some cause) pc regs bank = refl
 
-runs_other : (n word : ℕ) (flat : Flat) (h ticks pc : ℕ) (regs bank : List ℕ) (p : Prog) (stop : Option Cause) (new_pc : ℕ) (new_regs : List ℕ) (new_p : Prog) → Does n (decode_of word) (Run flat)
-    → done (exec_of word pc h regs p) regs ≡ record { next = next_after stop new_pc; regs = new_regs; prog = new_p }
-    → PerformsOther n word ticks pc regs bank p stop new_pc new_regs bank new_p
-runs_other n word flat h ticks pc regs bank p stop new_pc new_regs new_p o e =
+runs_other : (n word : ℕ) (flat : Flat) (h : ℕ) (x z : Solo) → Does n (decode_of word) (Run flat) → z.hart.bank ≡ x.hart.bank
+    → done (exec_of word x.hart.pc h x.hart.regs x.prog) x.hart.regs ≡ record { next = next_after z.hart.stop z.hart.pc; regs = z.hart.regs; prog = z.prog }
+    → PerformsOther n word x z
+runs_other n word flat h x z o same e =
     record {
-      step = o.2.step h ticks pc (bench_from regs bank) p ∙ (ap (λ (d : Done). done_as d bank) e ∙ stood_is stop new_pc new_regs bank);
-      shares = sym (ap (λ (d : Done). d.prog) e) ∙ o.2.prog h pc regs p;
-      stays = ⊎_elim inl (λ same. inr (same, refl)) (left_at_stop (exec_of word pc h regs p) regs stop new_pc new_regs new_p e);
+      step = o.2.step h x.hart.ticks x.hart.pc (bench_in x.hart) x.prog
+          ∙ (ap (λ (d : Done). done_as d x.hart.bank) e ∙ (stood_is z.hart.stop z.hart.pc z.hart.regs x.hart.bank
+          ∙ ap (λ b. stood_after z.hart.stop z.hart.pc (bench_from z.hart.regs b)) (sym same)));
+      shares = sym (ap (λ (d : Done). d.prog) e) ∙ o.2.prog h x.hart.pc x.hart.regs x.prog;
+      stays = ⊎_elim inl (λ regs. inr (regs, same)) (left_at_stop (exec_of word x.hart.pc h x.hart.regs x.prog) x.hart.regs z.hart.stop z.hart.pc z.hart.regs z.prog e);
     }
 
-runs_by : (m : Mark) (word : ℕ) (flat : Flat) (h ticks pc : ℕ) (regs bank : List ℕ) (p : Prog) (stop : Option Cause) (new_pc : ℕ) (new_regs : List ℕ) (new_p : Prog) → IsOperationBy m (decode_of word) (Run flat)
-    → done (exec_of word pc h regs p) regs ≡ record { next = next_after stop new_pc; regs = new_regs; prog = new_p }
-    → PerformsBy m word h ticks pc regs bank p stop new_pc new_regs bank new_p
-runs_by Own word flat h ticks pc regs bank p stop new_pc new_regs new_p o e = record { does = e; keeps = refl }
-runs_by Enter word flat h ticks pc regs bank p stop new_pc new_regs new_p o e = runs_other 0 word flat h ticks pc regs bank p stop new_pc new_regs new_p o e
-runs_by Tool word flat h ticks pc regs bank p stop new_pc new_regs new_p o e = runs_other bank_len word flat h ticks pc regs bank p stop new_pc new_regs new_p o e
-runs_by Leave word flat h ticks pc regs bank p stop new_pc new_regs new_p o e = runs_other 0 word flat h ticks pc regs bank p stop new_pc new_regs new_p o e
+runs_by : (m : Mark) (word : ℕ) (flat : Flat) (h : ℕ) (x z : Solo) → IsOperationBy m (decode_of word) (Run flat) → z.hart.bank ≡ x.hart.bank
+    → done (exec_of word x.hart.pc h x.hart.regs x.prog) x.hart.regs ≡ record { next = next_after z.hart.stop z.hart.pc; regs = z.hart.regs; prog = z.prog }
+    → PerformsBy m word h x z
+runs_by Own word flat h x z o same e = record { does = e; keeps = same }
+runs_by Enter word flat h x z o same e = runs_other 0 word flat h x z o same e
+runs_by Tool word flat h x z o same e = runs_other bank_len word flat h x z o same e
+runs_by Leave word flat h x z o same e = runs_other 0 word flat h x z o same e
 
-pub runs : (w : MarkedWord) (flat : Flat) (h ticks pc : ℕ) (regs bank : List ℕ) (p : Prog) (stop : Option Cause) (new_pc : ℕ) (new_regs : List ℕ) (new_p : Prog) → IsOperationOf w (Run flat)
-    → done (exec_decoded (instr_of flat) pc h regs p) regs ≡ record { next = next_after stop new_pc; regs = new_regs; prog = new_p }
-    → Performs w h ticks pc regs bank p stop new_pc new_regs bank new_p
-runs w flat h ticks pc regs bank p stop new_pc new_regs new_p o e =
+pub runs : (w : MarkedWord) (flat : Flat) (h : ℕ) (x z : Solo) → IsOperationOf w (Run flat) → z.hart.bank ≡ x.hart.bank
+    → done (exec_decoded (instr_of flat) x.hart.pc h x.hart.regs x.prog) x.hart.regs ≡ record { next = next_after z.hart.stop z.hart.pc; regs = z.hart.regs; prog = z.prog }
+    → Performs w h x z
+runs w flat h x z o same e =
     let i = (run_fits_by w.mark (decode_of w.word) flat o).0 in
-    runs_by w.mark w.word flat h ticks pc regs bank p stop new_pc new_regs new_p o (ap (λ j. done (exec_decoded j pc h regs p) regs) (sym i) ∙ e)
+    runs_by w.mark w.word flat h x z o same (ap (λ j. done (exec_decoded j x.hart.pc h x.hart.regs x.prog) x.hart.regs) (sym i) ∙ e)

@@ -12,7 +12,7 @@ use Rattle.rv_exec.specs.Flat.{instr_of}
 use Rattle.rv_exec.specs.Gives.{next_after}
 use Rattle.rv_exec.specs.declared.flat.Flat.{Flat}
 use Rattle.tramp_spec.specs.Codes.{fetched_at}
-use Rattle.tramp_spec.specs.Harts.{Solo, own_step, marked_step, step_of}
+use Rattle.tramp_spec.specs.Harts.{Hart, Solo, own_step, marked_step, step_of}
 use Rattle.tramp_spec.specs.declared.mark.Mark.{Mark}
 use Rattle.tramp_spec.specs.declared.mark.Mark.TheVariants.{Own, Enter, Tool, Leave}
 use Rattle.tramp_spec.specs.declared.mark.MarkedWord.{MarkedWord}
@@ -128,7 +128,7 @@ step_leaves h (Some w) i pc regs ticks bank p o = marked_leaves h w.mark w.word 
 
 module _ (s : StoredCode) (h budget : ℕ) (bank : List ℕ) (z : Left) where
   may : (x : Left) (ticks n : ℕ) → x.stop ≡ None → ticks + suc n ≤ budget → IsTrue (may_alone budget (left_standing ticks bank x))
-  may x ticks n none l = let low : ticks < budget = omega arith in alone_may (record { pc = x.pc; ticks = ticks; inside = false }) x.stop x.regs bank x.prog budget none (inr low)
+  may x ticks n none l = let low : ticks < budget = omega arith in alone_may (record { pc = x.pc; ticks = ticks; inside = false }) (left_standing ticks bank x).hart x.prog budget none (inr low)
 
   -- a hart that isn't stopped stands as it is left
   stands : (x : Left) (ticks : ℕ) → x.stop ≡ None → left_standing ticks bank x ≡ standing x.pc x.regs ticks bank x.prog
@@ -153,6 +153,11 @@ module _ (s : StoredCode) (h budget : ℕ) (bank : List ℕ) (z : Left) where
           (subst (λ v. Leads s budget h n v (left_standing (ticks + 1 + n) bank z)) (sym (turned x ticks i r.0 own)) (rest i o.1))
 
 -- a hart that can take a turn isn't stopped, and outside it has ticks left
-pub outside_below : (a : Progress) (stop : Option Cause) (regs bank : List ℕ) (p : Prog) (budget : ℕ) → IsTrue (may_alone budget (alone_of a stop regs bank p)) → (stop ≡ None) × (a.inside ≡ false → a.ticks < budget)
-outside_below a None regs bank p budget m = (refl, λ out. grind (arith, common_steps))
-outside_below a (Some cause) regs bank p budget m = absurd cc
+pub outside_below : (a : Progress) (x : Hart) (p : Prog) (budget : ℕ) → IsTrue (may_alone budget (alone_of a x p))
+    → (x.stop ≡ None) × (a.inside ≡ false → a.ticks < budget)
+outside_below a x p budget m = by x.stop m
+  where
+    by : (stop : Option Cause) → IsTrue (may_alone budget (alone_of a (record x { stop = stop }) p))
+        → (stop ≡ None) × (a.inside ≡ false → a.ticks < budget)
+    by None may = (refl, λ out. grind (arith, common_steps))
+    by (Some cause) may = absurd cc

@@ -1,9 +1,8 @@
 -- For proofs alone: several turns of one hart by itself.
-use Rattle.std.specs.Prelude.{◌≡◌, ℕ, zero, suc, ◌<◌, ◌≤◌, ◌⊎◌, IsTrue, Bool, true, false, Option, Some, List}
+use Rattle.std.specs.Prelude.{◌≡◌, ℕ, zero, suc, ◌<◌, ◌≤◌, ◌⊎◌, IsTrue, Bool, true, false, Option, Some}
 use Rattle.tramp_spec.specs.Codes.{fetched_at, is_tool_word}
 use Rattle.rv_word.specs.Exec.{Prog}
-use Rattle.rv_word.specs.declared.outcome.Cause.{Cause}
-use Rattle.tramp_spec.specs.Harts.{Solo, is_tick, step_of}
+use Rattle.tramp_spec.specs.Harts.{Hart, Solo, is_tick, step_of}
 use Rattle.tramp_spec.specs.declared.mark.MarkedWord.{MarkedWord}
 use Rattle.code_store.specs.Stores.{StoredCode}
 use Rattle.machine.specs.Performing.{home_in_store}
@@ -21,9 +20,9 @@ turned_alone s h x = step_of (fetched_alone s x) h (home_in_store s x.hart.pc x.
 abbrev pub may_alone : ℕ → Solo → Bool
 may_alone budget x = may_turn (Some x.hart) budget
 
--- a hart by itself, from its parts
-abbrev pub alone_of : Progress → Option Cause → List ℕ → List ℕ → Prog → Solo
-alone_of a stop regs bank p = record { hart = record { pc = a.pc; regs = regs; ticks = a.ticks; stop = stop; inside = a.inside; bank = bank }; prog = p }
+-- a hart by itself that is so far: its other parts are those of `x`
+abbrev pub alone_of : Progress → Hart → Prog → Solo
+alone_of a x p = record { hart = record x { pc = a.pc; ticks = a.ticks; inside = a.inside }; prog = p }
 
 -- this many turns, each of which the hart could take, lead from the one to the other
 abbrev pub Leads : StoredCode → ℕ → ℕ → ℕ → Solo → Solo → Type 0

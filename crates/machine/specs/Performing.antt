@@ -22,26 +22,31 @@ stood_after (Some cause) pc x = Err cause
 abbrev pub bench_from : List ℕ → List ℕ → Bench
 bench_from regs bank = record { regs = regs; bank = bank }
 
+-- a hart's registers and bank
+abbrev pub bench_in : Hart → Bench
+bench_in x = bench_from x.regs x.bank
+
 -- what a word of the program leaves
-pub record PerformsOwn (word h pc : ℕ) (regs bank : List ℕ) (p : Prog) (stop : Option Cause) (new_pc : ℕ) (new_regs new_bank : List ℕ) (new_p : Prog) : Type 0 where
-  pub does : done (exec_of word pc h regs p) regs ≡ record { next = next_after stop new_pc; regs = new_regs; prog = new_p }
-  pub keeps : new_bank ≡ bank
+pub record PerformsOwn (word h : ℕ) (x z : Solo) : Type 0 where
+  pub does : done (exec_of word x.hart.pc h x.hart.regs x.prog) x.hart.regs
+      ≡ record { next = next_after z.hart.stop z.hart.pc; regs = z.hart.regs; prog = z.prog }
+  pub keeps : z.hart.bank ≡ x.hart.bank
 
 -- what another word leaves that reaches n doublewords
-pub record PerformsOther (n word ticks pc : ℕ) (regs bank : List ℕ) (p : Prog) (stop : Option Cause) (new_pc : ℕ) (new_regs new_bank : List ℕ) (new_p : Prog) : Type 0 where
-  pub step : step_on n word ticks pc (bench_from regs bank) ≡ stood_after stop new_pc (bench_from new_regs new_bank)
-  pub shares : new_p ≡ p
-  pub stays : (stop ≡ None) ⊎ ((new_regs ≡ regs) × (new_bank ≡ bank))
+pub record PerformsOther (n word : ℕ) (x z : Solo) : Type 0 where
+  pub step : step_on n word x.hart.ticks x.hart.pc (bench_in x.hart) ≡ stood_after z.hart.stop z.hart.pc (bench_in z.hart)
+  pub shares : z.prog ≡ x.prog
+  pub stays : (z.hart.stop ≡ None) ⊎ ((z.hart.regs ≡ x.hart.regs) × (z.hart.bank ≡ x.hart.bank))
 
-abbrev pub PerformsBy : Mark → ℕ → ℕ → ℕ → ℕ → List ℕ → List ℕ → Prog → Option Cause → ℕ → List ℕ → List ℕ → Prog → Type 0
-PerformsBy Own word h ticks pc regs bank p stop new_pc new_regs new_bank new_p = PerformsOwn word h pc regs bank p stop new_pc new_regs new_bank new_p
-PerformsBy Tool word h ticks pc regs bank p stop new_pc new_regs new_bank new_p = PerformsOther (reach_of Tool) word ticks pc regs bank p stop new_pc new_regs new_bank new_p
-PerformsBy Enter word h ticks pc regs bank p stop new_pc new_regs new_bank new_p = PerformsOther (reach_of Enter) word ticks pc regs bank p stop new_pc new_regs new_bank new_p
-PerformsBy Leave word h ticks pc regs bank p stop new_pc new_regs new_bank new_p = PerformsOther (reach_of Leave) word ticks pc regs bank p stop new_pc new_regs new_bank new_p
+abbrev pub PerformsBy : Mark → ℕ → ℕ → Solo → Solo → Type 0
+PerformsBy Own word h x z = PerformsOwn word h x z
+PerformsBy Tool word h x z = PerformsOther (reach_of Tool) word x z
+PerformsBy Enter word h x z = PerformsOther (reach_of Enter) word x z
+PerformsBy Leave word h x z = PerformsOther (reach_of Leave) word x z
 
--- hart h, with these ticks, at pc, performs the word: so the operation leaves the rest
-abbrev pub Performs : MarkedWord → ℕ → ℕ → ℕ → List ℕ → List ℕ → Prog → Option Cause → ℕ → List ℕ → List ℕ → Prog → Type 0
-Performs w h ticks pc regs bank p stop new_pc new_regs new_bank new_p = PerformsBy w.mark w.word h ticks pc regs bank p stop new_pc new_regs new_bank new_p
+-- hart h performs the word: so the operation leaves the pc, the stop, the registers, the bank and what harts share
+abbrev pub Performs : MarkedWord → ℕ → Solo → Solo → Type 0
+Performs w h x z = PerformsBy w.mark w.word h x z
 
 -- ---- homes, by the owner of a word
 

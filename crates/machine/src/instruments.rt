@@ -54,7 +54,7 @@ impl Machine {
         if !self.may_arm(instrument) {
             return false;
         }
-        arm_harts(&mut self.harts, &self.mem, instrument);
+        arm_harts(&mut self.harts, &self.shared.mem, instrument);
         true
     }
 

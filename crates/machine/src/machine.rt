@@ -14,7 +14,7 @@ use crate::block_list::Blocks;
 use crate::hart::HartState;
 use code_store::Store;
 use pn_types::{HartNo, Image, MAX_HARTS, NoMemory};
-use rv_exec::{Output, Regs, Reservations};
+use rv_exec::{Output, Regs, Reservations, Shared};
 use rv_mem::Mem;
 use rv_word::Cause;
 use std::alloc::Global;
@@ -24,16 +24,14 @@ use std::marker::Model;
 /// tool text. Contracts see the definitions' state, and for how many more blocks there is room.
 pub struct Machine {
     pub(crate) harts: Vec<HartState>,
-    pub(crate) mem: Mem,
-    pub(crate) resv: Reservations,
-    pub(crate) out: Output,
+    pub(crate) shared: Shared,
     pub(crate) store: Store,
     pub(crate) blocks: Blocks,
     pub(crate) budget: u64,
 }
 
 impl Model for Machine {
-    ghost use Rattle.rv_word.specs.Exec.{prog_of};
+    ghost use Rattle.rv_exec.specs.Shared.{prog_in};
     ghost use Rattle.machine.specs.Codes.{machine_code};
     ghost use Rattle.machine.specs.States.{Machine};
     ghost use Rattle.machine.specs.Views.{IsSound, core_of};
@@ -42,9 +40,9 @@ impl Model for Machine {
 
     ghost coded = { machine_code };
 
-    ghost view = { λ m. record { core = core_of m.harts.items (prog_of m.mem m.resv m.out) m.store m.blocks.rows m.budget; room = m.blocks.room } };
+    ghost view = { λ m. record { core = core_of m.harts.items (prog_in m.shared) m.store m.blocks.rows m.budget; room = m.blocks.room } };
 
-    ghost invariant = { λ m. IsSound m.harts.items (prog_of m.mem m.resv m.out) m.store m.blocks.rows m.budget };
+    ghost invariant = { λ m. IsSound m.harts.items (prog_in m.shared) m.store m.blocks.rows m.budget };
 }
 
 // By a call of its own: what drops it need not prove the drops of all its parts.
@@ -52,9 +50,7 @@ impl Drop for Machine {
     fn drop(self) {
         let Machine {
             harts: _,
-            mem: _,
-            resv: _,
-            out: _,
+            shared: _,
             store: _,
             blocks: _,
             budget: _,
@@ -99,9 +95,11 @@ impl Machine {
     {
         Ok(Machine {
             harts: first_harts(alloc, image, harts)?,
-            mem: Mem::new(alloc, image, harts)?,
-            resv: Reservations::new(alloc, harts)?,
-            out: Output::new(alloc)?,
+            shared: Shared {
+                mem: Mem::new(alloc, image, harts)?,
+                resv: Reservations::new(alloc, harts)?,
+                out: Output::new(alloc)?,
+            },
             store: Store::new(alloc, image)?,
             blocks: Blocks::new(alloc)?,
             budget,
@@ -137,7 +135,7 @@ impl Machine {
     pub fn output(&self) -> &[u8]
         ensures { result.now ≡ self.now.core.prog.out }
     {
-        self.out.bytes()
+        self.shared.out.bytes()
     }
 
     /// Whether the hart isn't stopped, and is inside a trampoline or has fewer ticks than the budget.

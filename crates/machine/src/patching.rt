@@ -128,10 +128,10 @@ impl Machine {
         requires { IsSome (current_base self.now.core.rows point) }
         ensures { IfSome (current_base self.now.core.rows point) (λ base. result ≡ next_of self.now.core.code base) }
     {
-        match self.blocks.current_base(point) {
-            Some(base) => base.next_of(&self.store),
-            None => 0,
-        }
+        let Some(base) = self.blocks.current_base(point) else {
+            unreachable!();
+        };
+        base.next_of(&self.store)
     }
 
     /// Whether a hart is inside a block of the point.

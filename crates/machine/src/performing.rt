@@ -1,15 +1,17 @@
 //! What a hart's word does: a word of the program on memory, reservations and output, another on the hart's bank.
 
 ghost use Rattle.std.specs.Prelude.{◌≡◌, ◌≤◌, ◌<◌, ◌/◌, ◌^◌, ℕ, List, true, false, None, Some, length, is_none};
-ghost use Rattle.rv_word.specs.Exec.{prog_of};
+ghost use Rattle.rv_exec.specs.Shared.{prog_in};
 ghost use Rattle.tramp_spec.specs.Banks.{bank_at, bank_len, is_in_bank, set_bank};
 ghost use Rattle.code_store.specs.Operations.{bank_loaded, bank_stored};
+ghost use Rattle.machine.specs.Alone.{alone_of};
 ghost use Rattle.machine.specs.Performing.{Performs, bench_from, stood_after};
 
+use crate::hart::HartState;
+use crate::turning::Progress;
 use code_store::{Operation, Slot};
 use pn_types::HartNo;
-use rv_exec::{Caller, Output, Regs, Reservations};
-use rv_mem::Mem;
+use rv_exec::{Caller, Regs, Shared};
 use rv_word::Cause;
 
 /// A word by itself.
@@ -106,40 +108,47 @@ fn store(value: u64, at: u64, pc: &mut u64, stop: &mut Option<Cause>, bank: &mut
 #[tactic(auto, using(crate::proofs::Performed::run_fits, crate::proofs::Performed::load_fits, crate::proofs::Performed::store_fits, crate::proofs::Performed::access_fits))]
 pub fn perform(
     slot: &Slot,
-    hart: HartNo,
-    ticks: u64,
-    pc: &mut u64,
-    stop: &mut Option<Cause>,
-    regs: &mut Regs,
-    bank: &mut [u64],
-    mem: &mut Mem,
-    resv: &mut Reservations,
-    out: &mut Output,
+    number: HartNo,
+    progress: &mut Progress,
+    hart: &mut HartState,
+    shared: &mut Shared,
 ) -> bool
-    requires hart { hart < length resv.old }
-    requires bank { length bank.old ≡ bank_len }
-    requires stop { stop.old ≡ None }
-    ensures goes { result ≡ is_none stop.new }
-    ensures room { length bank.new ≡ length bank.old }
-    ensures harts { length resv.new ≡ length resv.old }
-    ensures performed { Performs slot.now hart ticks pc.old regs.old bank.old (prog_of mem.old resv.old out.old) stop.new pc.new regs.new bank.new (prog_of mem.new resv.new out.new) }
+    requires number { number < length shared.old.resv }
+    requires stop { hart.old.stop ≡ None }
+    ensures goes { result ≡ is_none hart.new.stop }
+    ensures harts { length shared.new.resv ≡ length shared.old.resv }
+    ensures performed { Performs slot.now number (alone_of progress.old hart.old (prog_in shared.old))
+        (alone_of progress.new hart.new (prog_in shared.new)) }
 {
     match slot.operation() {
-        Operation::Run(flat) => flat.run::<Alone>(hart, pc, stop, regs, mem, resv, out),
+        Operation::Run(flat) => {
+            let pc = &mut progress.pc;
+            flat.run::<Alone>(number, pc, &mut hart.stop, &mut hart.regs, shared)
+        }
         Operation::LoadBank { rd, rs1, offset } => {
-            let at = regs.get(*rs1).wrapping_add(*offset);
-            load(*rd, at, ticks, pc, stop, regs, bank)
+            let at = hart.regs.get(*rs1).wrapping_add(*offset);
+            load(
+                *rd,
+                at,
+                progress.ticks,
+                &mut progress.pc,
+                &mut hart.stop,
+                &mut hart.regs,
+                hart.bank.as_slice(),
+            )
         }
         Operation::StoreBank { rs1, rs2, offset } => {
-            let at = regs.get(*rs1).wrapping_add(*offset);
-            store(regs.get(*rs2), at, pc, stop, bank)
+            let at = hart.regs.get(*rs1).wrapping_add(*offset);
+            let value = hart.regs.get(*rs2);
+            let pc = &mut progress.pc;
+            store(value, at, pc, &mut hart.stop, hart.bank.as_mut_slice())
         }
         Operation::NoAccess { rs1, offset } => {
-            *stop = Some(Cause::Access(regs.get(*rs1).wrapping_add(*offset)));
+            hart.stop = Some(Cause::Access(hart.regs.get(*rs1).wrapping_add(*offset)));
             false
         }
         Operation::Stop(cause) => {
-            *stop = Some(*cause);
+            hart.stop = Some(*cause);
             false
         }
     }

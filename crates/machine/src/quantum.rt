@@ -27,15 +27,7 @@ impl Machine {
     {
         let state = &mut self.harts[hart.get() as usize];
         let before = state.ticks();
-        let turns = state.take_turns(
-            hart,
-            most,
-            self.budget,
-            &self.store,
-            &mut self.mem,
-            &mut self.resv,
-            &mut self.out,
-        );
+        let turns = state.take_turns(hart, most, self.budget, &self.store, &mut self.shared);
         let ticks = (state.ticks() - before) as u32;
         Taken { turns, ticks }
     }

@@ -1,14 +1,13 @@
 //! Words that a hart runs one after another.
 
 ghost use Rattle.std.specs.Prelude.{◌≡◌, ◌≤◌, ◌<◌, ◌↔◌, IsTrue, None, Some, length};
-ghost use Rattle.rv_word.specs.Exec.{prog_of};
+ghost use Rattle.rv_exec.specs.Shared.{prog_in};
 ghost use Rattle.rv_word.specs.declared.outcome.Cause.TheVariants.{Illegal};
 ghost use Rattle.machine.specs.Stretches.{AreRun};
 
 use code_store::{Store, flat_at};
 use pn_types::HartNo;
-use rv_exec::{Caller, Output, Regs, Reservations};
-use rv_mem::Mem;
+use rv_exec::{Caller, Regs, Shared};
 use rv_word::Cause;
 
 /// Words one after another.
@@ -35,15 +34,15 @@ pub fn run_words(
     stop: &mut Option<Cause>,
     regs: &mut Regs,
     store: &Store,
-    mem: &mut Mem,
-    resv: &mut Reservations,
-    out: &mut Output,
+    shared: &mut Shared,
 ) -> u32
-    requires hart { number < length resv.old }
+    requires hart { number < length shared.old.resv }
     requires stop { stop.old ≡ None }
-    ensures ran { AreRun store.now number result (record { pc = pc.old; stop = None; regs = regs.old; prog = prog_of mem.old resv.old out.old }) (record { pc = pc.new; stop = stop.new; regs = regs.new; prog = prog_of mem.new resv.new out.new }) }
+    ensures ran { AreRun store.now number result
+        (record { pc = pc.old; stop = None; regs = regs.old; prog = prog_in shared.old })
+        (record { pc = pc.new; stop = stop.new; regs = regs.new; prog = prog_in shared.new }) }
     ensures bound { result ≤ most }
-    ensures harts { length resv.new ≡ length resv.old }
+    ensures harts { length shared.new.resv ≡ length shared.old.resv }
 {
     let (text_at, flats) = store.flats();
     for turns in 0..most {
@@ -51,7 +50,7 @@ pub fn run_words(
         let Some(flat) = flat_at(text_at, flats, at) else {
             return turns;
         };
-        if !flat.run::<Stretch>(number, pc, stop, regs, mem, resv, out) {
+        if !flat.run::<Stretch>(number, pc, stop, regs, shared) {
             *pc = at;
             if is_illegal(*stop) {
                 *stop = None;

@@ -1,8 +1,7 @@
 //! Turns of one hart.
 
 ghost use Rattle.std.specs.Prelude.{◌≡◌, ◌+◌, ◌<◌, ◌≤◌, ◌^◌, ◌&&◌, ◌||◌, nat_lt, IsTrue, true, None, is_none, length};
-ghost use Rattle.rv_word.specs.Exec.{prog_of};
-ghost use Rattle.tramp_spec.specs.Banks.{bank_len};
+ghost use Rattle.rv_exec.specs.Shared.{prog_in};
 ghost use Rattle.tramp_spec.specs.Codes.{fetched_at, is_tool_word};
 ghost use Rattle.tramp_spec.specs.Harts.{is_tick};
 ghost use Rattle.machine.specs.Alone.{ArePlaced, Leads, TakesAlone, alone_of, may_alone, turned_alone};
@@ -13,8 +12,7 @@ use crate::performing::perform;
 use crate::stretch::run_words;
 use code_store::Store;
 use pn_types::HartNo;
-use rv_exec::{Output, Regs, Reservations};
-use rv_mem::Mem;
+use rv_exec::Shared;
 use rv_word::Cause;
 
 /// How far a hart is. While it takes turns this is kept apart from its registers.
@@ -35,27 +33,23 @@ impl Progress {
     }
 }
 
-/// One turn of a hart that isn't stopped. It takes no memory.
+/// Takes one turn of a hart that isn't stopped. It takes no memory. Of the hart's own pc, ticks and place inside nothing is read.
 #[inline(always)]
 fn take_turn(
     progress: &mut Progress,
-    stop: &mut Option<Cause>,
-    regs: &mut Regs,
-    bank: &mut Vec<u64>,
+    hart: &mut HartState,
     number: HartNo,
     store: &Store,
-    mem: &mut Mem,
-    resv: &mut Reservations,
-    out: &mut Output,
+    shared: &mut Shared,
 )
-    requires number { number < length resv.old }
-    requires bank { length bank.old.items ≡ bank_len }
-    requires running { stop.old ≡ None }
+    requires number { number < length shared.old.resv }
+    requires running { hart.old.stop ≡ None }
     requires placed { progress.old.inside ≡ true → is_tool_word store.now.program progress.old.pc ≡ true }
-    requires countable { is_tick (fetched_at store.now.program store.now.code progress.old.pc progress.old.inside) ≡ true → progress.old.ticks + 1 < 2 ^ 64 }
-    ensures turned { alone_of progress.new stop.new regs.new bank.new.items (prog_of mem.new resv.new out.new) ≡ turned_alone store.now number (alone_of progress.old stop.old regs.old bank.old.items (prog_of mem.old resv.old out.old)) }
-    ensures room { length bank.new.items ≡ length bank.old.items }
-    ensures harts { length resv.new ≡ length resv.old }
+    requires countable { is_tick (fetched_at store.now.program store.now.code progress.old.pc progress.old.inside) ≡ true
+        → progress.old.ticks + 1 < 2 ^ 64 }
+    ensures turned { alone_of progress.new hart.new (prog_in shared.new)
+        ≡ turned_alone store.now number (alone_of progress.old hart.old (prog_in shared.old)) }
+    ensures harts { length shared.new.resv ≡ length shared.old.resv }
 {
     let at = progress.pc;
     let inside = progress.inside;
@@ -64,21 +58,10 @@ fn take_turn(
         progress.pc = home(store, at, inside);
         progress.ticks = ticks + 1;
         progress.inside = false;
-        *stop = Some(Cause::FetchOutside);
+        hart.stop = Some(Cause::FetchOutside);
         return;
     };
-    let goes = perform(
-        slot,
-        number,
-        ticks,
-        &mut progress.pc,
-        stop,
-        regs,
-        bank.as_mut_slice(),
-        mem,
-        resv,
-        out,
-    );
+    let goes = perform(slot, number, progress, hart, shared);
     progress.ticks = ticks + slot.is_tick() as u64;
     if goes {
         progress.inside = slot.inside_after(inside);
@@ -88,72 +71,69 @@ fn take_turn(
     }
 }
 
-/// Turns of a hart that can take one, by words of the program one after another: at most `most`, and none where the hart is inside or
-/// such a word isn't next. It answers how many, and takes no memory.
+/// Takes turns of a hart that can take one, by words of the program one after another: at most `most`, and none where the hart is
+/// inside or such a word isn't next. Returns how many, and takes no memory.
 #[inline(always)]
 fn take_words(
     progress: &mut Progress,
-    stop: &mut Option<Cause>,
-    regs: &mut Regs,
-    bank: &Vec<u64>,
+    hart: &mut HartState,
     number: HartNo,
     most: u32,
     budget: u64,
     store: &Store,
-    mem: &mut Mem,
-    resv: &mut Reservations,
-    out: &mut Output,
+    shared: &mut Shared,
 ) -> u32
-    requires number { number < length resv.old }
-    requires may { IsTrue (may_alone budget (alone_of progress.old stop.old regs.old bank.now.items (prog_of mem.old resv.old out.old))) }
-    ensures leads { Leads store.now budget number result (alone_of progress.old stop.old regs.old bank.now.items (prog_of mem.old resv.old out.old)) (alone_of progress.new stop.new regs.new bank.now.items (prog_of mem.new resv.new out.new)) }
+    requires number { number < length shared.old.resv }
+    requires may { IsTrue (may_alone budget (alone_of progress.old hart.old (prog_in shared.old))) }
+    ensures leads { Leads store.now budget number result
+        (alone_of progress.old hart.old (prog_in shared.old)) (alone_of progress.new hart.new (prog_in shared.new)) }
     ensures bound { result ≤ most }
-    ensures harts { length resv.new ≡ length resv.old }
+    ensures harts { length shared.new.resv ≡ length shared.old.resv }
 {
-    let _ = bank;
     if progress.inside {
         return 0;
     }
     let words = (budget - progress.ticks).min(most as u64) as u32;
     let pc = &mut progress.pc;
-    let turns = run_words(words, number, pc, stop, regs, store, mem, resv, out);
+    let turns = run_words(
+        words,
+        number,
+        pc,
+        &mut hart.stop,
+        &mut hart.regs,
+        store,
+        shared,
+    );
     progress.ticks += turns as u64;
     turns
 }
 
-/// Turns of a hart that can take one: of words of the program one after another where such a word is next, at most `most`, and else
-/// one. It answers how many, and takes no memory.
+/// Takes turns of a hart that can take one: of words of the program one after another where such a word is next, at most `most`, and
+/// else one. Returns how many, and takes no memory.
 #[inline(always)]
 fn take_some(
     progress: &mut Progress,
-    stop: &mut Option<Cause>,
-    regs: &mut Regs,
-    bank: &mut Vec<u64>,
+    hart: &mut HartState,
     number: HartNo,
     most: u32,
     budget: u64,
     store: &Store,
-    mem: &mut Mem,
-    resv: &mut Reservations,
-    out: &mut Output,
+    shared: &mut Shared,
 ) -> u32
-    requires number { number < length resv.old }
-    requires bank { length bank.old.items ≡ bank_len }
+    requires number { number < length shared.old.resv }
     requires most { 1 ≤ most }
-    requires may { IsTrue (may_alone budget (alone_of progress.old stop.old regs.old bank.old.items (prog_of mem.old resv.old out.old))) }
-    requires placed { ArePlaced store.now budget number (alone_of progress.old stop.old regs.old bank.old.items (prog_of mem.old resv.old out.old)) }
-    ensures leads { Leads store.now budget number result (alone_of progress.old stop.old regs.old bank.old.items (prog_of mem.old resv.old out.old)) (alone_of progress.new stop.new regs.new bank.new.items (prog_of mem.new resv.new out.new)) }
+    requires may { IsTrue (may_alone budget (alone_of progress.old hart.old (prog_in shared.old))) }
+    requires placed { ArePlaced store.now budget number (alone_of progress.old hart.old (prog_in shared.old)) }
+    ensures leads { Leads store.now budget number result
+        (alone_of progress.old hart.old (prog_in shared.old)) (alone_of progress.new hart.new (prog_in shared.new)) }
     ensures bound { (1 ≤ result) × (result ≤ most) }
-    ensures room { length bank.new.items ≡ length bank.old.items }
-    ensures harts { length resv.new ≡ length resv.old }
+    ensures harts { length shared.new.resv ≡ length shared.old.resv }
 {
-    let words = take_words(
-        progress, stop, regs, bank, number, most, budget, store, mem, resv, out,
-    );
+    let words = take_words(progress, hart, number, most, budget, store, shared);
     if words > 0 {
         return words;
     }
-    take_turn(progress, stop, regs, bank, number, store, mem, resv, out);
+    take_turn(progress, hart, number, store, shared);
     1
 }
 
@@ -180,7 +160,7 @@ impl HartState {
         self.inside = progress.inside;
     }
 
-    /// Turns of the hart, at most so many, as long as it can take them. It answers how many, and takes no memory.
+    /// Takes turns of the hart, at most `most`, as long as it can take them. Returns how many, and takes no memory.
     #[inline(never)]
     pub fn take_turns(
         &mut self,
@@ -188,31 +168,26 @@ impl HartState {
         most: u32,
         budget: u64,
         store: &Store,
-        mem: &mut Mem,
-        resv: &mut Reservations,
-        out: &mut Output,
+        shared: &mut Shared,
     ) -> u32
-        requires number { number < length resv.old }
-        requires placed { ArePlaced store.now budget number (solo_of self.old (prog_of mem.old resv.old out.old)) }
-        ensures taken { TakesAlone store.now budget number most (solo_of self.old (prog_of mem.old resv.old out.old)) (solo_of self.new (prog_of mem.new resv.new out.new)) result }
+        requires number { number < length shared.old.resv }
+        requires placed { ArePlaced store.now budget number (solo_of self.old (prog_in shared.old)) }
+        ensures taken { TakesAlone store.now budget number most
+            (solo_of self.old (prog_in shared.old)) (solo_of self.new (prog_in shared.new)) result }
         ensures ticks { (self.old.ticks ≤ self.new.ticks) × (self.new.ticks ≤ self.old.ticks + result) }
-        ensures harts { length resv.new ≡ length resv.old }
+        ensures harts { length shared.new.resv ≡ length shared.old.resv }
     {
         let mut progress = self.progress();
         let mut turns = 0;
         while turns < most && progress.may_turn(self.stop, budget) {
             turns += take_some(
                 &mut progress,
-                &mut self.stop,
-                &mut self.regs,
-                &mut self.bank,
+                self,
                 number,
                 most - turns,
                 budget,
                 store,
-                mem,
-                resv,
-                out,
+                shared,
             );
         }
         self.set_progress(progress);

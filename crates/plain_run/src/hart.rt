@@ -4,8 +4,7 @@ ghost use Rattle.plain_run.specs.Views.{hart_of, alone_of};
 
 use crate::program::{place_of, word_at};
 use pn_types::HartNo;
-use rv_exec::{Decoded, Output, Regs, Reservations};
-use rv_mem::Mem;
+use rv_exec::{Decoded, Regs, Shared};
 use rv_word::Cause;
 
 /// What one hart has.
@@ -31,16 +30,15 @@ impl HartState {
         number: HartNo,
         words: &[Decoded],
         text_at: u64,
-        mem: &mut Mem,
-        resv: &mut Reservations,
-        out: &mut Output,
+        shared: &mut Shared,
     )
-        requires hart { number < length resv.old }
+        requires hart { number < length shared.old.resv }
         requires stop { self.old.stop ≡ None }
         requires ticks { self.old.ticks + 1 < 2 ^ 64 }
         requires ends { text_at + 4 * length words.now < 2 ^ 64 }
-        ensures turn { alone_of self.new mem.new resv.new out.new ≡ turn_alone (record { at = text_at; words = words.now }) number (alone_of self.old mem.old resv.old out.old) }
-        ensures harts { length resv.new ≡ length resv.old }
+        ensures turn { alone_of self.new shared.new
+            ≡ turn_alone (record { at = text_at; words = words.now }) number (alone_of self.old shared.old) }
+        ensures harts { length shared.new.resv ≡ length shared.old.resv }
     {
         self.ticks += 1;
         let at = self.pc;
@@ -55,9 +53,7 @@ impl HartState {
             &mut self.pc,
             &mut self.stop,
             &mut self.regs,
-            mem,
-            resv,
-            out,
+            shared,
         );
         if !goes {
             self.pc = at;

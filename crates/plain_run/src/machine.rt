@@ -10,7 +10,7 @@ ghost use Rattle.plain_run.specs.Machines.{turned};
 use crate::hart::HartState;
 use crate::program::words;
 use pn_types::{HartNo, Image, MAX_HARTS, NoMemory};
-use rv_exec::{Decoded, Output, Regs, Reservations};
+use rv_exec::{Decoded, Output, Regs, Reservations, Shared};
 use rv_mem::Mem;
 use rv_word::Cause;
 use std::alloc::Global;
@@ -20,9 +20,7 @@ use std::marker::Model;
 /// state of the unpatched machine.
 pub struct PlainMachine {
     harts: Vec<HartState>,
-    mem: Mem,
-    resv: Reservations,
-    out: Output,
+    shared: Shared,
     text_at: u64,
     words: Vec<Decoded>,
     budget: u64,
@@ -30,7 +28,7 @@ pub struct PlainMachine {
 
 impl Model for PlainMachine {
     ghost use Rattle.std.specs.Prelude.{◌≡◌, ◌+◌, ◌*◌, ◌<◌, ◌^◌, length};
-    ghost use Rattle.rv_word.specs.Exec.{prog_of};
+    ghost use Rattle.rv_exec.specs.Shared.{prog_in};
     ghost use Rattle.plain_run.specs.Machines.{Machine};
     ghost use Rattle.plain_run.specs.Codes.{machine_code};
     ghost use Rattle.plain_run.specs.Views.{harts_of};
@@ -39,9 +37,13 @@ impl Model for PlainMachine {
 
     ghost coded = { machine_code };
 
-    ghost view = { λ m. record { program = record { at = m.text_at; words = m.words.items }; budget = m.budget; state = record { harts = harts_of m.harts.items; prog = prog_of m.mem m.resv m.out } } };
+    ghost view = { λ m. record {
+        program = record { at = m.text_at; words = m.words.items };
+        budget = m.budget;
+        state = record { harts = harts_of m.harts.items; prog = prog_in m.shared };
+    } };
 
-    ghost invariant = { λ m. (length m.resv ≡ length m.harts.items) × (m.text_at + 4 * length m.words.items < 2 ^ 64) };
+    ghost invariant = { λ m. (length m.shared.resv ≡ length m.harts.items) × (m.text_at + 4 * length m.words.items < 2 ^ 64) };
 }
 
 // By a call of its own: what drops it need not prove the drops of all its parts.
@@ -49,9 +51,7 @@ impl Drop for PlainMachine {
     fn drop(self) {
         let PlainMachine {
             harts: _,
-            mem: _,
-            resv: _,
-            out: _,
+            shared: _,
             text_at: _,
             words: _,
             budget: _,
@@ -93,9 +93,11 @@ impl PlainMachine {
         let states = first_harts(alloc, image, harts)?;
         Ok(PlainMachine {
             harts: states,
-            mem: Mem::new(alloc, image, harts)?,
-            resv: Reservations::new(alloc, harts)?,
-            out: Output::new(alloc)?,
+            shared: Shared {
+                mem: Mem::new(alloc, image, harts)?,
+                resv: Reservations::new(alloc, harts)?,
+                out: Output::new(alloc)?,
+            },
             text_at: image.text_at,
             words,
             budget,
@@ -121,9 +123,7 @@ impl PlainMachine {
             hart,
             &self.words,
             self.text_at,
-            &mut self.mem,
-            &mut self.resv,
-            &mut self.out,
+            &mut self.shared,
         );
     }
 
@@ -155,6 +155,6 @@ impl PlainMachine {
     pub fn output(&self) -> &[u8]
         ensures { result.now ≡ self.now.state.prog.out }
     {
-        self.out.bytes()
+        self.shared.out.bytes()
     }
 }

@@ -5,3 +5,4 @@ pub mod Unreserved
 pub mod Flat
 pub mod Codes
 pub mod AtomicAccesses
+pub mod Shared

@@ -1,14 +1,13 @@
 ghost use Rattle.std.specs.Prelude.{◌≡◌, ◌<◌, length, None, is_none};
 ghost use Rattle.rv_word.specs.Exec.{exec_of};
-ghost use Rattle.rv_exec.specs.Gives.{Gives, state_from, next_after};
+ghost use Rattle.rv_exec.specs.Gives.{Gives, state_of, next_after};
+ghost use Rattle.rv_exec.specs.Shared.{prog_in};
 
 use crate::flat::{Flat, flattened};
-use crate::output::Output;
 use crate::regs::Regs;
-use crate::reservations::Reservations;
 use crate::running::Caller;
+use crate::shared::Shared;
 use pn_types::HartNo;
-use rv_mem::Mem;
 use rv_word::{Cause, decode};
 use std::marker::Model;
 
@@ -63,16 +62,14 @@ impl Decoded {
         pc: &mut u64,
         stop: &mut Option<Cause>,
         regs: &mut Regs,
-        mem: &mut Mem,
-        resv: &mut Reservations,
-        out: &mut Output,
+        shared: &mut Shared,
     ) -> bool
         requires stop { stop.old ≡ None }
-        requires hart { hart < length resv.old }
+        requires hart { hart < length shared.old.resv }
         ensures goes { result ≡ is_none stop.new }
-        ensures state { Gives (exec_of self.now pc.old hart) (state_from regs.old mem.old resv.old out.old) (next_after stop.new pc.new) (state_from regs.new mem.new resv.new out.new) }
+        ensures state { Gives (exec_of self.now pc.old hart)
+            (state_of regs.old (prog_in shared.old)) (next_after stop.new pc.new) (state_of regs.new (prog_in shared.new)) }
     {
-        self.flat
-            .run::<Decoded>(hart, pc, stop, regs, mem, resv, out)
+        self.flat.run::<Decoded>(hart, pc, stop, regs, shared)
     }
 }

@@ -11,6 +11,7 @@ mod output;
 mod regs;
 mod reservations;
 mod running;
+mod shared;
 mod steps;
 mod values;
 
@@ -21,3 +22,4 @@ pub use output::Output;
 pub use regs::Regs;
 pub use reservations::Reservations;
 pub use running::Caller;
+pub use shared::Shared;

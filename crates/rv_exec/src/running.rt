@@ -5,21 +5,20 @@ ghost use Rattle.std.specs.Prelude.{◌≡◌, ◌<◌, length, None, is_none, I
 ghost use Rattle.rv_word.specs.Exec.{exec_decoded};
 ghost use Rattle.rv_word.specs.Words.{HasWord};
 ghost use Rattle.rv_exec.specs.Flat.{instr_of};
-ghost use Rattle.rv_exec.specs.Gives.{Gives, state_from, next_after};
+ghost use Rattle.rv_exec.specs.Gives.{Gives, state_of, next_after};
+ghost use Rattle.rv_exec.specs.Shared.{prog_in};
 
 use crate::atomics::access;
 use crate::calling::call;
 use crate::flat::Flat;
 use crate::outcomes::next_pc;
-use crate::output::Output;
 use crate::regs::Regs;
-use crate::reservations::Reservations;
+use crate::shared::Shared;
 use crate::steps::{
     branch, compute, immediate, jump, operate, operate_32, read, shift, shift_32, write,
 };
 use crate::values::{is_taken, low_word_of};
 use pn_types::HartNo;
-use rv_mem::Mem;
 use rv_word::{BranchOp, Cause, ImmOp, LoadOp, RegOp, RegOp32, ShiftOp, StoreOp};
 
 /// Who runs instructions. Each caller has a copy of [`Flat::run`] of its own, so that the compiler can put it into the caller's loop,
@@ -38,15 +37,14 @@ impl Flat {
         pc: &mut u64,
         stop: &mut Option<Cause>,
         regs: &mut Regs,
-        mem: &mut Mem,
-        resv: &mut Reservations,
-        out: &mut Output,
+        shared: &mut Shared,
     ) -> bool
         requires word { IfSome (instr_of self.now) HasWord }
-        requires hart { hart < length resv.old }
+        requires hart { hart < length shared.old.resv }
         requires stop { stop.old ≡ None }
         ensures goes { result ≡ is_none stop.new }
-        ensures state { Gives (exec_decoded (instr_of self.now) pc.old hart) (state_from regs.old mem.old resv.old out.old) (next_after stop.new pc.new) (state_from regs.new mem.new resv.new out.new) }
+        ensures state { Gives (exec_decoded (instr_of self.now) pc.old hart)
+            (state_of regs.old (prog_in shared.old)) (next_after stop.new pc.new) (state_of regs.new (prog_in shared.new)) }
     {
         match *self {
             Flat::Illegal => {
@@ -86,47 +84,47 @@ impl Flat {
             }
             Flat::Lb(rd, rs1, offset) => {
                 let at = regs.get(rs1).wrapping_add(offset);
-                read(LoadOp::Lb, rd, at, pc, stop, regs, mem)
+                read(LoadOp::Lb, rd, at, pc, stop, regs, &shared.mem)
             }
             Flat::Lh(rd, rs1, offset) => {
                 let at = regs.get(rs1).wrapping_add(offset);
-                read(LoadOp::Lh, rd, at, pc, stop, regs, mem)
+                read(LoadOp::Lh, rd, at, pc, stop, regs, &shared.mem)
             }
             Flat::Lw(rd, rs1, offset) => {
                 let at = regs.get(rs1).wrapping_add(offset);
-                read(LoadOp::Lw, rd, at, pc, stop, regs, mem)
+                read(LoadOp::Lw, rd, at, pc, stop, regs, &shared.mem)
             }
             Flat::Ld(rd, rs1, offset) => {
                 let at = regs.get(rs1).wrapping_add(offset);
-                read(LoadOp::Ld, rd, at, pc, stop, regs, mem)
+                read(LoadOp::Ld, rd, at, pc, stop, regs, &shared.mem)
             }
             Flat::Lbu(rd, rs1, offset) => {
                 let at = regs.get(rs1).wrapping_add(offset);
-                read(LoadOp::Lbu, rd, at, pc, stop, regs, mem)
+                read(LoadOp::Lbu, rd, at, pc, stop, regs, &shared.mem)
             }
             Flat::Lhu(rd, rs1, offset) => {
                 let at = regs.get(rs1).wrapping_add(offset);
-                read(LoadOp::Lhu, rd, at, pc, stop, regs, mem)
+                read(LoadOp::Lhu, rd, at, pc, stop, regs, &shared.mem)
             }
             Flat::Lwu(rd, rs1, offset) => {
                 let at = regs.get(rs1).wrapping_add(offset);
-                read(LoadOp::Lwu, rd, at, pc, stop, regs, mem)
+                read(LoadOp::Lwu, rd, at, pc, stop, regs, &shared.mem)
             }
             Flat::Sb(rs1, rs2, offset) => {
                 let at = regs.get(rs1).wrapping_add(offset);
-                write(StoreOp::Sb, hart, at, regs.get(rs2), pc, stop, mem, resv)
+                write(StoreOp::Sb, hart, at, regs.get(rs2), pc, stop, shared)
             }
             Flat::Sh(rs1, rs2, offset) => {
                 let at = regs.get(rs1).wrapping_add(offset);
-                write(StoreOp::Sh, hart, at, regs.get(rs2), pc, stop, mem, resv)
+                write(StoreOp::Sh, hart, at, regs.get(rs2), pc, stop, shared)
             }
             Flat::Sw(rs1, rs2, offset) => {
                 let at = regs.get(rs1).wrapping_add(offset);
-                write(StoreOp::Sw, hart, at, regs.get(rs2), pc, stop, mem, resv)
+                write(StoreOp::Sw, hart, at, regs.get(rs2), pc, stop, shared)
             }
             Flat::Sd(rs1, rs2, offset) => {
                 let at = regs.get(rs1).wrapping_add(offset);
-                write(StoreOp::Sd, hart, at, regs.get(rs2), pc, stop, mem, resv)
+                write(StoreOp::Sd, hart, at, regs.get(rs2), pc, stop, shared)
             }
             Flat::Addi(rd, rs1, imm) => immediate(ImmOp::Addi, rd, rs1, imm, pc, regs),
             Flat::Slti(rd, rs1, imm) => immediate(ImmOp::Slti, rd, rs1, imm, pc, regs),
@@ -177,7 +175,7 @@ impl Flat {
                 true
             }
             Flat::Ecall => {
-                *pc = call(*pc, stop, regs, mem, out);
+                *pc = call(*pc, stop, regs, &shared.mem, &mut shared.out);
                 stop.is_none()
             }
             Flat::Ebreak => {
@@ -185,7 +183,15 @@ impl Flat {
                 false
             }
             Flat::Lr(..) | Flat::Sc(..) | Flat::Amo(..) => {
-                *pc = access(self, hart, *pc, stop, regs, mem, resv);
+                *pc = access(
+                    self,
+                    hart,
+                    *pc,
+                    stop,
+                    regs,
+                    &mut shared.mem,
+                    &mut shared.resv,
+                );
                 stop.is_none()
             }
         }

@@ -7,10 +7,12 @@ ghost use Rattle.rv_word.specs.Registers.{reg, with_reg};
 ghost use Rattle.rv_word.specs.Values.{imm_value, shift_value, shift_word_value, reg_value, reg_32_value, store_len};
 ghost use Rattle.rv_word.specs.declared.action.Action.TheVariants.{Jump, BranchTo, ReadMemory, WriteMemory};
 ghost use Rattle.rv_exec.specs.Gives.{Gives, state_from, state_of, next_after};
+ghost use Rattle.rv_exec.specs.Shared.{prog_in};
 
 use crate::outcomes::{cause_of, next_pc};
 use crate::regs::Regs;
 use crate::reservations::Reservations;
+use crate::shared::Shared;
 use crate::values::{
     imm_result, load_result, load_width, reg_32_result, reg_result, shift_result,
     shift_word_result, store_width,
@@ -228,22 +230,32 @@ pub fn write(
     value: u64,
     pc: &mut u64,
     stop: &mut Option<Cause>,
-    mem: &mut Mem,
-    resv: &mut Reservations,
+    shared: &mut Shared,
 ) -> bool
-    requires hart { hart < length resv.old }
+    requires hart { hart < length shared.old.resv }
     requires stop { stop.old ≡ None }
-    ensures harts { length resv.new ≡ length resv.old }
+    ensures harts { length shared.new.resv ≡ length shared.old.resv }
     ensures goes { result ≡ is_none stop.new }
-    ensures state { (regs out : List ℕ) → Gives (perform hart (WriteMemory (store_len op) at value) pc.old) (state_from regs mem.old resv.old out) (next_after stop.new pc.new) (state_from regs mem.new resv.new out) }
+    ensures state { (regs : List ℕ) → Gives (perform hart (WriteMemory (store_len op) at value) pc.old)
+        (state_of regs (prog_in shared.old)) (next_after stop.new pc.new) (state_of regs (prog_in shared.new)) }
 {
     let len = store_width(op);
-    if mem.quick_store(at, len, value) {
-        resv.break_others(hart, at / 8, at.wrapping_add((len - 1) as u64) / 8);
+    if shared.mem.quick_store(at, len, value) {
+        shared
+            .resv
+            .break_others(hart, at / 8, at.wrapping_add((len - 1) as u64) / 8);
         *pc = next_pc(*pc);
         return true;
     }
-    if !write_anywhere(len, hart, at, value, stop, mem, resv) {
+    if !write_anywhere(
+        len,
+        hart,
+        at,
+        value,
+        stop,
+        &mut shared.mem,
+        &mut shared.resv,
+    ) {
         return false;
     }
     *pc = next_pc(*pc);

@@ -1,7 +1,7 @@
 use crate::comparison::compare;
 use crate::images::image;
 use pn_types::{HartNo, NoMemory};
-use rv_exec::{Decoded, Output, Regs, Reservations, exec};
+use rv_exec::{Decoded, Output, Regs, Reservations, Shared, exec};
 use rv_mem::Mem;
 use rv_word::{Cause, Next};
 use std::alloc::Global;
@@ -22,32 +22,24 @@ const WORDS: [u32; 5] = [
 /// behind the last, which finds it, but an address that is no multiple of 8; and the registers that the first four name first.
 fn execute_words(alloc: Global) -> Result<([Next; 5], [bool; 3], [u64; 4]), NoMemory> {
     let hart = HartNo::first();
-    let mut mem = Mem::new(alloc, &image(alloc)?, 1)?;
-    let mut resv = Reservations::new(alloc, 1)?;
-    let mut out = Output::new(alloc)?;
+    let mut shared = Shared {
+        mem: Mem::new(alloc, &image(alloc)?, 1)?,
+        resv: Reservations::new(alloc, 1)?,
+        out: Output::new(alloc)?,
+    };
     let mut regs = Regs::new();
     regs.set(11, DATA);
     let [first, second, third, fourth, fifth] = WORDS;
-    let first = exec(
-        first, 0x1_0000, hart, &mut regs, &mut mem, &mut resv, &mut out,
-    );
-    let behind_first = resv.has(hart, DATA / 8);
-    let second = exec(
-        second, 0x1_0004, hart, &mut regs, &mut mem, &mut resv, &mut out,
-    );
-    let behind_second = resv.has(hart, DATA / 8);
-    let third = exec(
-        third, 0x1_0008, hart, &mut regs, &mut mem, &mut resv, &mut out,
-    );
-    let fourth = exec(
-        fourth, 0x1_000c, hart, &mut regs, &mut mem, &mut resv, &mut out,
-    );
-    resv.set(hart, Some(DATA / 8));
+    let first = exec(first, 0x1_0000, hart, &mut regs, &mut shared);
+    let behind_first = shared.resv.has(hart, DATA / 8);
+    let second = exec(second, 0x1_0004, hart, &mut regs, &mut shared);
+    let behind_second = shared.resv.has(hart, DATA / 8);
+    let third = exec(third, 0x1_0008, hart, &mut regs, &mut shared);
+    let fourth = exec(fourth, 0x1_000c, hart, &mut regs, &mut shared);
+    shared.resv.set(hart, Some(DATA / 8));
     regs.set(11, DATA + 4);
-    let fifth = exec(
-        fifth, 0x1_0010, hart, &mut regs, &mut mem, &mut resv, &mut out,
-    );
-    let behind_fifth = resv.has(hart, DATA / 8);
+    let fifth = exec(fifth, 0x1_0010, hart, &mut regs, &mut shared);
+    let behind_fifth = shared.resv.has(hart, DATA / 8);
     Ok((
         [first, second, third, fourth, fifth],
         [behind_first, behind_second, behind_fifth],
@@ -75,9 +67,11 @@ fn executes_words_in_turn(rt: HostRuntime) {
 /// Whether the hart goes on behind an `ecall` that writes three bytes of the data, its pc and its stop, what it answers, and
 /// whether these are the output.
 fn write_three(alloc: Global) -> Result<(bool, u64, Option<Cause>, u64, bool), NoMemory> {
-    let mut mem = Mem::new(alloc, &image(alloc)?, 1)?;
-    let mut resv = Reservations::new(alloc, 1)?;
-    let mut out = Output::new(alloc)?;
+    let mut shared = Shared {
+        mem: Mem::new(alloc, &image(alloc)?, 1)?,
+        resv: Reservations::new(alloc, 1)?,
+        out: Output::new(alloc)?,
+    };
     let mut regs = Regs::new();
     regs.set(17, 64);
     regs.set(10, 1);
@@ -90,11 +84,9 @@ fn write_three(alloc: Global) -> Result<(bool, u64, Option<Cause>, u64, bool), N
         &mut pc,
         &mut stop,
         &mut regs,
-        &mut mem,
-        &mut resv,
-        &mut out,
+        &mut shared,
     );
-    let written = out.bytes() == [1, 2, 3].as_slice();
+    let written = shared.out.bytes() == [1, 2, 3].as_slice();
     Ok((goes, pc, stop, regs.get(10), written))
 }
 

@@ -6,7 +6,7 @@ use Rattle.test_machine.specs.declared.conformance.executor.Machine.{Machine}
 
 -- the memory, the reservations and the output of a machine
 abbrev pub prog_in : Machine → Prog
-prog_in m = prog_of m.mem m.reservations m.output
+prog_in m = prog_of m.shared.mem m.shared.resv m.shared.out
 
 -- for proofs alone: the answer is the pc of a state, whose registers and machine are these, or none
 abbrev pub Reaches : Option State → Option ℕ → List ℕ → Machine → Type 0

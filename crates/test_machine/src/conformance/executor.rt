@@ -7,7 +7,7 @@ use crate::conformance::listed::is_instruction;
 use crate::conformance::setting::{accessed, registers, reserving, result_left};
 use crate::conformance::vector::{Outcome, Setting, Vector};
 use pn_types::{HartNo, Image, NoMemory, Segment, Seq};
-use rv_exec::{Output, Regs, Reservations, exec};
+use rv_exec::{Output, Regs, Reservations, Shared, exec};
 use rv_mem::Mem;
 use rv_word::{Instr, Next, decode, encode};
 use std::alloc::Global;
@@ -26,10 +26,8 @@ const TEXT_LEN: u64 = 4;
 #[derive(Drop)]
 pub struct Machine {
     hart: HartNo,
-    mem: Mem,
-    reservations: Reservations,
-    output: Output,
-    ghost has_hart: { hart < length reservations },
+    shared: Shared,
+    ghost has_hart: { hart < length shared.resv },
 }
 
 /// The text, which is zeros, and the data, which begins with zeros.
@@ -65,9 +63,11 @@ impl Machine {
     pub fn new(alloc: Global) -> Result<Machine, NoMemory> {
         Ok(Machine {
             hart: HartNo::first(),
-            mem: Mem::new(alloc, &image(alloc)?, 1)?,
-            reservations: Reservations::new(alloc, 1)?,
-            output: Output::new(alloc)?,
+            shared: Shared {
+                mem: Mem::new(alloc, &image(alloc)?, 1)?,
+                resv: Reservations::new(alloc, 1)?,
+                out: Output::new(alloc)?,
+            },
         })
     }
 
@@ -76,7 +76,7 @@ impl Machine {
         ensures hart { self.new.hart ≡ self.old.hart }
         ensures freed { prog_in self.new ≡ without_reservation self.old.hart (prog_in self.old) }
     {
-        self.reservations.set(self.hart, None);
+        self.shared.resv.set(self.hart, None);
     }
 
     /// Puts eight bytes at the address that a word accesses, if it accesses one. None where there are none to be put, or
@@ -87,7 +87,7 @@ impl Machine {
             (λ _. prepared (prog_in self.old) place bytes ≡ Some (prog_in self.new)) }
     {
         match place {
-            Some(at) => self.mem.store(at, 8, bytes?).ok(),
+            Some(at) => self.shared.mem.store(at, 8, bytes?).ok(),
             None => Some(()),
         }
     }
@@ -97,15 +97,7 @@ impl Machine {
         ensures hart { self.new.hart ≡ self.old.hart }
         ensures reached { Reaches (gone (exec_of word pc self.old.hart regs.old (prog_in self.old))) result regs.new self.new }
     {
-        let next = exec(
-            word,
-            pc,
-            self.hart,
-            regs,
-            &mut self.mem,
-            &mut self.reservations,
-            &mut self.output,
-        );
+        let next = exec(word, pc, self.hart, regs, &mut self.shared);
         match next {
             Next::Go(next_pc) => Some(next_pc),
             Next::Stop(_) => None,
@@ -126,10 +118,10 @@ impl Machine {
 
     /// The eight bytes at the address that was accessed, if one was. None where there is no memory for them.
     fn bytes_left(&self, place: Option<u64>) -> Option<Option<u64>>
-        ensures { result ≡ bytes_left self.now.mem place }
+        ensures { result ≡ bytes_left self.now.shared.mem place }
     {
         match place {
-            Some(at) => Some(Some(self.mem.load(at, 8).ok()?)),
+            Some(at) => Some(Some(self.shared.mem.load(at, 8).ok()?)),
             None => Some(None),
         }
     }

@@ -1,5 +1,5 @@
 use Rattle.std.proofs.Common.{◌≡◌, ◌∙◌, ap, subst, arith}
-use Rattle.rv_word.specs.Exec.{prog_of}
+use Rattle.rv_exec.specs.Shared.{prog_in}
 use Rattle.tramp_spec.specs.Harts.{Solo}
 use Rattle.machine.specs.Alone.{alone_of, turned_alone, Leads}
 use Rattle.machine.proofs.turning.take_some.Goals as goal
@@ -8,8 +8,8 @@ pub returns-clause-leads : goal.returns-clause-leads
 returns-clause-leads c =
     let s = c.args.store.now in
     let w = c.take_words-words.new in
-    let x = alone_of c.args.progress.now c.args.stop.now c.args.regs.now c.args.bank.now.items (prog_of c.args.mem.now c.args.resv.now c.args.out.now) in
-    let y = alone_of w.progress w.stop w.regs c.args.bank.now.items (prog_of w.mem w.resv w.out) in
+    let x = alone_of c.args.progress.now c.args.hart.now (prog_in c.args.shared.now) in
+    let y = alone_of w.progress w.hart (prog_in w.shared) in
     let few = c.if-words-gt0.false in
     let none : c.take_words-words.result ≡ 0 = omega arith in
     let same : y ≡ x = subst (λ n. Leads s c.args.budget c.args.number n x y) none c.take_words-words.ensures.leads in

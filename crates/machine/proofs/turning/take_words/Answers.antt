@@ -1,30 +1,36 @@
 use Rattle.std.proofs.Common.{◌≡◌, ◌+◌, ◌≤◌, ◌∙◌, None, sym, ap, subst, arith}
-use Rattle.std.specs.Prelude.{false}
-use Rattle.rv_word.specs.Exec.{prog_of}
-use Rattle.tramp_spec.specs.Harts.{Solo}
-use Rattle.machine.specs.Alone.{alone_of, Leads}
+use Rattle.std.specs.Prelude.{false, IsTrue}
+use Rattle.rv_exec.specs.Shared.{prog_in}
+use Rattle.tramp_spec.specs.Harts.{Hart, Solo}
+use Rattle.machine.specs.Alone.{alone_of, may_alone, Leads}
+use Rattle.machine.specs.contracts.hart.HartState.{the_view}
 use Rattle.machine.proofs.Stretches.{are_turns, left, left_standing, outside_below}
 use Rattle.machine.proofs.turning.take_words.Goals as goal
 
 pub returns-clause-leads : goal.returns-clause-leads
 returns-clause-leads c =
     let a = c.args.progress.now in
+    let i = c.hart.inside in
+    let x : Hart = the_view i in
     let s = c.args.store.now in
-    let bank = c.args.bank.now.items in
-    let p = prog_of c.args.mem.now c.args.resv.now c.args.out.now in
+    let p = prog_in c.args.shared.now in
     let t = c.run_words-turns.new in
     let n = c.run_words-turns.result in
-    let z = left t.pc t.stop t.regs (prog_of t.mem t.resv t.out) in
+    let q = prog_in t.shared in
+    let y : Hart = the_view (record i { stop = t.stop; regs = t.regs }) in
     let outside = c.if-progress.false in
-    let open_here = outside_below a c.args.stop.now c.args.regs.now bank p c.args.budget c.requires.may in
+    let may = subst (λ (h : Hart). IsTrue (may_alone c.args.budget (alone_of a h p))) (sym c.hart.view_is) c.requires.may in
+    let open_here = outside_below a x p c.args.budget may in
     let below = open_here.1 outside in
     let most = c.run_words-turns.ensures.bound in
     let least = c.min-words.ensures in
     let within : a.ticks + n ≤ c.args.budget = omega arith in
-    let begins : left_standing a.ticks bank (left a.pc None c.args.regs.now p) ≡ alone_of a c.args.stop.now c.args.regs.now bank p =
-    ap (λ o. alone_of (record { pc = a.pc; ticks = a.ticks; inside = false }) o c.args.regs.now bank p) (sym open_here.0)
-    ∙ ap (λ i. alone_of (record { pc = a.pc; ticks = a.ticks; inside = i }) c.args.stop.now c.args.regs.now bank p) (sym outside) in
-    let ends = ap (λ i. alone_of (record { pc = t.pc; ticks = a.ticks + n; inside = i }) t.stop t.regs bank (prog_of t.mem t.resv t.out)) (sym outside) in
-    subst (λ (x : Solo). Leads s c.args.budget c.args.number n x (alone_of (record { pc = t.pc; ticks = a.ticks + n; inside = a.inside }) t.stop t.regs bank (prog_of t.mem t.resv t.out))) begins
-    (subst (λ (y : Solo). Leads s c.args.budget c.args.number n (left_standing a.ticks bank (left a.pc None c.args.regs.now p)) y) ends
-    (are_turns s c.args.number c.args.budget bank z n a.ticks (left a.pc None c.args.regs.now p) c.run_words-turns.ensures.ran within))
+    let begins : left_standing a.ticks x.bank (left a.pc None x.regs p) ≡ alone_of a x p =
+    ap (λ o. alone_of (record { pc = a.pc; ticks = a.ticks; inside = false }) (record x { stop = o }) p) (sym open_here.0)
+    ∙ ap (λ b. alone_of (record { pc = a.pc; ticks = a.ticks; inside = b }) x p) (sym outside) in
+    let ends = ap (λ b. alone_of (record { pc = t.pc; ticks = a.ticks + n; inside = b }) y q) (sym outside) in
+    let after = alone_of (record { pc = t.pc; ticks = a.ticks + n; inside = a.inside }) y q in
+    let ran = are_turns s c.args.number c.args.budget x.bank (left t.pc t.stop t.regs q) n a.ticks (left a.pc None x.regs p) c.run_words-turns.ensures.ran within in
+    subst (λ (h : Hart). Leads s c.args.budget c.args.number n (alone_of a h p) after) c.hart.view_is
+    (subst (λ (v : Solo). Leads s c.args.budget c.args.number n v after) begins
+    (subst (λ (v : Solo). Leads s c.args.budget c.args.number n (left_standing a.ticks x.bank (left a.pc None x.regs p)) v) ends ran))

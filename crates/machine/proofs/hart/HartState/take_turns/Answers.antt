@@ -1,5 +1,5 @@
 use Rattle.std.proofs.Common.{◌+◌, ◌∙◌, ap, arith}
-use Rattle.rv_word.specs.Exec.{prog_of}
+use Rattle.rv_exec.specs.Shared.{prog_in}
 use Rattle.tramp_spec.specs.Harts.{Hart}
 use Rattle.machine.specs.Alone.{alone_of}
 use Rattle.machine.specs.Performing.{solo_of}
@@ -10,29 +10,28 @@ pub take_some-turns-requires-clause-placed : goal.take_some-turns-requires-claus
 take_some-turns-requires-clause-placed c = λ k z l.
     let x = c.loop-turns in
     c.requires.placed (x.turns + k) z
-    (leads_on c.args.store.now c.args.budget c.args.number x.turns k (solo_of c.args.self.now (prog_of c.args.mem.now c.args.resv.now c.args.out.now)) (alone_of x.progress x.self-inside.stop x.self-inside.regs x.self-inside.bank.items (prog_of x.mem x.resv x.out)) z x.invariant.leads l)
+    (leads_on c.args.store.now c.args.budget c.args.number x.turns k (solo_of c.args.self.now (prog_in c.args.shared.now)) (alone_of x.progress x.self (prog_in x.shared)) z x.invariant.leads l)
 
 pub loop-turns-preserved : goal.loop-turns-preserved
 loop-turns-preserved c =
     let x = c.loop-turns in
     let t = c.take_some-turns.new in
-    let first = solo_of c.args.self.now (prog_of c.args.mem.now c.args.resv.now c.args.out.now) in
-    let here = alone_of x.progress x.self-inside.stop x.self-inside.regs x.self-inside.bank.items (prog_of x.mem x.resv x.out) in
-    let next = alone_of t.progress t.stop t.regs t.bank.items (prog_of t.mem t.resv t.out) in
+    let first = solo_of c.args.self.now (prog_in c.args.shared.now) in
+    let here = alone_of x.progress x.self (prog_in x.shared) in
+    let next = alone_of t.progress t.hart (prog_in t.shared) in
     let few = c.take_some-turns.ensures.bound in
     let high = few.1 in
     let bound = x.invariant.bound in
     record {
       leads = leads_on c.args.store.now c.args.budget c.args.number x.turns c.take_some-turns.result first here next x.invariant.leads c.take_some-turns.ensures.leads;
       bound = omega arith;
-      bank = c.take_some-turns.ensures.room ∙ x.invariant.bank;
       harts = c.take_some-turns.ensures.harts ∙ x.invariant.harts;
     }
 
 pub returns-clause-ticks : goal.returns-clause-ticks
 returns-clause-ticks c =
     let x = c.loop-turns in
-    let k = leads_ticks c.args.store.now c.args.budget c.args.number x.turns (solo_of c.args.self.now (prog_of c.args.mem.now c.args.resv.now c.args.out.now)) (alone_of x.progress x.self-inside.stop x.self-inside.regs x.self-inside.bank.items (prog_of x.mem x.resv x.out)) x.invariant.leads in
+    let k = leads_ticks c.args.store.now c.args.budget c.args.number x.turns (solo_of c.args.self.now (prog_in c.args.shared.now)) (alone_of x.progress x.self (prog_in x.shared)) x.invariant.leads in
     let t = ap (λ (y : Hart). y.ticks) c.set_progress.ensures in
     let low = k.0 in
     let high = k.1 in

@@ -1,6 +1,6 @@
 use Rattle.std.proofs.Common.{◌∙◌, ap, sym, subst}
 use Rattle.std.specs.Option.{option_map}
-use Rattle.rv_word.specs.Exec.{prog_of}
+use Rattle.rv_exec.specs.Shared.{prog_in}
 use Rattle.machine.specs.Cores.{Live, Written}
 use Rattle.machine.specs.Effects.{at_set, lead_to, mini_linked}
 use Rattle.machine.specs.Events.{LinkMini, MayLinkMini}
@@ -12,18 +12,18 @@ use Rattle.machine.proofs.machine.Machine.link_mini.Goals as goal
 pub lead_to-requires : goal.lead_to-requires
 lead_to-requires c =
     let m = c.self.inside in
-    found_links m.harts.items (prog_of m.mem m.resv m.out) m.store m.blocks m.budget c.self.invariant _ (row_of c.in-Some.base) (sym c.current_base.ensures ∙ ap (option_map row_of) c.in-Some.is)
+    found_links m.harts.items (prog_in m.shared) m.store m.blocks m.budget c.self.invariant _ (row_of c.in-Some.base) (sym c.current_base.ensures ∙ ap (option_map row_of) c.in-Some.is)
 
 pub set_status-requires : goal.set_status-requires
 set_status-requires c =
     let m = c.self.inside in
     let may = subst (λ (z : Machine). MayLinkMini z.core c.args.point c.args.at) (sym c.self.view_is) c.requires in
-    own_mini m.harts.items (prog_of m.mem m.resv m.out) m.store m.blocks m.budget c.self.invariant c.args.point c.args.at Written may.mini
+    own_mini m.harts.items (prog_in m.shared) m.store m.blocks m.budget c.self.invariant c.args.point c.args.at Written may.mini
 
 pub invariant_of-self : goal.invariant_of-self
 invariant_of-self c =
     let m = c.self.inside in
-    let prog = prog_of m.mem m.resv m.out in
+    let prog = prog_in m.shared in
     let p = c.args.point in
     let at = c.args.at in
     let found = sym c.current_base.ensures ∙ ap (option_map row_of) c.in-Some.is in

@@ -1,7 +1,7 @@
 use Rattle.std.proofs.Common.{◌∙◌, ap, sym, subst}
 use Rattle.std.specs.FinMap.{insert}
 use Rattle.std.specs.Option.{option_map}
-use Rattle.rv_word.specs.Exec.{prog_of}
+use Rattle.rv_exec.specs.Shared.{prog_in}
 use Rattle.tramp_spec.specs.Marks.{enter}
 use Rattle.tramp_spec.specs.Jumps.{jump_word}
 use Rattle.machine.specs.Cores.{Live}
@@ -15,12 +15,12 @@ use Rattle.machine.proofs.machine.Machine.link_point.Goals as goal
 pub set_status-requires : goal.set_status-requires
 set_status-requires c =
     let m = c.self.inside in
-    own_base m.harts.items (prog_of m.mem m.resv m.out) m.store m.blocks m.budget c.self.invariant c.args.point (row_of c.in-Some.base) (sym c.current_base.ensures ∙ ap (option_map row_of) c.in-Some.is)
+    own_base m.harts.items (prog_in m.shared) m.store m.blocks m.budget c.self.invariant c.args.point (row_of c.in-Some.base) (sym c.current_base.ensures ∙ ap (option_map row_of) c.in-Some.is)
 
 pub invariant_of-self : goal.invariant_of-self
 invariant_of-self c =
     let m = c.self.inside in
-    let prog = prog_of m.mem m.resv m.out in
+    let prog = prog_in m.shared in
     let p = c.args.point in
     let base = row_of c.in-Some.base in
     let code = insert m.store.code p (enter (jump_word p base.at)) in

@@ -1,6 +1,6 @@
 use Rattle.std.proofs.Common.{◌≡◌, ◌*◌, ◌<◌, ◌≤◌, ◌∙◌, sym, ap, subst, length, arith}
 use Rattle.pn_types.specs.declared.limits.TheConstants.{TOOL_TEXT_LEN}
-use Rattle.rv_word.specs.Exec.{prog_of}
+use Rattle.rv_exec.specs.Shared.{prog_in}
 use Rattle.machine.specs.Events.{IsQuiet}
 use Rattle.machine.specs.Replays.{owns, replay}
 use Rattle.machine.specs.States.{Machine, leaving, settling, with_core, words_in}
@@ -12,12 +12,12 @@ use Rattle.machine.proofs.machine.Machine.take_settling.Goals as goal
 pub words-most-requires : goal.words-most-requires
 words-most-requires c =
     let s = c.self.inside in
-    few_words (core_of s.harts.items (prog_of s.mem s.resv s.out) s.store s.blocks.rows s.budget) c.self.invariant.reached
+    few_words (core_of s.harts.items (prog_in s.shared) s.store s.blocks.rows s.budget) c.self.invariant.reached
 
 pub loop-hart-init : goal.loop-hart-init
 loop-hart-init c =
     let s = c.self.inside in
-    let few = few_words (core_of s.harts.items (prog_of s.mem s.resv s.out) s.store s.blocks.rows s.budget) c.self.invariant.reached in
+    let few = few_words (core_of s.harts.items (prog_in s.shared) s.store s.blocks.rows s.budget) c.self.invariant.reached in
     settling_first c.args.self.now c.words-most.result (c.words-most.ensures ∙ ap (λ (m : Machine). words_in m.core.rows) c.self.view_is) (subst (λ (m : Machine). 4 * words_in m.core.rows ≤ TOOL_TEXT_LEN) c.self.view_is few)
 
 pub leave-left-requires : goal.leave-left-requires
@@ -82,7 +82,7 @@ returns-clause-quiet c =
     let s = c.self.inside in
     let all : length c.args.self.now.core.harts ≤ c.loop-hart.hart = (let l = c.loop-hart-test.false in let all = c.len-hart-end.ensures in let view = ap (λ (m : Machine). length m.core.harts) c.self.view_is in omega arith) in
     let is = (settling_end c.words-most.result c.loop-hart.turns c.loop-hart.ticks c.loop-hart.hart c.args.self.now c.loop-hart.self c.loop-hart.invariant all).is in
-    subst (λ (m : Machine). IsQuiet m.core) (sym is) (subst (λ (m : Machine). IsQuiet (replay (settling m.core) m.core)) c.self.view_is (settled_quiet (core_of s.harts.items (prog_of s.mem s.resv s.out) s.store s.blocks.rows s.budget) c.self.invariant.reached))
+    subst (λ (m : Machine). IsQuiet m.core) (sym is) (subst (λ (m : Machine). IsQuiet (replay (settling m.core) m.core)) c.self.view_is (settled_quiet (core_of s.harts.items (prog_in s.shared) s.store s.blocks.rows s.budget) c.self.invariant.reached))
 
 pub returns-clause-harts : goal.returns-clause-harts
 returns-clause-harts c = c.loop-hart.invariant.many

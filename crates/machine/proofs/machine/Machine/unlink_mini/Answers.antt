@@ -1,7 +1,7 @@
 use Rattle.std.proofs.Common.{◌≡◌, Some, ◌∙◌, ap, sym, subst}
 use Rattle.std.specs.Prelude.{map}
 use Rattle.std.specs.Option.{option_map}
-use Rattle.rv_word.specs.Exec.{prog_of}
+use Rattle.rv_exec.specs.Shared.{prog_in}
 use Rattle.code_store.specs.Stores.{StoredCode}
 use Rattle.machine.specs.Cores.{Core, Live, Retired, Row}
 use Rattle.machine.specs.Effects.{at_set, lead_to, mini_unlinked, with_status}
@@ -14,33 +14,33 @@ use Rattle.machine.proofs.machine.Machine.unlink_mini.Goals as goal
 pub before-requires-clause-links : goal.before-requires-clause-links
 before-requires-clause-links c =
     let m = c.self.inside in
-    all_link m.harts.items (prog_of m.mem m.resv m.out) m.store m.blocks m.budget c.self.invariant
+    all_link m.harts.items (prog_in m.shared) m.store m.blocks m.budget c.self.invariant
 
 pub before-requires-clause-of_point : goal.before-requires-clause-of_point
 before-requires-clause-of_point c =
     let m = c.self.inside in
     let may = subst (λ (z : Machine). HasMini z.core c.args.point c.args.at Live) (sym c.self.view_is) c.requires in
-    λ r h e. before_own m.harts.items (prog_of m.mem m.resv m.out) m.store m.blocks m.budget c.self.invariant c.args.point c.args.at may r h e
+    λ r h e. before_own m.harts.items (prog_in m.shared) m.store m.blocks m.budget c.self.invariant c.args.point c.args.at may r h e
 
 pub row_at-requires : goal.row_at-requires
 row_at-requires c =
     let m = c.self.inside in
-    own_mini m.harts.items (prog_of m.mem m.resv m.out) m.store m.blocks m.budget c.self.invariant c.args.point c.args.at Live (subst (λ (z : Machine). HasMini z.core c.args.point c.args.at Live) (sym c.self.view_is) c.requires)
+    own_mini m.harts.items (prog_in m.shared) m.store m.blocks m.budget c.self.invariant c.args.point c.args.at Live (subst (λ (z : Machine). HasMini z.core c.args.point c.args.at Live) (sym c.self.view_is) c.requires)
 
 pub next_of-next-requires : goal.next_of-next-requires
 next_of-next-requires c =
     let m = c.self.inside in
-    found_links m.harts.items (prog_of m.mem m.resv m.out) m.store m.blocks m.budget c.self.invariant _ (row_of c.in-Some-row_at.mini) (sym c.row_at.ensures ∙ ap (option_map row_of) c.in-Some-row_at.is)
+    found_links m.harts.items (prog_in m.shared) m.store m.blocks m.budget c.self.invariant _ (row_of c.in-Some-row_at.mini) (sym c.row_at.ensures ∙ ap (option_map row_of) c.in-Some-row_at.is)
 
 pub set_status-requires : goal.set_status-requires
 set_status-requires c =
     let m = c.self.inside in
-    own_mini m.harts.items (prog_of m.mem m.resv m.out) m.store m.blocks m.budget c.self.invariant c.args.point c.args.at Live (subst (λ (z : Machine). HasMini z.core c.args.point c.args.at Live) (sym c.self.view_is) c.requires)
+    own_mini m.harts.items (prog_in m.shared) m.store m.blocks m.budget c.self.invariant c.args.point c.args.at Live (subst (λ (z : Machine). HasMini z.core c.args.point c.args.at Live) (sym c.self.view_is) c.requires)
 
 pub lead_to-requires : goal.lead_to-requires
 lead_to-requires c =
     let m = c.self.inside in
-    found_links m.harts.items (prog_of m.mem m.resv m.out) m.store m.blocks m.budget c.self.invariant _ (row_of c.in-Some.holder) (sym c.before-2.ensures ∙ ap (option_map row_of) c.in-Some.is)
+    found_links m.harts.items (prog_in m.shared) m.store m.blocks m.budget c.self.invariant _ (row_of c.in-Some.holder) (sym c.before-2.ensures ∙ ap (option_map row_of) c.in-Some.is)
 
 -- what the two searches find
 found : (c : Core) (at : _) (holder mini : Row) → before c at ≡ Some holder → row_at c.rows at ≡ Some mini → mini_unlinked (before c at) (row_at c.rows at) at c ≡ record c { code = lead_to holder (next_of c.code mini) c.code; rows = map (with_status (at_set at Retired)) c.rows }
@@ -49,7 +49,7 @@ found c at holder mini e f = ap (λ o. mini_unlinked o (row_at c.rows at) at c) 
 pub invariant_of-self : goal.invariant_of-self
 invariant_of-self c =
     let m = c.self.inside in
-    let prog = prog_of m.mem m.resv m.out in
+    let prog = prog_in m.shared in
     let core = core_of m.harts.items prog m.store m.blocks.rows m.budget in
     let p = c.args.point in
     let at = c.args.at in
@@ -64,7 +64,7 @@ invariant_of-self c =
 pub returns-in-Some-row_at : goal.returns-in-Some-row_at
 returns-in-Some-row_at c =
     let m = c.self.inside in
-    let prog = prog_of m.mem m.resv m.out in
+    let prog = prog_in m.shared in
     let core = core_of m.harts.items prog m.store m.blocks.rows m.budget in
     let at = c.args.at in
     let holder = row_of c.in-Some.holder in

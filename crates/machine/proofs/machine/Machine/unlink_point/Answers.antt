@@ -1,6 +1,6 @@
 use Rattle.std.proofs.Common.{◌∙◌, ap, sym, subst}
 use Rattle.std.specs.FinMap.{insert}
-use Rattle.rv_word.specs.Exec.{prog_of}
+use Rattle.rv_exec.specs.Shared.{prog_in}
 use Rattle.tramp_spec.specs.Marks.{own}
 use Rattle.machine.specs.Effects.{point_unlinked, retired_at}
 use Rattle.machine.specs.Events.{IsEntered, UnlinkPoint}
@@ -12,7 +12,7 @@ use Rattle.machine.proofs.machine.Machine.unlink_point.Goals as goal
 pub invariant_of-self : goal.invariant_of-self
 invariant_of-self c =
     let m = c.self.inside in
-    let prog = prog_of m.mem m.resv m.out in
+    let prog = prog_in m.shared in
     let p = c.args.point in
     let w = c.in-Some.word in
     let found = sym c.program_word.ensures ∙ c.in-Some.is in

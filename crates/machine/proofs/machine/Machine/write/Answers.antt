@@ -1,5 +1,5 @@
 use Rattle.std.proofs.Common.{◌-◌, ◌++◌, [], ◌∷◌, ◌∙◌, ap, sym, subst, length}
-use Rattle.rv_word.specs.Exec.{prog_of}
+use Rattle.rv_exec.specs.Shared.{prog_in}
 use Rattle.machine.specs.Cores.{Written}
 use Rattle.machine.specs.Events.{MayWrite}
 use Rattle.machine.specs.States.{Machine}
@@ -11,5 +11,5 @@ invariant_of-self c =
     let m = c.self.inside in
     let b = c.args.block.now in
     let may = subst (λ (z : Machine). MayWrite z.core b) (sym c.self.view_is) c.requires.may in
-    put m.harts.items (prog_of m.mem m.resv m.out) m.store m.blocks m.budget c.self.invariant b c.put_block.new.self c.push.new.self (m.blocks.room - 1) may c.put_block.ensures
+    put m.harts.items (prog_in m.shared) m.store m.blocks m.budget c.self.invariant b c.put_block.new.self c.push.new.self (m.blocks.room - 1) may c.put_block.ensures
     (c.push.ensures ∙ ap (λ n. record { rows = m.blocks.rows ++ record { point = b.point; at = b.at; len = n; base = b.base; status = Written } ∷ []; room = m.blocks.room - 1 }) (ap length c.as_slice.ensures))

@@ -1,5 +1,5 @@
 use Rattle.std.proofs.Common.{◌≡◌, ◌∙◌, ap, sym, subst, set, get_or, arith, length, ◌<◌}
-use Rattle.rv_word.specs.Exec.{prog_of}
+use Rattle.rv_exec.specs.Shared.{prog_in}
 use Rattle.rv_word.specs.Plain.{Words, Plain, Alone, put_back, turn_alone, turn_of}
 use Rattle.plain_run.specs.Machines.{Machine, turned}
 use Rattle.plain_run.specs.Views.{hart_of, harts_of, alone_of}
@@ -14,9 +14,9 @@ returns-clause-turn c =
     let y = c.turn.new.self in
     let items = s.harts.items in
     let program : Words = record { at = s.text_at; words = s.words.items } in
-    let state : Plain = record { harts = harts_of items; prog = prog_of s.mem s.resv s.out } in
-    let old : Alone = alone_of x s.mem s.resv s.out in
-    let new : Alone = alone_of y c.turn.new.mem c.turn.new.resv c.turn.new.out in
+    let state : Plain = record { harts = harts_of items; prog = prog_in s.shared } in
+    let old : Alone = alone_of x s.shared in
+    let new : Alone = alone_of y c.turn.new.shared in
     let same : c.get.result ≡ h = c.get.ensures.number in
     let w : h < length (harts_of items) = subst (λ z. h < length z.state.harts) (sym c.self.view_is) c.requires.hart in
     let l : h < length items = omega (arith, w, length-harts_of items) in
