@@ -1,3 +1,5 @@
+//! The patched machine: its start, and what can be seen of it.
+
 ghost use Rattle.std.specs.Prelude.{◌≡◌, ◌<◌, ◌≤◌, ◌↔◌, None, Some, IfOk, IsTrue, length, map, slice_get};
 ghost use Rattle.std.specs.Option.{option_map};
 ghost use Rattle.pn_types.specs.Images.{IsImage, text_of};
@@ -40,7 +42,10 @@ impl Model for Machine {
 
     ghost coded = { machine_code };
 
-    ghost view = { λ m. record { core = core_of m.harts.items (prog_in m.shared) m.store m.blocks.rows m.budget; room = m.blocks.room } };
+    ghost view = { λ m. record {
+      core = core_of m.harts.items (prog_in m.shared) m.store m.blocks.rows m.budget;
+      room = m.blocks.room;
+    } };
 
     ghost invariant = { λ m. IsSound m.harts.items (prog_in m.shared) m.store m.blocks.rows m.budget };
 }
@@ -85,8 +90,12 @@ fn first_harts(alloc: Global, image: &Image, harts: u32) -> Result<Vec<HartState
 }
 
 impl Machine {
-    /// The machine in which an image starts, on so many harts and with so many ticks for each. It has no block, and no room for
+    /// The machine in which an image starts, on `harts` harts, each of which may have `budget` ticks. It has no block, and no room for
     /// one. No word of the text may name x31, which is the tool's.
+    ///
+    /// # Errors
+    ///
+    /// `NoMemory` if memory runs out.
     pub fn new(alloc: Global, image: &Image, harts: u32, budget: u64) -> Result<Machine, NoMemory>
         requires image { IsImage image.now }
         requires unscratched { scratch_in (words_of (text_of image.now)) image.now.text_at ≡ None }
@@ -153,7 +162,7 @@ impl Machine {
         none_inside(&self.harts)
     }
 
-    /// One turn of the hart, which is runnable. It answers whether the turn is a tick, and takes no memory.
+    /// Takes one turn of the hart, which is runnable. Returns whether the turn is a tick, and takes no memory.
     pub fn turn(&mut self, hart: HartNo) -> bool
         requires hart { hart < length self.old.core.harts }
         requires runnable { IsTrue (is_runnable self.old.core hart) }

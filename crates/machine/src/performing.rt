@@ -19,8 +19,8 @@ struct Alone;
 
 impl Caller for Alone {}
 
-/// The number of the doubleword at an address, or a number that is too great where the address is no multiple of 8: it is turned
-/// by three bits, so one test finds both.
+/// The number of the doubleword at an address, or a number that is too great where the address is no multiple of 8: the address is
+/// rotated by three bits, so that one test finds both.
 #[inline(always)]
 fn doubleword_at(at: u64) -> u64
     ensures inside { (n : ℕ) → n ≤ 2 ^ 32 → result < n → (is_in_bank n at ≡ true) × (at / 8 ≡ result) }
@@ -68,7 +68,8 @@ fn load(
     requires bank { length bank.now ≡ bank_len }
     requires stop { stop.old ≡ None }
     ensures goes { result ≡ is_none stop.new }
-    ensures loaded { bank_loaded rd at ticks pc.old (bench_from regs.old bank.now) ≡ stood_after stop.new pc.new (bench_from regs.new bank.now) }
+    ensures loaded { bank_loaded rd at ticks pc.old (bench_from regs.old bank.now)
+        ≡ stood_after stop.new pc.new (bench_from regs.new bank.now) }
     ensures stays { result ≡ false → regs.new ≡ regs.old }
 {
     let place = doubleword_at(at);
@@ -88,7 +89,8 @@ fn store(value: u64, at: u64, pc: &mut u64, stop: &mut Option<Cause>, bank: &mut
     requires stop { stop.old ≡ None }
     ensures goes { result ≡ is_none stop.new }
     ensures len { length bank.new ≡ length bank.old }
-    ensures stored { (regs : List ℕ) → bank_stored value at pc.old (bench_from regs bank.old) ≡ stood_after stop.new pc.new (bench_from regs bank.new) }
+    ensures stored { (regs : List ℕ)
+        → bank_stored value at pc.old (bench_from regs bank.old) ≡ stood_after stop.new pc.new (bench_from regs bank.new) }
     ensures stays { result ≡ false → bank.new ≡ bank.old }
 {
     let place = doubleword_at(at);
@@ -101,8 +103,8 @@ fn store(value: u64, at: u64, pc: &mut u64, stop: &mut Option<Cause>, bank: &mut
     true
 }
 
-/// Performs a slot's word at pc, by a hart that isn't stopped. It leaves the next pc, or the cause for which the hart stops, and
-/// says whether the hart goes on. A stop changes nothing else, but that the program's SC clears the hart's reservation also where it
+/// Performs a slot's word at pc, by a hart that isn't stopped. It sets the next pc, or the cause for which the hart stops. Returns
+/// whether the hart goes on. A stop changes nothing else, but that the program's SC clears the hart's reservation also where it
 /// stops. It takes no memory.
 #[inline(always)]
 #[tactic(auto, using(crate::proofs::Performed::run_fits, crate::proofs::Performed::load_fits, crate::proofs::Performed::store_fits, crate::proofs::Performed::access_fits))]

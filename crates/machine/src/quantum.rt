@@ -1,3 +1,5 @@
+//! The turns of a quantum.
+
 ghost use Rattle.std.specs.Prelude.{◌≡◌, ◌<◌, length};
 ghost use Rattle.machine.specs.Quanta.{KeepsBudget};
 ghost use Rattle.machine.specs.Replays.{owns, replay};
@@ -16,7 +18,7 @@ pub struct Taken {
 }
 
 impl Machine {
-    /// Turns of the hart, at most so many, as long as it is runnable. It takes no memory.
+    /// Takes turns of the hart, at most `most`, as long as it is runnable. Returns how many, and takes no memory.
     pub fn take_turns(&mut self, hart: HartNo, most: u32) -> Taken
         requires { hart < length self.old.core.harts }
         ensures taken { self.new ≡ with_core self.old (replay (quantum_turns most hart self.old.core) self.old.core) }

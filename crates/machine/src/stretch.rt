@@ -24,8 +24,8 @@ fn is_illegal(stop: Option<Cause>) -> bool
 }
 
 /// Runs words of the program from pc on, by a hart that is outside and isn't stopped: at most `most`, until one stops the hart, or
-/// until the text has no instruction of the program at the pc. It answers how many, and takes no memory. What the other words at the
-/// pc do is left to another: here they stop the hart as illegal, and that is taken back.
+/// until the text has no instruction of the program at the pc. Returns how many, and takes no memory. Other words at the pc aren't
+/// run: the stop as illegal to which they lead here is taken back.
 #[inline(always)]
 pub fn run_words(
     most: u32,

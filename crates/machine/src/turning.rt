@@ -24,7 +24,7 @@ pub struct Progress {
 }
 
 impl Progress {
-    /// Whether a hart can take a turn that is so far, and stopped for this cause or isn't stopped.
+    /// Whether a hart of this progress, which stopped for this cause or isn't stopped, can take a turn.
     #[inline(always)]
     fn may_turn(self, stop: Option<Cause>, budget: u64) -> bool
         ensures { result ≡ is_none stop && (self.inside || nat_lt self.ticks budget) }

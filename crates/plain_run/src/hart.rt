@@ -1,3 +1,5 @@
+//! What one hart has.
+
 ghost use Rattle.std.specs.Prelude.{◌≡◌, ◌*◌, ◌<◌, ◌^◌, ◌+◌, None, Some, length};
 ghost use Rattle.rv_word.specs.Plain.{may_go, turn_alone};
 ghost use Rattle.plain_run.specs.Views.{hart_of, alone_of};
@@ -24,14 +26,8 @@ impl HartState {
         self.stop.is_none() && self.ticks < budget
     }
 
-    /// One turn of the hart by itself, which isn't stopped: its word is executed, or it stops where no word is.
-    pub fn turn(
-        &mut self,
-        number: HartNo,
-        words: &[Decoded],
-        text_at: u64,
-        shared: &mut Shared,
-    )
+    /// Takes one turn of the hart, which isn't stopped: its word is executed, or it stops where no word is.
+    pub fn turn(&mut self, number: HartNo, words: &[Decoded], text_at: u64, shared: &mut Shared)
         requires hart { number < length shared.old.resv }
         requires stop { self.old.stop ≡ None }
         requires ticks { self.old.ticks + 1 < 2 ^ 64 }
@@ -48,13 +44,7 @@ impl HartState {
             return;
         }
         let word = word_at(words, place, text_at, at);
-        let goes = word.run(
-            number,
-            &mut self.pc,
-            &mut self.stop,
-            &mut self.regs,
-            shared,
-        );
+        let goes = word.run(number, &mut self.pc, &mut self.stop, &mut self.regs, shared);
         if !goes {
             self.pc = at;
         }

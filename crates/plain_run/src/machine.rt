@@ -1,3 +1,5 @@
+//! The unpatched machine.
+
 ghost use Rattle.std.specs.Prelude.{◌≡◌, ◌<◌, ◌≤◌, IfOk, IsTrue, Some, length, slice_get};
 ghost use Rattle.std.specs.Option.{option_map};
 ghost use Rattle.pn_types.specs.Images.{IsImage};
@@ -38,9 +40,9 @@ impl Model for PlainMachine {
     ghost coded = { machine_code };
 
     ghost view = { λ m. record {
-        program = record { at = m.text_at; words = m.words.items };
-        budget = m.budget;
-        state = record { harts = harts_of m.harts.items; prog = prog_in m.shared };
+      program = record { at = m.text_at; words = m.words.items };
+      budget = m.budget;
+      state = record { harts = harts_of m.harts.items; prog = prog_in m.shared };
     } };
 
     ghost invariant = { λ m. (length m.shared.resv ≡ length m.harts.items) × (m.text_at + 4 * length m.words.items < 2 ^ 64) };
@@ -78,7 +80,11 @@ fn first_harts(alloc: Global, image: &Image, harts: u32) -> Result<Vec<HartState
 }
 
 impl PlainMachine {
-    /// The machine in which an image starts, on so many harts and with so many ticks for each.
+    /// The machine in which an image starts, on `harts` harts, each of which may have `budget` ticks.
+    ///
+    /// # Errors
+    ///
+    /// `NoMemory` if memory runs out.
     pub fn new(
         alloc: Global,
         image: &Image,
@@ -112,19 +118,14 @@ impl PlainMachine {
         self.harts[hart.get() as usize].may_go(self.budget)
     }
 
-    /// One turn of the hart, which is one tick: its word is executed, or it stops where no word is. It takes no memory.
+    /// Takes one turn of the hart, which is one tick: its word is executed, or it stops where no word is. It takes no memory.
     pub fn step(&mut self, hart: HartNo)
         requires hart { hart < length self.old.state.harts }
         requires runnable { IsTrue (can self.old.budget self.old.state hart) }
         ensures turn { self.new ≡ turned self.old hart }
         ensures harts { length self.new.state.harts ≡ length self.old.state.harts }
     {
-        self.harts[hart.get() as usize].turn(
-            hart,
-            &self.words,
-            self.text_at,
-            &mut self.shared,
-        );
+        self.harts[hart.get() as usize].turn(hart, &self.words, self.text_at, &mut self.shared);
     }
 
     /// How many words the hart executed.

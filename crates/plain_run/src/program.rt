@@ -33,7 +33,8 @@ pub fn words(alloc: Global, text: &[u8]) -> Result<Vec<Decoded>, NoMemory>
 #[inline(always)]
 pub fn place_of(text_at: u64, pc: u64) -> u64
     ensures place { (len : ℕ) → text_at + 4 * len < 2 ^ 64 → result < len → pc ≡ text_at + 4 * result }
-    ensures outside { (words : List ℕ) → text_at + 4 * length words < 2 ^ 64 → length words ≤ result → program_word (record { at = text_at; words = words }) pc ≡ None }
+    ensures outside { (words : List ℕ) → text_at + 4 * length words < 2 ^ 64 → length words ≤ result
+        → program_word (record { at = text_at; words = words }) pc ≡ None }
 {
     let away = pc.wrapping_sub(text_at);
     away / 4 + away % 4 * 0x4000_0000_0000_0000

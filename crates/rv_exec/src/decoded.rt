@@ -1,3 +1,5 @@
+//! Decoded words.
+
 ghost use Rattle.std.specs.Prelude.{◌≡◌, ◌<◌, length, None, is_none};
 ghost use Rattle.rv_word.specs.Exec.{exec_of};
 ghost use Rattle.rv_exec.specs.Gives.{Gives, state_of, next_after};
@@ -11,8 +13,7 @@ use pn_types::HartNo;
 use rv_word::{Cause, decode};
 use std::marker::Model;
 
-/// A word with its instruction beside it, so that it is decoded once however often it is executed. Contracts see the
-/// word.
+/// A word with its instruction, so that it is decoded once however often it is executed. Contracts see the word.
 #[derive(Drop)]
 pub struct Decoded {
     flat: Flat,
@@ -35,7 +36,7 @@ impl Model for Decoded {
 impl Caller for Decoded {}
 
 impl Decoded {
-    /// The word, decoded.
+    /// Decodes the word.
     pub fn new(word: u32) -> Decoded
         ensures { result ≡ word }
     {
@@ -52,9 +53,9 @@ impl Decoded {
         self.word
     }
 
-    /// Executes the word at pc, by a hart that isn't stopped. It leaves the next pc, or the cause for which the hart
-    /// stops, and says whether the hart goes on. A stop changes nothing else, but that an SC clears the hart's
-    /// reservation also where it stops. It takes no memory.
+    /// Executes the word at pc, by a hart that isn't stopped. It sets the next pc, or the cause for which the hart stops. Returns
+    /// whether the hart goes on. A stop changes nothing else, but that an SC clears the hart's reservation also where it stops. It
+    /// takes no memory.
     #[inline(always)]
     pub fn run(
         &self,

@@ -59,6 +59,7 @@ impl Output {
     {
         if n > 0 {
             if let Ok(byte) = mem.byte(at) {
+                // There is room, so this doesn't fail.
                 let _room_is_there = self.bytes.push(byte);
                 self.append(mem, at.wrapping_add(1), n - 1);
             }

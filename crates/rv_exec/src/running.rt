@@ -1,5 +1,5 @@
-//! The execution of an instruction: a table with an arm for each operation. It is one match, so that one jump leads to the
-//! arm; what the arms do stands beside it.
+//! The execution of an instruction: a table with an arm for each operation. It is one match, so that one jump leads to the arm;
+//! what the arms do stands in other files.
 
 ghost use Rattle.std.specs.Prelude.{◌≡◌, ◌<◌, length, None, is_none, IfSome};
 ghost use Rattle.rv_word.specs.Exec.{exec_decoded};
@@ -21,14 +21,14 @@ use crate::values::{is_taken, low_word_of};
 use pn_types::HartNo;
 use rv_word::{BranchOp, Cause, ImmOp, LoadOp, RegOp, RegOp32, ShiftOp, StoreOp};
 
-/// Who runs instructions. Each caller has a copy of [`Flat::run`] of its own, so that the compiler can put it into the caller's loop,
-/// as it does with what is called from one place alone.
+/// Who runs instructions. Each caller has a copy of [`Flat::run`] of its own, so that the compiler can put it into the caller's
+/// loop, as it does with what is called from one place alone.
 pub trait Caller {}
 
 impl Flat {
-    /// Executes the instruction at pc, by a hart that isn't stopped. It leaves the next pc, or the cause for which the hart
-    /// stops, and says whether the hart goes on. A stop changes nothing else, but that an SC clears the hart's
-    /// reservation also where it stops. It takes no memory.
+    /// Executes the instruction at pc, by a hart that isn't stopped. It sets the next pc, or the cause for which the hart stops.
+    /// Returns whether the hart goes on. A stop changes nothing else, but that an SC clears the hart's reservation also where it
+    /// stops. It takes no memory.
     #[inline(always)]
     #[tactic(auto, unfolding(rv_word::specs::Exec::action, rv_word::specs::Exec::perform))]
     pub fn run<C: Caller>(

@@ -1,4 +1,4 @@
-//! What the forms of instructions do to the pc, the registers, the memory and the reservations. Each step answers whether
+//! What the forms of instructions do to the pc, the registers, the memory and the reservations. Each step returns whether
 //! the hart goes on, and else notes the cause of the stop.
 
 ghost use Rattle.std.specs.Prelude.{true, ◌≡◌, ◌<◌, ◌≤◌, length, List, ℕ, Option, None, is_none};
@@ -21,7 +21,7 @@ use pn_types::HartNo;
 use rv_mem::Mem;
 use rv_word::{Cause, ImmOp, LoadOp, RegOp, RegOp32, ShiftOp, StoreOp};
 
-/// The value goes to rd, and the pc behind the word.
+/// Puts the value into rd, and goes on at the next word.
 #[inline(always)]
 pub fn compute(rd: u32, value: u64, pc: &mut u64, regs: &mut Regs) -> bool
     requires { rd < 32 }
@@ -94,14 +94,15 @@ pub fn operate_32(op: RegOp32, rd: u32, rs1: u32, rs2: u32, pc: &mut u64, regs: 
     )
 }
 
-/// A jump, whose register takes the address behind the word.
+/// A jump, whose register takes the address of the next word.
 #[inline(always)]
 #[tactic(auto, unfolding(rv_word::specs::Exec::perform))]
 pub fn jump(rd: u32, target: u64, pc: &mut u64, stop: &mut Option<Cause>, regs: &mut Regs) -> bool
     requires rd { rd < 32 }
     requires stop { stop.old ≡ None }
     ensures goes { result ≡ is_none stop.new }
-    ensures state { (p : Prog) → Gives (perform 0 (Jump rd target) pc.old) (state_of regs.old p) (next_after stop.new pc.new) (state_of regs.new p) }
+    ensures state { (p : Prog)
+        → Gives (perform 0 (Jump rd target) pc.old) (state_of regs.old p) (next_after stop.new pc.new) (state_of regs.new p) }
 {
     if target % 4 != 0 {
         *stop = Some(Cause::Misaligned);
@@ -118,7 +119,8 @@ pub fn jump(rd: u32, target: u64, pc: &mut u64, stop: &mut Option<Cause>, regs: 
 pub fn branch(taken: bool, target: u64, pc: &mut u64, stop: &mut Option<Cause>) -> bool
     requires { stop.old ≡ None }
     ensures goes { result ≡ is_none stop.new }
-    ensures state { (p : Prog) (regs : List ℕ) → Gives (perform 0 (BranchTo taken target) pc.old) (state_of regs p) (next_after stop.new pc.new) (state_of regs p) }
+    ensures state { (p : Prog) (regs : List ℕ)
+        → Gives (perform 0 (BranchTo taken target) pc.old) (state_of regs p) (next_after stop.new pc.new) (state_of regs p) }
 {
     if !taken {
         *pc = next_pc(*pc);
@@ -146,7 +148,9 @@ fn read_anywhere(
     requires rd { rd < 32 }
     requires stop { stop.old ≡ None }
     ensures goes { result ≡ is_none stop.new }
-    ensures state { (pc : ℕ) (resv : List (Option ℕ)) (out : List ℕ) → Gives (perform 0 (ReadMemory op rd at) pc) (state_from regs.old mem.now resv out) (next_after stop.new (next pc)) (state_from regs.new mem.now resv out) }
+    ensures state { (pc : ℕ) (resv : List (Option ℕ)) (out : List ℕ)
+        → Gives (perform 0 (ReadMemory op rd at) pc)
+        (state_from regs.old mem.now resv out) (next_after stop.new (next pc)) (state_from regs.new mem.now resv out) }
 {
     match mem.load(at, load_width(op)) {
         Ok(n) => {
@@ -175,7 +179,9 @@ pub fn read(
     requires rd { rd < 32 }
     requires stop { stop.old ≡ None }
     ensures goes { result ≡ is_none stop.new }
-    ensures state { (resv : List (Option ℕ)) (out : List ℕ) → Gives (perform 0 (ReadMemory op rd at) pc.old) (state_from regs.old mem.now resv out) (next_after stop.new pc.new) (state_from regs.new mem.now resv out) }
+    ensures state { (resv : List (Option ℕ)) (out : List ℕ)
+        → Gives (perform 0 (ReadMemory op rd at) pc.old)
+        (state_from regs.old mem.now resv out) (next_after stop.new pc.new) (state_from regs.new mem.now resv out) }
 {
     if let Some(n) = mem.quick_load(at, load_width(op)) {
         regs.set(rd, load_result(op, n));
@@ -206,7 +212,9 @@ fn write_anywhere(
     requires stop { stop.old ≡ None }
     ensures harts { length resv.new ≡ length resv.old }
     ensures goes { result ≡ is_none stop.new }
-    ensures state { (pc : ℕ) (regs out : List ℕ) → Gives (perform hart (WriteMemory len at value) pc) (state_from regs mem.old resv.old out) (next_after stop.new (next pc)) (state_from regs mem.new resv.new out) }
+    ensures state { (pc : ℕ) (regs out : List ℕ)
+        → Gives (perform hart (WriteMemory len at value) pc)
+        (state_from regs mem.old resv.old out) (next_after stop.new (next pc)) (state_from regs mem.new resv.new out) }
 {
     match mem.store(at, len, value) {
         Ok(()) => {

@@ -10,4 +10,5 @@ prog_in m = prog_of m.shared.mem m.shared.resv m.shared.out
 
 -- for proofs alone: the answer is the pc of a state, whose registers and machine are these, or none
 abbrev pub Reaches : Option State → Option ℕ → List ℕ → Machine → Type 0
-Reaches state result regs machine = MatchOption result (state ≡ None) (λ pc. state ≡ Some (record { pc = pc; regs = regs; prog = prog_in machine }))
+Reaches state result regs machine =
+    MatchOption result (state ≡ None) (λ pc. state ≡ Some (record { pc = pc; regs = regs; prog = prog_in machine }))

@@ -87,6 +87,7 @@ pub fn put(holes: &mut Vec<Hole>, place: usize, hole: Hole)
     ensures len { vec_len holes.new ≤ vec_len holes.old + 1 }
     ensures capacity { vec_capacity holes.new ≡ vec_capacity holes.old }
 {
+    // There is room, so this doesn't fail.
     let _room_is_there = holes.insert(place, hole);
     join(holes, place);
     if place > 0 {

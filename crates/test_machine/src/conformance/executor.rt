@@ -60,6 +60,10 @@ impl Machine {
     ghost use Rattle.rv_word.specs.Exec.{exec_of, without_reservation};
 
     /// The machine at its start.
+    ///
+    /// # Errors
+    ///
+    /// `NoMemory` if memory runs out.
     pub fn new(alloc: Global) -> Result<Machine, NoMemory> {
         Ok(Machine {
             hart: HartNo::first(),

@@ -42,7 +42,7 @@ pub fn arm(machine: &mut Machine, counter: &Placed)
     requires small { AllByRecursion IsSmall counter.now.opens }
     ensures { machine.new ≡ with_core machine.old (after machine.old.core (Arm counter.now)) }
 {
-    let _armed = machine.arm(counter);
+    machine.arm(counter);
 }
 
 /// Takes `count` turns of hart 0.
