@@ -1,4 +1,4 @@
--- The list of flats beside the slots of a text.
+-- The list of the flats of a text's slots.
 use Rattle.std.proofs.Common.{get_or, arith, ◌<◌, ◌∙◌, ◌≡◌, ℕ, zero, suc, ◌+◌, ◌-◌, ◌*◌, ◌/◌, List, [], ◌∷◌, ◌++◌, length, Option, Some, None, refl, ap, sym, subst}
 use Rattle.std.specs.Prelude.{slice_get, slice_set, Bool, true, false, cond}
 use Rattle.std.proofs.lemmas.Option.{slice_get-get_or}

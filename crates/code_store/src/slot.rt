@@ -11,7 +11,7 @@ use rv_word::{Instr, decode};
 use std::marker::Model;
 use tramp_spec::{Mark, MarkedWord};
 
-/// A marked word with what it does beside it, so that it is decoded once however often it is executed. Contracts see the
+/// A marked word with what it does, so that it is decoded once however often it is executed. Contracts see the
 /// marked word.
 #[derive(Drop)]
 pub struct Slot {

@@ -29,7 +29,7 @@ pub struct Store {
     /// The program's words, which stay.
     words: Vec<u32>,
     text: Span,
-    /// What the text's words do beside their slots, so that the program's words run one after another by these alone.
+    /// What the text's words do, apart from their slots, so that the program's words run one after another by these alone.
     flats: Vec<Flat>,
     tool: Span,
     /// What the words of the tool text are for.

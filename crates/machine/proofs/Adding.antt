@@ -22,7 +22,7 @@ use Rattle.machine.proofs.Invariant.{Piece, the_row, IsBase, Linked, LiveOf, Bas
 use Rattle.machine.proofs.Homes.{has_len, row_in}
 use Rattle.machine.proofs.Texts.{text_low}
 use Rattle.machine.proofs.Follow.{Image, Kept, All, Nowhere, NoMore}
-use Rattle.machine.proofs.Minis.{point_word}
+use Rattle.machine.proofs.BlockWords.{point_word}
 use Rattle.machine.proofs.Blocks.{mini_len, shaped_still}
 
 shaped_put : (t : Words) (code : Code) (at : ℕ) (ws : List MarkedWord) (row : Row) (body : List MarkedWord) (next : ℕ) → Apart row.at row.len at (length ws) → ShapedAs t code row body next → ShapedAs t (put_words at ws code) row body next

@@ -72,7 +72,7 @@ begins_same p a rows of =
 
 -- ---- live mini blocks
 
--- where no two blocks begin at one address, one of the point that does so is the one that does so
+-- where no two blocks begin at one address, a block of the point that begins there is the one that begins there
 pub live_same : (p a : ℕ) (rows : List Row) → ((r q : Row) → In r rows → In q rows → r.at ≡ q.at → r ≡ q) → is_live_mini p (find (begins_at p a) rows) ≡ is_live_mini p (row_at rows a)
 live_same p a rows alone = by (row_at rows a) refl (find (begins_at p a) rows) refl
   where

@@ -45,7 +45,7 @@ end_of {x = x} k = finish k.f (k.m).body (k.m).row.at k.i (bench_of x) x.ticks
 abbrev pub acted : Plan → PlainHart → Level → Level
 acted plan y v = record { values = site_values (site_at plan y.pc) (arguments_of y.regs) v.values; runs = v.runs }
 
--- what is so of an instrument that carries a plan, whatever happens
+-- what holds of an instrument that carries a plan, whatever happens
 pub record Fits (i : Placed) (plan : Plan) : Type 0 where
   pub many : length i.slots ≡ length i.vars
   pub places : ArePlaces (places_of i)

@@ -19,7 +19,7 @@ use Rattle.machine.proofs.Beginning.{begins, begins_numbers}
 use Rattle.machine.proofs.Homes.{piece_of, row_in, base_shape, block_is}
 use Rattle.machine.proofs.Invariant.{Piece, the_row, IsBase, Linked, LiveOf, BaseShape, MiniShape, Leads, Door, BasePlace, HartOk, Dynamic, Inv}
 use Rattle.machine.proofs.Lists.{same_some}
-use Rattle.machine.proofs.Minis.{next_is}
+use Rattle.machine.proofs.BlockWords.{next_is}
 use Rattle.machine.proofs.Standing.{in_base, in_mini}
 use Rattle.machine.proofs.Follow.{Numbers}
 use Rattle.machine.proofs.Steps.{Counted, within, counted_events}

@@ -1,8 +1,8 @@
 -- A hart inside is soon outside.
-use Rattle.std.proofs.Common.{◌≡◌, ℕ, zero, suc, ◌+◌, ◌<◌, ◌≤◌, List, [], ◌∷◌, Option, Some, None, refl, sym, ap, ◌∙◌, subst, arith, ⊎_elim, inl, inr}
-use Rattle.std.specs.Prelude.{Bool, true, false, cond, not, is_none, IsTrue, slice_get, map, ◌⊎◌, ◌&&◌, ◌||◌, ◌==◌, nat_lt}
+use Rattle.std.proofs.Common.{◌≡◌, ℕ, zero, suc, ◌+◌, ◌<◌, ◌≤◌, List, Option, Some, None, refl, sym, ap, ◌∙◌, subst, arith, ⊎_elim, inl, inr}
+use Rattle.std.specs.Prelude.{Bool, true, false, not, is_none, IsTrue, slice_get, ◌⊎◌, ◌||◌}
 use Rattle.std.specs.FinMap.{get}
-use Rattle.std.proofs.lemmas.Bool.{true≢false, not-true, eq-eqb, eqb-true, and_parts}
+use Rattle.std.proofs.lemmas.Bool.{true≢false}
 use Rattle.std.proofs.lemmas.Grind.{common_steps}
 use Rattle.std.proofs.lemmas.Option.{slice_get_within}
 use Rattle.rv_word.specs.Plain.{Words, PlainHart, Plain, Alone, program_word}
@@ -15,7 +15,7 @@ use Rattle.tramp_spec.specs.Codes.{Code, is_text_word}
 use Rattle.tramp_spec.specs.Harts.{Hart, Solo, step_of, is_tick}
 use Rattle.tramp_spec.specs.Marks.{own, enter}
 use Rattle.tramp_spec.specs.MovedWords.{own_place}
-use Rattle.machine.specs.Cores.{In, Row, Core, Live, is_written, start_core}
+use Rattle.machine.specs.Cores.{In, Row, Core, Live, start_core}
 use Rattle.machine.specs.Places.{block_at, program_pc}
 use Rattle.machine.specs.Events.{Turn}
 use Rattle.machine.specs.Effects.{owned}
@@ -26,14 +26,15 @@ use Rattle.machine.specs.Replays.{replay, owns}
 use Rattle.machine.proofs.Beginning.{begins}
 use Rattle.machine.proofs.Fetching.{fetch_text, fetch_none}
 use Rattle.machine.proofs.Homes.{base_shape, base_len, block_is, one_block, has_len}
-use Rattle.machine.proofs.Invariant.{Piece, the_row, IsBase, Linked, Door, BasePlace, Static, Outside, HartOk, InBase, InMini, Dynamic, Inv}
-use Rattle.machine.proofs.Lefts.{is_ahead, words_if, ahead, ahead_of, left_at, left, Below, Soon}
+use Rattle.machine.proofs.Invariant.{Piece, IsBase, Door, BasePlace, Static, Outside, HartOk, InBase, InMini, Dynamic, Inv}
+use Rattle.machine.proofs.Lefts.{is_ahead, ahead, ahead_of, left_at, left, Below, Soon}
 use Rattle.machine.proofs.Standing.{in_base, in_mini}
 use Rattle.machine.proofs.Lists.{get_set_same, get_set_other, length_slice_set, same_some}
 use Rattle.machine.proofs.Nexts.{entering}
 use Rattle.machine.proofs.Steps.{puts, within, not_stopped, step, all_events}
 use Rattle.machine.proofs.Texts.{text_cases}
 use Rattle.machine.proofs.Turns.{OwesBy, turn_at}
+use Rattle.machine.proofs.Ahead.{ahead_linked, base_and_ahead}
 
 module _ (t : Words) (budget : ℕ) (code : Code) (rows : List Row) (ps : List Piece) (clock : ℕ) (st : Static t code rows ps clock) (x : Hart) (y : PlainHart) where
   base_words : (b : Piece) → In b ps → IsBase b → 3 ≤ b.row.len
@@ -137,40 +138,6 @@ out_within zero = none_left
 out_within (suc most) = λ c s v h x y ex ey d u. one_more most (out_within most) c s v h x y ex ey d u
 
 -- ---- as many as the blocks of the point have words
-
--- what is ahead is linked
-ahead_linked : (family n : ℕ) (m : Piece) → is_ahead family n m ≡ true → Linked m × (m.family ≡ family)
-ahead_linked family n m e =
-    let p = and_parts (not m.row.base) (not (is_written m.row.status) && ((m.family == family) && nat_lt m.age n)) e in
-    let q = and_parts (not (is_written m.row.status)) ((m.family == family) && nat_lt m.age n) p.1 in
-    let r = and_parts (m.family == family) (nat_lt m.age n) q.1 in
-    (record { mini = not-true m.row.base p.0; was = λ s. true≢false (sym q.0 ∙ ap (λ z. not (is_written z)) s) }, eqb-true m.family family r.0)
-
-one_word : (b : Bool) (p l : ℕ) (m : Piece) → (b ≡ true → m.row.point ≡ p) → words_if b l ≤ cond (m.row.point == p) l 0
-one_word true p l m f = let e = eq-eqb m.row.point p (f refl) in let s : cond (m.row.point == p) l 0 ≡ l = ap (λ b. cond b l 0) e in omega arith
-one_word false p l m f = omega arith
-
-ahead_words : (ps : List Piece) (family n p : ℕ) → ((m : Piece) → In m ps → is_ahead family n m ≡ true → m.row.point ≡ p) → ahead ps family n ≤ words_at p (map the_row ps)
-ahead_words [] family n p f = omega arith
-ahead_words (m ∷ ps) family n p f =
-    let h = one_word (is_ahead family n m) p m.row.len m (λ e. f m (inl refl) e) in
-    let t = ahead_words ps family n p (λ q i e. f q (inr i) e) in
-    omega arith
-
--- with the base block
-base_and_ahead : (ps : List Piece) (b : Piece) (family n p : ℕ) → In b ps → IsBase b → b.row.point ≡ p → ((m : Piece) → In m ps → is_ahead family n m ≡ true → m.row.point ≡ p)
-    → b.row.len + ahead ps family n ≤ words_at p (map the_row ps)
-base_and_ahead [] b family n p h k e f = absurd h
-base_and_ahead (m ∷ ps) b family n p (inl i) k e f =
-    let none : is_ahead family n m ≡ false = ap (λ z. is_ahead family n z) (sym i) ∙ grind (arith, common_steps, k.base) in
-    let zeros : words_if (is_ahead family n m) m.row.len ≡ 0 = ap (λ z. words_if z m.row.len) none in
-    let here : cond (m.row.point == p) m.row.len 0 ≡ b.row.len = ap (λ z. cond (z.row.point == p) z.row.len 0) (sym i) ∙ ap (λ z. cond z b.row.len 0) (eq-eqb b.row.point p e) in
-    let t = ahead_words ps family n p (λ q j z. f q (inr j) z) in
-    omega arith
-base_and_ahead (m ∷ ps) b family n p (inr h) k e f =
-    let o = one_word (is_ahead family n m) p m.row.len m (λ z. f m (inl refl) z) in
-    let t = base_and_ahead ps b family n p h k e (λ q j z. f q (inr j) z) in
-    omega arith
 
 module _ (t : Words) (budget : ℕ) (code : Code) (rows : List Row) (ps : List Piece) (clock : ℕ) (st : Static t code rows ps clock) (x : Hart) (y : PlainHart) where
   -- the mini blocks of a base block are at its point

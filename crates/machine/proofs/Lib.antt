@@ -13,6 +13,7 @@ pub mod Turns
 pub mod Blocks
 pub mod Follow
 pub mod Points
+pub mod BlockWords
 pub mod Minis
 pub mod Unlink
 pub mod Adding
@@ -24,6 +25,7 @@ pub mod Steps
 pub mod Sames
 pub mod Beginning
 pub mod Erasing
+pub mod Ahead
 pub mod Leaving
 pub mod Keeping
 pub mod KeptRows

@@ -16,7 +16,7 @@ use Rattle.machine.proofs.Lists.{find_gives, find_finds}
 use Rattle.machine.proofs.Invariant.{Piece, the_row, IsBase, Linked, LiveOf, BaseShape, MiniShape, Leads, Static, Inv}
 use Rattle.machine.proofs.Homes.{piece_of, one_block, has_len, row_in}
 use Rattle.machine.proofs.Points.{live_true, at_hit, at_miss, family_of}
-use Rattle.machine.proofs.Minis.{next_is, mini_or_base, tool_hops, shapes_but, words_but, doors_but, text_other}
+use Rattle.machine.proofs.BlockWords.{next_is, mini_or_base, tool_hops, shapes_but, words_but, doors_but, text_other}
 use Rattle.machine.proofs.Follow.{Kept, All, NoPiece, Nowhere, NoMore, still, reworked}
 use Rattle.machine.proofs.Blocks.{static_kept, leads_kept, rework}
 

@@ -20,7 +20,7 @@ turned_alone s h x = step_of (fetched_alone s x) h (home_in_store s x.hart.pc x.
 abbrev pub may_alone : ℕ → Solo → Bool
 may_alone budget x = may_turn (Some x.hart) budget
 
--- a hart by itself that is so far: its other parts are those of `x`
+-- a hart by itself, with this progress and else the parts of `x`
 abbrev pub alone_of : Progress → Hart → Prog → Solo
 alone_of a x p = record { hart = record x { pc = a.pc; ticks = a.ticks; inside = a.inside }; prog = p }
 
@@ -34,7 +34,7 @@ pub record IsPlaced (s : StoredCode) (budget : ℕ) (x : Solo) : Type 0 where
   pub tool : x.hart.inside ≡ true → is_tool_word s.program x.hart.pc ≡ true
   pub below : IsTrue (may_alone budget x) → is_tick (fetched_alone s x) ≡ true → x.hart.ticks < budget
 
--- that is so wherever turns lead
+-- this holds wherever turns lead
 abbrev pub ArePlaced : StoredCode → ℕ → ℕ → Solo → Type 0
 ArePlaced s budget h x = (k : ℕ) (z : Solo) → Leads s budget h k x z → IsPlaced s budget z
 

@@ -12,7 +12,7 @@ pub record AreSet (ps : List VariableSlot) (values : List ℕ) (spare ticks : �
   pub others : (q : ℕ) → (IsSlotOf ps q → ⊥) → slice_index next q ≡ slice_index bank q
   pub size : length next ≡ length bank
 
--- So it is after an arming, where every value has this many starts to spare.
+-- Arming does this, where every value has this many starts to spare.
 abbrev pub ArmingSets : Type 0
 ArmingSets =
     (ps : List VariableSlot) (values bank : List ℕ) (spare ticks : ℕ) → ArePlaces ps → length values ≡ length ps → length bank ≡ bank_len

@@ -168,7 +168,7 @@ pub record IsInside (c : Core) (x : Hart) : Type 0 where
 
 -- ---- together
 
--- All this is so of a state after these linkings.
+-- All this holds of a state after these linkings.
 pub record IsKept (l : Linkings) (c : Core) : Type 0 where
   pub blocks : (r : Row) → In r c.rows → IsBlock c r
   pub apart : (r s : Row) → In r c.rows → In s c.rows → (r ≡ s) ⊎ Apart r.at r.len s.at s.len
@@ -185,7 +185,7 @@ pub record IsKept (l : Linkings) (c : Core) : Type 0 where
   pub heads : (b : Row) → In b c.rows → b.base ≡ true → LeadsDown l c b.at (l.count + 1) (next_of c.code b) (is_current b.status)
   pub harts : (h : ℕ) (x : Hart) → slice_get c.harts h ≡ Some x → x.inside ≡ true → IsInside c x
 
--- That is so after every list of events of which each may happen when it comes.
+-- This holds after every list of events each of which may happen when it comes.
 abbrev pub Keeps : Type 0
 Keeps =
     (image : Image) (n budget : ℕ) (es : List Event) → IsProgram image → Legal es (start_core image n budget)

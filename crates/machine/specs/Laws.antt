@@ -27,7 +27,7 @@ pub record Erases (image : Image) (n budget : ℕ) (es : List Event) : Type 0 wh
   pub legal : IsLegal image n budget (owns es (start_core image n budget))
   pub same : SameProgram (replay es (start_core image n budget)) (run image n (owns es (start_core image n budget)))
 
--- That is so of every list of events of which each may happen when it comes.
+-- This holds of every list of events each of which may happen when it comes.
 abbrev pub Erasure : Type 0
 Erasure =
     (image : Image) (n budget : ℕ) (es : List Event) → IsProgram image → Legal es (start_core image n budget) → Erases image n budget es

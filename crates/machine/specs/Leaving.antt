@@ -23,7 +23,7 @@ is_out_now (Some x) = not (is_none x.stop) || not x.inside
 abbrev pub is_out : Core → ℕ → Bool
 is_out c h = is_out_now (slice_get c.harts h)
 
--- hart h is so after at most this many turns, each of which it can take
+-- hart h is out after at most this many turns, each of which it can take
 abbrev pub OutWithin : ℕ → Core → ℕ → Type 0
 OutWithin zero c h = is_out c h ≡ true
 OutWithin (suc most) c h = (is_out c h ≡ true) ⊎ (IsTrue (is_runnable c h) × OutWithin most (turn c h) h)
@@ -42,7 +42,7 @@ OutSoonBehindEnter c =
     → fetched c.program c.code x ≡ Some (enter jump)
     → OutWithin (words_at x.pc c.rows) (turn c h) h
 
--- Both are so after every list of events of which each may happen when it comes.
+-- Both hold after every list of events each of which may happen when it comes.
 abbrev pub LeavesSoon : Type 0
 LeavesSoon =
     (image : Image) (n budget : ℕ) (es : List Event) → IsProgram image → Legal es (start_core image n budget)

@@ -26,13 +26,13 @@ bench_from regs bank = record { regs = regs; bank = bank }
 abbrev pub bench_in : Hart → Bench
 bench_in x = bench_from x.regs x.bank
 
--- what a word of the program leaves
+-- a word of the program makes `z` of `x`
 pub record PerformsOwn (word h : ℕ) (x z : Solo) : Type 0 where
   pub does : done (exec_of word x.hart.pc h x.hart.regs x.prog) x.hart.regs
       ≡ record { next = next_after z.hart.stop z.hart.pc; regs = z.hart.regs; prog = z.prog }
   pub keeps : z.hart.bank ≡ x.hart.bank
 
--- what another word leaves that reaches n doublewords
+-- another word, which reaches n doublewords, makes `z` of `x`
 pub record PerformsOther (n word : ℕ) (x z : Solo) : Type 0 where
   pub step : step_on n word x.hart.ticks x.hart.pc (bench_in x.hart) ≡ stood_after z.hart.stop z.hart.pc (bench_in z.hart)
   pub shares : z.prog ≡ x.prog
@@ -44,7 +44,7 @@ PerformsBy Tool word h x z = PerformsOther (reach_of Tool) word x z
 PerformsBy Enter word h x z = PerformsOther (reach_of Enter) word x z
 PerformsBy Leave word h x z = PerformsOther (reach_of Leave) word x z
 
--- hart h performs the word: so the operation leaves the pc, the stop, the registers, the bank and what harts share
+-- hart h performs the word: `x` becomes `z`, but for the ticks and whether the hart is inside
 abbrev pub Performs : MarkedWord → ℕ → Solo → Solo → Type 0
 Performs w h x z = PerformsBy w.mark w.word h x z
 

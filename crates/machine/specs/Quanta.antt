@@ -14,7 +14,7 @@ pub record IsQuantum (most h : ℕ) (es : List Event) (c : Core) : Type 0 where
   pub owned : owns es c ≡ replicate (length (owns es c)) h
   pub bound : length es ≤ most
 
--- the turns of a quantum are so, whatever the state
+-- the turns of a quantum are such events, whatever the state
 abbrev pub QuantaAreLegal : Type 0
 QuantaAreLegal = (most h : ℕ) (c : Core) → IsQuantum most h (quantum_turns most h c) c
 
@@ -31,7 +31,7 @@ TimeGoesOn = (es : List Event) (c : Core) → ticks_in (replay es c).harts ≡ t
 abbrev pub KeepsBudget : Core → Type 0
 KeepsBudget c = (h : ℕ) (x : Hart) → slice_get c.harts h ≡ Some x → x.ticks ≤ c.budget
 
--- That is so after every list of events of which each may happen when it comes.
+-- This holds after every list of events each of which may happen when it comes.
 abbrev pub BudgetIsKept : Type 0
 BudgetIsKept =
     (image : Image) (n budget : ℕ) (es : List Event) → IsProgram image → Legal es (start_core image n budget)

@@ -55,7 +55,7 @@ MeasuresFor harts t s {i = i} {plan = plan} {es = es} {c = c} r =
     difference (readings i harts (replay (sampled_first r) c)) (readings i harts (replay es c))
     ≡ measure t plan harts (ticks_of (r.force).before c) (ticks_of (sampled_first r) c) (ticks_of es c) (owns es c) s
 
--- That is so for every list of events of which each may happen when it comes.
+-- This holds for every list of events each of which may happen when it comes.
 abbrev pub ReadingsMeasure : Type 0
 ReadingsMeasure =
     (image : Image) (n budget : ℕ) (i : Placed) (plan : Plan) (harts : List ℕ) (es : List Event) → IsProgram image → budget ≤ MAX_BUDGET

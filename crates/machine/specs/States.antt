@@ -1,4 +1,4 @@
--- What a machine holds, and what its calls owe.
+-- What a machine holds, and what its calls do.
 use Rattle.std.specs.Prelude.{ℕ, zero, suc, ◌+◌, if◌then◌else◌, List, [], ◌∷◌, ◌++◌, length}
 use Rattle.machine.specs.Cores.{Row, Core}
 use Rattle.machine.specs.Events.{Event, Turn}

@@ -194,7 +194,7 @@ impl Blocks {
         }
     }
 
-    /// The linked block that leads to an address. Each that does so must stand for the point.
+    /// The linked block that leads to an address. Each linked block that leads there must stand for the point.
     pub fn before(&self, store: &Store, point: u64, at: u64) -> Option<BlockRow>
         requires links { (r : Row) → In r self.now.rows → HasLink store.now.program r }
         requires of_point { (r : Row) → In r self.now.rows → IsTrue (is_before store.now.code at r) → r.point ≡ point }

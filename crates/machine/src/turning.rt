@@ -33,7 +33,7 @@ impl Progress {
     }
 }
 
-/// Takes one turn of a hart that isn't stopped. It takes no memory. Of the hart's own pc, ticks and place inside nothing is read.
+/// Takes one turn of a hart that isn't stopped. How far the hart is stands in `progress` alone. It takes no memory.
 #[inline(always)]
 fn take_turn(
     progress: &mut Progress,

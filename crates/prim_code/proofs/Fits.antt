@@ -40,7 +40,7 @@ if_both P false x y f g = g refl
 other : (k : List ℕ) (s v q : ℕ) → (q ≡ s → ⊥) → slice_index (slice_set k s v) q ≡ slice_index k q
 other k s v q n = get_or-set_other k s q v 0 n
 
--- a doubleword beside the slots of the variable
+-- a doubleword that is no slot of the variable
 abbrev Beside : ℕ → ℕ → ℕ → Type 0
 Beside s w q = (q < s) ⊎ (s + w ≤ q)
 

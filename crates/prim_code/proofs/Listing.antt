@@ -154,7 +154,7 @@ fits slots vars (s ∷ ss) values readings n ticks arguments k same pl u lv lk l
     (under_keeps (λ m. length m ≡ bank_len) slots s.conds (act_bank slots s.act) ticks arguments k lk (act_length s.act (slot_of slots (changed s.act)) ticks arguments k ∙ lk)) lt
     (stmt_fits slots vars same readings ticks arguments s (length ss + n) values k pl u.0 lv lk lt (subst (λ m. Fits (places slots vars) m values readings ticks k) e h))
 
--- doublewords beside all places
+-- doublewords that are in no place
 abbrev pub IsBeside : List VariableSlot → ℕ → Type 0
 IsBeside ps q = (i : ℕ) (p : VariableSlot) → slice_get ps i ≡ Some p → (q < p.slot) ⊎ (p.slot + width p ≤ q)
 

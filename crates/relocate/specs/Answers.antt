@@ -1,4 +1,4 @@
--- What the calls answer, as the definitions have it.
+-- What the calls return, by the definitions.
 use Rattle.std.specs.Prelude.{◌≡◌, Option, Some, None, Result, Ok, Err, List}
 use Rattle.tramp_spec.specs.declared.mark.MarkedWord.{MarkedWord}
 use Rattle.relocate.specs.declared.moving.Unmovable.{Unmovable}

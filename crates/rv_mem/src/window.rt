@@ -17,7 +17,7 @@ pub struct Window {
     pub to: u64,
 }
 
-/// The part of the window beside the text, on the side where more of it is.
+/// The part of the window before the text or the one after it, whichever is longer.
 fn beside_text(window: Window, text_at: u64, text_len: u64) -> Window
     ensures begins { window.from ≤ result.from }
     ensures ends { result.to ≤ window.to }

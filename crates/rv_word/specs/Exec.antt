@@ -138,7 +138,7 @@ amo op width old h rd at v pc regs p =
 
 -- ---- system calls, by their number in a7: 93 and 94 exit, 64 writes
 
--- the answer -n
+-- the number -n
 abbrev pub minus : ℕ → ℕ
 minus n = 2 ^ 64 - n
 

@@ -73,7 +73,7 @@ abbrev pub IsRegister : Option ℕ → Type 0
 IsRegister None = Unit {0}
 IsRegister (Some r) = r < 32
 
--- what fits beside the registers
+-- the numbers other than those of registers fit their fields
 abbrev pub HasNumbers : Instr → Type 0
 HasNumbers (Lui rd imm) = IsExtended 32 imm × (imm % 4096 ≡ 0)
 HasNumbers (Auipc rd imm) = IsExtended 32 imm × (imm % 4096 ≡ 0)

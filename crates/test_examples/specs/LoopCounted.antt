@@ -64,7 +64,7 @@ counting = linking ++ Arm counter ∷ []
 abbrev pub three_rounds : List Event
 three_rounds = counting ++ replicate 30 (Turn 0)
 
--- The blocks can be linked and the counter armed under any budget. Under one of 1,000 all that the law of readings asks is so, and
+-- The blocks can be linked and the counter armed under any budget. Under one of 1,000 all that the law of readings asks for holds, and
 -- both its sides are 3.
 pub record LoopCounted : Type 0 where
   pub program : IsProgram loop

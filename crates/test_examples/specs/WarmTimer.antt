@@ -96,7 +96,7 @@ both_inside = timing ++ replicate 16 (Turn 0) ++ replicate 5 (Turn 1)
 abbrev pub timed_rounds : List Event
 timed_rounds = both_inside ++ replicate 6 (Turn 0) ++ replicate 6 (Turn 1)
 
--- All that the law of readings asks is so, and both its sides are 3.
+-- All that the law of readings asks for holds, and both its sides are 3.
 pub record WarmTimer : Type 0 where
   pub program : IsProgram procedure
   pub measurable : IsMeasurable procedure_time

@@ -2,7 +2,7 @@
 use Rattle.std.specs.Prelude.{ℕ, ◌<◌, ◌^◌, List, Option, SomeIff}
 use Rattle.std.specs.Str.Parse.{IsNumeral, digits_value, without_leading_plus}
 
--- the answer is the number that the hexadecimal digits write, where these are all the text and it has no more bits
+-- the result is the number that the hexadecimal digits write, where these are all the text and it has no more bits
 abbrev pub ReadsHexadecimal : ℕ → List ℕ → Option ℕ → Type 0
 ReadsHexadecimal bits text answer =
     let digits = without_leading_plus text in

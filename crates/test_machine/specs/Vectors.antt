@@ -1,4 +1,4 @@
--- What a vector says of a word, and when it is so here.
+-- What a vector says of a word, and when that holds here.
 use Rattle.std.specs.Prelude.{◌≡◌, ℕ, ◌+◌, ◌/◌, ◌%◌, ◌^◌, ◌==◌, if◌then◌else◌, Bool, true, false, Option, Some, None, List, replicate, option_map}
 use Rattle.std.specs.Result.{result_ok}
 use Rattle.rv_asm.specs.Tokens.{◌>>=◌}

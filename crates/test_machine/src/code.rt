@@ -1,4 +1,4 @@
-//! Each row is printed before its answer. Numbers are hexadecimal, between single spaces.
+//! Each row is printed before its result. Numbers are hexadecimal, between single spaces.
 //!
 //! - `move WORD FROM TO`: how many words the moved word has, and these.
 //! - `base POINT AT WORD`: the base block of the point whose word this is, with the word moved there.

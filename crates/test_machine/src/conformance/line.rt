@@ -31,7 +31,7 @@ impl<'a> Line<'a> {
         }
     }
 
-    /// Whether what the row says is so here.
+    /// Whether what the row says holds here.
     pub fn agrees(&self, alloc: Global, machine: &mut Machine) -> bool {
         match self {
             Line::Vector(vector) => machine.agrees(vector),
