@@ -3,5 +3,5 @@ pub mod Pushed
 pub mod Removed
 pub mod Walks
 pub mod Nexts
-pub mod Reads
+pub mod RemovedEntry
 pub mod Skips

@@ -3,7 +3,7 @@ use Rattle.std.specs.Vec.{vec_len, vec_capacity}
 use Rattle.bucket_chains.specs.Entries.{bucket_at, IsFirst}
 use Rattle.bucket_chains.specs.Chained.{IsBehind, IsChained, HasRoom}
 use Rattle.bucket_chains.proofs.Places.{within}
-use Rattle.bucket_chains.proofs.Reads.{reads}
+use Rattle.bucket_chains.proofs.RemovedEntry.{reads}
 use Rattle.bucket_chains.proofs.Removed.{Backward, both, first_leaves, later_leaves, last_leaves, earlier_leaves}
 use Rattle.bucket_chains.proofs.chains.Chains.remove.Goals as goal
 use Rattle.bucket_chains.proofs.chains.Chains.remove.Goals.{in-Some-before, in-None}

@@ -10,7 +10,7 @@ abbrev pub AreChained : Inside → Type 0
 AreChained s = IsChained s.buckets.items s.next.items s.previous.items s.first.items s.last.items
 
 -- the entry is in bucket b, with these places next to it
-pub record Reads (s : Inside) (b place : ℕ) (next before : Option ℕ) : Type 0 where
+pub record RemovedEntry (s : Inside) (b place : ℕ) (next before : Option ℕ) : Type 0 where
   pub within : place < length s.buckets.items
   pub there : bucket_at s.buckets.items place ≡ Some b
   pub next_is : get_or s.next.items place None ≡ next
@@ -20,7 +20,7 @@ pub record Reads (s : Inside) (b place : ℕ) (next before : Option ℕ) : Type 
 
 pub reads : (s : Inside) (b place : ℕ) (bucket next before : Option ℕ) → AreChained s → place < length s.buckets.items
     → bucket ≡ get_or s.buckets.items place bucket → bucket ≡ Some b → next ≡ get_or s.next.items place next
-    → before ≡ get_or s.previous.items place before → Reads s b place next before
+    → before ≡ get_or s.previous.items place before → RemovedEntry s b place next before
 reads s b place bucket next before chained within at is after ahead =
     let there : bucket_at s.buckets.items place ≡ Some b = read_entry s.buckets.items place bucket within at ∙ is in
     let next_is = read_entry s.next.items place next (omega (arith, within, chained.next_places)) after in
