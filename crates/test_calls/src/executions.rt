@@ -79,13 +79,7 @@ fn write_three(alloc: Global) -> Result<(bool, u64, Option<Cause>, u64, bool), N
     regs.set(12, 3);
     let mut pc = 0x1_0000;
     let mut stop = None;
-    let goes = Decoded::new(0x73).run(
-        HartNo::first(),
-        &mut pc,
-        &mut stop,
-        &mut regs,
-        &mut shared,
-    );
+    let goes = Decoded::new(0x73).run(HartNo::first(), &mut pc, &mut stop, &mut regs, &mut shared);
     let written = shared.out.bytes() == [1, 2, 3].as_slice();
     Ok((goes, pc, stop, regs.get(10), written))
 }
