@@ -79,7 +79,7 @@ impl Mem {
     ///
     /// # Errors
     ///
-    /// Why the byte may not be touched: it is unmapped, or in the text.
+    /// `Unmapped` where the byte is unmapped, and `InText` where it is in the text.
     pub fn byte(&self, at: u64) -> Result<u8, MemStop>
         ensures { result ≡ cell self.now at }
     {
@@ -111,7 +111,7 @@ impl Mem {
     ///
     /// # Errors
     ///
-    /// Why the first byte that may not be touched may not: it is unmapped, or in the text.
+    /// `Unmapped` or `InText`, with the address of the first byte that may not be touched.
     pub fn load(&self, at: u64, n: u32) -> Result<u64, MemStop>
         requires { n ≤ 8 }
         ensures value { result ≡ load n self.now at }
@@ -159,7 +159,7 @@ impl Mem {
     ///
     /// # Errors
     ///
-    /// Why the first byte that may not be touched may not: it is unmapped, or in the text.
+    /// `Unmapped` or `InText`, with the address of the first byte that may not be touched.
     pub fn readable(&self, at: u64, n: u32) -> Result<(), MemStop>
         ensures refused { IfErr result (λ e. bytes_at n self.now at ≡ Err e) }
         ensures readable { OnOk result (IsOk (bytes_at n self.now at)) }
@@ -213,7 +213,7 @@ impl Mem {
     ///
     /// # Errors
     ///
-    /// Why the first byte that may not be touched may not: it is unmapped, or in the text. Then nothing is stored.
+    /// `Unmapped` or `InText`, with the address of the first byte that may not be touched. Then nothing is stored.
     pub fn store(&mut self, at: u64, n: u32, v: u64) -> Result<(), MemStop>
         requires { n ≤ 8 }
         ensures stored { OnOk result (store n self.old at v ≡ Ok self.new) }
