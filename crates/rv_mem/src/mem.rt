@@ -92,7 +92,7 @@ impl Mem {
         }
     }
 
-    /// Returns what [`load`](Mem::load) returns, where the bytes are in the window of the address's page. `None` says nothing of the bytes.
+    /// Returns what [`load`](Mem::load) returns, where the bytes are in the window of the address's page. `None` says nothing of them.
     #[inline(always)]
     pub fn quick_load(&self, at: u64, n: u32) -> Option<u64>
         requires { n ≤ 8 }
