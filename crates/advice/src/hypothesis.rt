@@ -87,7 +87,11 @@ fn hypothesis_of(
     })
 }
 
-/// The hypotheses in the order of their first mention, with their thresholds.
+/// Returns the hypotheses in the order of their first mention, with their thresholds.
+///
+/// # Errors
+///
+/// `NoMemory` where memory runs out.
 pub fn hypotheses_of(alloc: Global, verdicts: &[Verdict]) -> Result<Vec<Hypothesis>, NoMemory>
     requires { All HasTicks verdicts.now }
     ensures { IfOk result (λ all. all.items ≡ hypotheses_of verdicts.now) }

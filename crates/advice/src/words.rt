@@ -98,7 +98,7 @@ fn are_names(most: usize, mut names: Pieces) -> bool
     true
 }
 
-/// Whether a part of a focus is a hierarchy with at most so many names below it.
+/// Whether a part of a focus is a hierarchy with at most `most` names below it.
 fn is_branch(root: &[u8], most: usize, text: &[u8]) -> bool
     ensures { result ≡ is_branch root.now most text.now }
 {

@@ -49,7 +49,7 @@ is_kept image kept s = can_be_procedure image s && not (list_any (overlaps s) ke
 abbrev pub proc_of : Symbol → Proc
 proc_of s = record { name = s.name; «module» = s.«module»; start = s.at; len = s.size }
 
--- these procedures, and behind them those of the function symbols, each judged by the ones before it
+-- these procedures, and after them those of the function symbols, each judged by the ones before it
 abbrev pub kept_of : Image → List Proc → List Symbol → List Proc
 kept_of image kept [] = kept
 kept_of image kept (s ∷ ss) = kept_of image (if is_kept image kept s then kept ++ proc_of s ∷ [] else kept) ss

@@ -49,7 +49,7 @@ impl NamePlaces {
         }
     }
 
-    /// Puts a place under a name, behind those that are there.
+    /// Puts a place under a name, after those that are there.
     pub(crate) fn push(&mut self, alloc: Global, name: &[u8], place: usize) -> Result<(), NoMemory>
         ensures { OnOk result ((other : List ℕ) → under self.new other ≡ with_number (bytes_eq other name.now) place (under self.old other)) }
     {

@@ -1,3 +1,5 @@
+//! The file header.
+
 ghost use Rattle.std.specs.Prelude.{◌≡◌, ◌≤◌, length};
 ghost use Rattle.elf_form.specs.Fields.{header_of};
 ghost use Rattle.elf_form.specs.Headers.{begins_as_elf, is_riscv64, has_bad_flags, has_short_tables};
@@ -81,7 +83,7 @@ impl Header {
         self.flags % 16 != 0
     }
 
-    /// Whether a table reaches past the end of a file of so many bytes.
+    /// Returns whether a table reaches past the end of a file of `len` bytes.
     pub fn has_short_tables(&self, len: u64) -> bool
         ensures { result ≡ has_short_tables self.now len }
     {

@@ -1,3 +1,5 @@
+//! Segments to be loaded, and their faults.
+
 ghost use Rattle.std.specs.Prelude.{◌≡◌, ◌+◌, ◌<◌, ◌^◌, Some};
 ghost use Rattle.elf_form.specs.Segments.{load_fault, shared, is_around};
 
@@ -17,7 +19,7 @@ pub struct Load {
 }
 
 impl Load {
-    /// The fault of the segment, if there is one, in a file of so many bytes, where `place` others are loaded before it.
+    /// Returns the fault of the segment, if there is one, in a file of `len` bytes, where `place` others are loaded before it.
     pub fn fault(&self, len: u64, place: usize) -> Option<ElfFault>
         ensures { result ≡ load_fault len place self.now }
     {

@@ -1,3 +1,5 @@
+//! Section headers, and the range of the text.
+
 ghost use Rattle.std.specs.Prelude.{◌≡◌, ◌+◌, ◌≤◌, ◌<◌, ◌^◌, length, Option};
 ghost use Rattle.elf_form.specs.Fields.{section_header_of};
 ghost use Rattle.elf_form.specs.Symbols.{is_short};
@@ -29,7 +31,7 @@ pub struct SectionHeader {
 pub struct TextRange {
     /// The first address.
     pub at: u64,
-    /// The address behind the last.
+    /// The address after the last.
     pub end: u128,
 }
 
@@ -50,7 +52,7 @@ pub fn section_header_at(bytes: &[u8], at: usize) -> SectionHeader
 }
 
 impl SectionHeader {
-    /// Whether the section reaches past the end of a file of so many bytes.
+    /// Returns whether the section reaches past the end of a file of `len` bytes.
     pub fn reaches_past(&self, len: u64) -> bool
         ensures { result ≡ is_short len self.now }
     {

@@ -1,3 +1,5 @@
+//! Program headers.
+
 ghost use Rattle.std.specs.Prelude.{◌≡◌, ◌+◌, ◌≤◌, length};
 ghost use Rattle.elf_form.specs.Fields.{program_header_of};
 ghost use Rattle.elf_form.specs.Segments.{is_load};

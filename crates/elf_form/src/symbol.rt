@@ -1,3 +1,5 @@
+//! Entries of the symbol table.
+
 ghost use Rattle.std.specs.Prelude.{◌≡◌, ◌+◌, ◌≤◌, length};
 ghost use Rattle.elf_form.specs.Fields.{symbol_entry_of};
 ghost use Rattle.elf_form.specs.Symbols.{kind_of, is_file, is_local};
@@ -49,7 +51,7 @@ impl SymbolEntry {
         }
     }
 
-    /// Whether the entry names the source file of the local symbols behind it.
+    /// Whether the entry names the source file of the local symbols after it.
     pub fn is_file(&self) -> bool
         ensures { result ≡ is_file self.now }
     {

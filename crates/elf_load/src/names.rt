@@ -12,7 +12,7 @@ use pn_types::{PROGRAM_MODULE, is_good_name};
 /// The greatest length of a good name in bytes.
 const NAME_LIMIT: usize = 200;
 
-/// The place behind the last zero byte of the strings: each name that begins before it is ended.
+/// The place after the last zero byte of the strings: each name that begins before it is ended.
 pub fn ended_len(strings: &[u8]) -> usize
     ensures { (at : ℕ) → is_ended strings.now at ≡ nat_lt at result }
 {

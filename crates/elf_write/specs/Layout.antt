@@ -1,4 +1,4 @@
--- The ELF file of an image: its parts, one behind the other (System V ABI: ELF header, program header, sections).
+-- The ELF file of an image: its parts, one after the other (System V ABI: ELF header, program header, sections).
 use Rattle.std.specs.Prelude.{ℕ, ◌+◌, ◌-◌, ◌*◌, ◌<◌, ◌^◌, ◌&&◌, nat_le, nat_lt, if◌then◌else◌, List, [], ◌∷◌, ◌++◌, length, replicate}
 use Rattle.std.specs.List.{flat_map}
 use Rattle.elf_write.specs.Fields.{halves, words, doublewords, padded}
@@ -25,7 +25,7 @@ program_headers place (s ∷ ss) = program_header place s ++ program_headers (pl
 
 -- ---- places
 
--- where the segments' bytes begin, behind the header and the program headers
+-- where the segments' bytes begin, after the header and the program headers
 abbrev pub segments_at : List Segment → ℕ
 segments_at segments = 64 + 56 * length segments
 

@@ -20,7 +20,7 @@ pub struct Places {
     pub sections: u64,
 }
 
-/// The length of a part with the zeros behind it.
+/// The length of a part with the zeros after it.
 #[tactic(auto, unfolding(crate::specs::Fields::padded))]
 pub fn padded_len(part: &[u8]) -> u64
     requires { length part.now < 2 ^ 63 }
@@ -29,7 +29,7 @@ pub fn padded_len(part: &[u8]) -> u64
     part.len() as u64 + padding(part.len() as u64)
 }
 
-/// The length of the segments' bytes, each with the zeros behind it.
+/// The length of the segments' bytes, each with the zeros after it.
 pub fn segments_len(segments: &[Segment]) -> u64
     requires few { length segments.now < 2 ^ 16 }
     requires small { sum_by (λ s. length s.bytes) segments.now < 2 ^ 32 }

@@ -1,3 +1,5 @@
+//! Histograms that fold as they grow.
+
 ghost use Rattle.std.specs.Prelude.{◌≡◌, ◌<◌, ◌≤◌, ◌+◌, ◌^◌, ◌++◌, ◌∷◌, [], List, IfOk};
 ghost use Rattle.fold_hist.specs.declared.bin.Bin.{Bin as Sample};
 ghost use Rattle.fold_hist.specs.Steps.{pushed};
@@ -9,7 +11,7 @@ use pn_types::NoMemory;
 use std::alloc::Global;
 use std::marker::Model;
 
-/// A histogram of samples, of at most so many bins. It keeps the bins alone: each is the sum of `width` samples, as far as
+/// A histogram of samples, with a limit on its bins. It keeps the bins alone: each is the sum of `width` samples, as far as
 /// there are samples, and the width is the least power of two for which the bins are enough. Contracts see how many bins
 /// it has at most, how many samples it has, the width and the bins.
 #[derive(Drop)]
@@ -31,7 +33,11 @@ impl Model for Hist {
 }
 
 impl Hist {
-    /// The histogram of no samples, with the memory of so many bins, at least one.
+    /// Returns the histogram of no samples, with the memory of `bins` bins, at least one.
+    ///
+    /// # Errors
+    ///
+    /// `NoMemory` where memory runs out.
     pub fn new(alloc: Global, bins: u32) -> Result<Hist, NoMemory>
         requires { 1 ≤ bins }
         ensures { IfOk result (λ hist. hist ≡ hist_of bins []) }
@@ -46,7 +52,7 @@ impl Hist {
         })
     }
 
-    /// Puts a sample behind the others: its sum, and the ticks at which it begins and ends. There are fewer than 2^32
+    /// Puts a sample after the others: its sum, and the ticks at which it begins and ends. There are fewer than 2^32
     /// samples before. Takes no memory.
     pub fn push(&mut self, sum: u64, from: u64, to: u64)
         requires { self.old.count < 2 ^ 32 }

@@ -74,7 +74,7 @@ is_phase_repeated before p = bytes_eq p.name (codes "global") || stands phase_na
 abbrev pub is_wish_repeated : List Entry → TheWish → Option Focus → Bool
 is_wish_repeated before w focus = (w.at == 0) && w.show && list_any (λ e. is_shown_by w.metric focus e.item e.focus) before
 
--- what the item names or asks for is so already
+-- an item before it has the same name, or asks for the same
 abbrev pub is_repeated : List Entry → List Entry → Item → Option Focus → Bool
 is_repeated all before (Include i) focus = list_any (λ e. is_include i.metrics e.item) before
 is_repeated all before (Sync s) focus = false

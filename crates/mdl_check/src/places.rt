@@ -62,7 +62,7 @@ fn add_included<'a>(
     Ok(())
 }
 
-/// Adds an item, and behind it those that it includes.
+/// Adds an item, and after it those that it includes.
 fn add_item<'a>(
     placed_items: &mut Vec<PlacedItem<'a>>,
     shipped: &'a [Item],

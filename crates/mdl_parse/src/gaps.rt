@@ -27,7 +27,7 @@ fn closes(word: Seen) -> bool
     }
 }
 
-/// None stands behind it.
+/// None stands after it.
 fn opens(word: Seen) -> bool
     ensures { result ≡ is_opening (word_seen word.entry) }
 {

@@ -76,7 +76,7 @@ open_with terms pieces t procs p = open_if (flat_map (stmts_of_number terms piec
 abbrev pub opens_with : Terms → List Piece → ChosenPieces → List Proc → List Point → List Open
 opens_with terms pieces t procs points = flat_map (open_with terms pieces t procs) points
 
--- why these sites are none of a plan, unless memory is wanting
+-- why these sites are none of a plan, unless memory runs out
 abbrev pub Refuses : PlanError → List Site → Type 0
 Refuses error.NoMemory sites = Unit {0}
 Refuses (error.Fault (NoConstraint axis)) sites = ⊥

@@ -17,7 +17,7 @@ use std::alloc::Global;
 pub(crate) struct ChosenPieces {
     /// At entries.
     pub(crate) entry: Lists,
-    /// Behind calls.
+    /// After calls.
     pub(crate) after: Lists,
     /// At returns.
     pub(crate) ret: Lists,

@@ -101,7 +101,7 @@ fn add_places(places: &mut Vec<u32>, by_proc: &PointPlaces, rows: &[Row]) -> Res
 }
 
 impl Lists {
-    /// An empty list for each of so many procedures.
+    /// An empty list for each of `procs` procedures.
     pub(crate) fn empty(alloc: Global, procs: usize) -> Result<Lists, NoMemory>
         ensures { IfOk result (AreEmpty procs) }
     {

@@ -52,7 +52,7 @@ impl<'a> Piece<'a> {
     }
 }
 
-/// Adds a piece, if it has statements and goes there: before what is there, or behind it.
+/// Adds a piece, if it has statements and goes there: before what is there, or after it.
 fn add_piece<'a>(
     pieces: &mut Vec<Piece<'a>>,
     prepend: bool,

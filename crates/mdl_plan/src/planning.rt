@@ -53,7 +53,7 @@ fn planned(
     })
 }
 
-/// The plan of a checked configuration's metric at a focus: its variables, and the statements that act on them at the
+/// Returns the plan of a checked configuration's metric at a focus: its variables, and the statements that act on them at the
 /// points of a program.
 ///
 /// The metric's own variable stands first, and then those of the active counter constraints. A focus below the root of
@@ -67,10 +67,6 @@ fn planned(
 /// For each procedure at whose entry at least one entry statement stands, the plan has its range and these statements, by
 /// address: they tell a warm start what an open procedure has counted and started.
 ///
-/// - `NoConstraint`: the metric has no constraint for a hierarchy below whose root the focus is; the code's goes first.
-/// - `TooManySites`: more than 4,096 points have statements.
-/// - `TooManyStmts`: a point has more than 32.
-///
 /// A plan has one to three variables, and at most 4,096 sites at addresses of the points, each with 1 to 32 statements. A
 /// procedure that is told has as many.
 /// Where what was checked was parsed or shipped, a statement has at most 18 conditions, so that the plan's mini blocks have
@@ -81,6 +77,14 @@ fn planned(
 /// The tree's procedures are the index's, and the points are theirs, by address. The work is n log n in the points of the
 /// procedures that the insertions select, and linear in the configuration's constraints, which are looked through for each
 /// name that the metric has of them; four lists of a number for each procedure are set to 0.
+///
+/// # Errors
+///
+/// Out of memory, or the first of these that holds:
+///
+/// - `NoConstraint`: the metric has no constraint for a hierarchy below whose root the focus is; the code's goes first.
+/// - `TooManySites`: more than 4,096 points have statements.
+/// - `TooManyStmts`: a point has more than 32.
 pub fn plan(
     alloc: Global,
     checked: &Checked,

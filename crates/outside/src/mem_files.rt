@@ -1,3 +1,5 @@
+//! Files in memory whose readings can fail.
+
 ghost use Rattle.std.specs.Prelude.{◌≡◌, ◌≢◌, ◌↔◌, ◌<◌, ◌-◌, ◌++◌, List, [], ℕ, Some, None, IsErr, IfOk, OnOk, OnErr, length, min, take, drop, option_map, unwrap_or, IsSomeAnd};
 ghost use Rattle.std.specs.Io.{ReadsAtMost};
 ghost use Rattle.outside.specs.Causes.{HasCause};
@@ -101,7 +103,7 @@ impl MemFiles {
     ///
     /// # Errors
     ///
-    /// `AllocError` where memory is wanting; then each name has the file that it had.
+    /// `AllocError` where memory runs out; then each name has the file that it had.
     #[tactic(auto, using(std::proofs::lemmas::Map::Text::text_keys))]
     pub fn give(
         &mut self,

@@ -1,3 +1,5 @@
+//! A sink in memory whose writings can fail, or take fewer bytes than are offered.
+
 ghost use Rattle.std.specs.Prelude.{◌≡◌, ◌<◌, ◌↔◌, IfOk, IsErr, IsTrue, Some, length, min};
 ghost use Rattle.outside.specs.Causes.{HasCause};
 ghost use Rattle.outside.specs.SinkState.{RefusesNext, after_writing, new_sink, room_left};
@@ -48,7 +50,7 @@ impl MemSink {
     ///
     /// # Errors
     ///
-    /// `AllocError` where memory for the room is wanting.
+    /// `AllocError` where memory for the room runs out.
     pub fn new(alloc: Global, room: u64, piece: u64, fails: Vec<u64>) -> Result<Self, AllocError>
         ensures { IfOk result (λ sink. sink ≡ new_sink room piece fails.items) }
     {
@@ -98,7 +100,7 @@ impl Sink for MemSink {
         count_up(&mut self.calls);
         let left = self.room - self.bytes.len();
         let count = piece.len().min(self.piece.min(left));
-        // The room was taken before, so that no memory is wanting here.
+        // The room was taken before, so that there is memory here.
         if refused || self.bytes.extend_from_slice(&piece[..count]).is_err() {
             count_up(&mut self.faults);
             return Err(Failed);

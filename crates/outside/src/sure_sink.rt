@@ -1,3 +1,5 @@
+//! A sink in memory whose writings never fail while there is room.
+
 ghost use Rattle.std.specs.Prelude.{◌≡◌, ◌<◌, ◌≤◌, ◌↔◌, ◌-◌, [], IfOk, IsErr, Some, length, min};
 ghost use Rattle.outside.specs.Causes.{HasCause};
 ghost use Rattle.outside.specs.SinkState.{after_sure_writing};
@@ -37,7 +39,7 @@ impl SureSink {
     ///
     /// # Errors
     ///
-    /// `AllocError` where memory for the room is wanting.
+    /// `AllocError` where memory for the room runs out.
     pub fn new(alloc: Global, room: u64) -> Result<Self, AllocError>
         ensures { IfOk result (λ sink. sink ≡ record { bytes = []; room = room; faults = 0 }) }
     {
@@ -78,7 +80,7 @@ impl Sink for SureSink {
     {
         let left = self.room - self.bytes.len();
         let count = piece.len().min(left);
-        // The room was taken before, so that no memory is wanting here.
+        // The room was taken before, so that there is memory here.
         if count == 0 || self.bytes.extend_from_slice(&piece[..count]).is_err() {
             count_up(&mut self.faults);
             return Err(Failed);

@@ -69,7 +69,7 @@ impl<R: rt::Files + Drop> Files for OsFiles<R> {
     }
 }
 
-// The system's answer to a writing, with a failure or `Ok(0)` counted.
+// The result of a system's write, with a failure or `Ok(0)` counted.
 fn counted(answer: io::Result<usize>, faults: &mut u64) -> Result<usize, Failed>
     ensures same { MatchResult answer (λ n. result ≡ Ok n) (λ _. IsErr result) }
     ensures counted { faults.new ≡ count_after_writing faults.old result }

@@ -21,7 +21,7 @@ abbrev pub left_text : List Var → Left → List ℕ
 left_text vars (Counter v) = var_name vars v
 left_text vars (Argument n) = codes "$arg[" ++ (decimal n ++ codes "]")
 
--- a condition, and the space behind it
+-- a condition, and the space after it
 abbrev pub cond_text : List Var → Cond → List ℕ
 cond_text vars c = codes "if (" ++ (left_text vars c.left ++ (codes " " ++ (cmp_text c.cmp ++ (codes " " ++ (decimal c.right ++ codes ") ")))))
 

@@ -42,9 +42,13 @@ impl Drop for Tree {
 }
 
 impl Tree {
-    /// The tree of these procedures, object symbols and harts. Modules stand in the order of their first procedures,
+    /// Returns the tree of these procedures, object symbols and harts. Modules stand in the order of their first procedures,
     /// and the procedures of each in the order given. The objects are those symbols that have a good name which begins
     /// with one of the prefixes, in the order given, the first of each name.
+    ///
+    /// # Errors
+    ///
+    /// `NoMemory` where memory runs out.
     pub fn build(
         alloc: Global,
         procs: &[Proc],
@@ -67,7 +71,11 @@ impl Tree {
         })
     }
 
-    /// An equal tree.
+    /// Returns an equal tree.
+    ///
+    /// # Errors
+    ///
+    /// `NoMemory` where memory runs out.
     pub fn copy(&self, alloc: Global) -> Result<Tree, NoMemory>
         ensures { IfOk result (λ copy. copy ≡ self.now) }
     {
@@ -88,7 +96,11 @@ impl Tree {
         }
     }
 
-    /// The numbers of the procedures that the focus selects, in the order of the tree.
+    /// Returns the numbers of the procedures that the focus selects, in the order of the tree.
+    ///
+    /// # Errors
+    ///
+    /// `NoMemory` where memory runs out.
     pub fn procs(&self, alloc: Global, focus: &Focus) -> Result<Vec<u32>, NoMemory>
         ensures { IfOk result (λ procs. procs.items ≡ (part self.now focus.now).procs) }
     {

@@ -72,7 +72,7 @@ blank_draft =
 abbrev pub len_all : List Placed → ℕ
 len_all part = sum_by (λ p. len_of p.at p.statement p.text) part
 
--- where a section ends: behind its start by the lengths of what stands in it
+-- where a section ends: after its start by the lengths of what stands in it
 abbrev pub text_end : Draft → ℕ
 text_end d = text_start + len_all d.text_part
 

@@ -30,7 +30,7 @@ digits_of base (byte ∷ bytes) = digits_from base 0 (byte ∷ bytes)
 abbrev pub kept : ℕ → ℕ
 kept n = min n (2 ^ 64)
 
--- the size of a number without its sign: decimal, or hexadecimal behind `0x`
+-- the size of a number without its sign: decimal, or hexadecimal after `0x`
 unfoldable pub size_of : List ℕ → Option ℕ
 size_of word = option_map kept (if bytes_eq (take 2 word) (codes "0x") then digits_of 16 (drop 2 word) else digits_of 10 word)
 

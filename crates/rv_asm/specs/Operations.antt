@@ -78,7 +78,7 @@ abbrev pub zero_branch_ops : List (List ℕ × BranchOp)
 zero_branch_ops =
     (codes "beqz", branch.Beq) ∷ (codes "bnez", branch.Bne) ∷ []
 
--- an AMO, behind `amo`
+-- an AMO, after `amo`
 abbrev pub atomic_ops : List (List ℕ × AmoOp)
 atomic_ops =
     (codes "swap", amo.Swap) ∷ (codes "add", amo.Add) ∷ (codes "xor", amo.Xor) ∷ (codes "and", amo.And) ∷ (codes "or", amo.Or) ∷ (codes "min", amo.Min) ∷ (codes "max", amo.Max) ∷ (codes "minu", amo.Minu) ∷ (codes "maxu", amo.Maxu) ∷ []

@@ -15,7 +15,7 @@ use Rattle.rv_asm.specs.declared.statement.Statement.TheVariants as the
 
 -- ---- tables
 
--- a mnemonic, and what is made of the text behind it, if this has the shape of its operands
+-- a mnemonic, and what is made of the text after it, if this has the shape of its operands
 abbrev pub Form : Type 0 → Type 0
 Form A = List ℕ × (List ℕ → Option A)
 
@@ -33,7 +33,7 @@ abbrev pub joined : {A : Type 0} → List (List (Form A)) → List (Form A)
 joined [] = []
 joined (group ∷ groups) = group ++ joined groups
 
--- what the row of this name makes of the text behind the name
+-- what the row of this name makes of the text after the name
 abbrev pub made_by : {A : Type 0} → List (Form A) → List ℕ → List ℕ → Option A
 made_by forms name text = option_and_then (λ form. form text) (named name forms)
 
@@ -57,7 +57,7 @@ accesses size =
     ∷ (codes "sc", registers_pointer ⇒ λ r. the.Instruction (instr.Sc size r.0 r.2 r.1 0))
     ∷ amos size
 
--- an atomic access has its width behind its name
+-- an atomic access has its width after its name
 abbrev pub atomics : List (Form Statement)
 atomics = flat_map (λ size. map (λ form. (form.0 ++ size.0, form.1)) (accesses size.1)) atomic_widths
 
@@ -130,6 +130,6 @@ named_forms =
 abbrev pub forms : List (Form Found)
 forms = each (joined plain_forms) (λ form. form ⇒ λ statement. (statement, [])) ++ joined named_forms
 
--- a statement by its name and what stands behind the name
+-- a statement by its name and what stands after the name
 unfoldable pub operation : List ℕ → List ℕ → Option Found
 operation name text = made_by forms name text

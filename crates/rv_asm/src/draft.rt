@@ -22,7 +22,7 @@ pub(crate) const DATA_START: u64 = 0x100_0000;
 pub(crate) enum DeclarationKind {
     /// A procedure.
     Procedure,
-    /// An object of so many bytes.
+    /// An object, with its length in bytes.
     Object(u128),
 }
 

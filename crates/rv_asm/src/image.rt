@@ -21,7 +21,7 @@ fn add_value(out: &mut Vec<u8>, width: ValueWidth, value: u64) -> Result<(), All
     out.extend_from_slice(&bytes[..width.len()])
 }
 
-/// Adds so many zeros.
+/// Adds `count` zeros.
 fn add_zeros(out: &mut Vec<u8>, count: u128) -> Result<(), AllocError>
     ensures { OnOk result (out.new.items ≡ out.old.items ++ replicate count 0) }
 {

@@ -150,7 +150,7 @@ fn named_statement<'a>(name: &[u8], text: &'a [u8]) -> Option<(Statement, &'a [u
     of_form(form, text)
 }
 
-/// A statement by its name and what stands behind it, with the name or the string that it has, else with nothing.
+/// A statement by its name and what stands after it, with the name or the string that it has, else with nothing.
 /// None where it has no form.
 pub(crate) fn operation<'a>(name: &[u8], text: &'a [u8]) -> Option<(Statement, &'a [u8])>
     ensures { option_map {U = Found} (λ found. (found.0, found.1.now)) result ≡ operation name.now text.now }

@@ -114,7 +114,11 @@ fn axes(alloc: Global, hypotheses: &[Hypothesis]) -> Result<Vec<AxisSet>, NoMemo
 }
 
 impl Hypotheses {
-    /// Copies of these hypotheses, with their links.
+    /// Returns copies of these hypotheses, with their links.
+    ///
+    /// # Errors
+    ///
+    /// `NoMemory` where memory runs out.
     pub fn new(alloc: Global, hypotheses: &[Hypothesis]) -> Result<Hypotheses, NoMemory>
         requires { length hypotheses.now < 2 ^ 32 }
         ensures { IfOk result (λ all. all ≡ hypotheses.now) }

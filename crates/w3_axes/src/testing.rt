@@ -1,3 +1,5 @@
+//! The test of a hypothesis.
+
 ghost use Rattle.std.specs.Prelude.{◌≡◌, ◌↔◌, IsTrue};
 ghost use Rattle.w3_axes.specs.Testing.{Holds, holds};
 

@@ -49,7 +49,7 @@ pub record IsHistory (v : SearchData) : Type 0 where
   pub families : length v.nodes < most_nodes → (i : ℕ) (n : Node) → slice_get v.nodes i ≡ Some n → n.state ≡ Confirmed
       → (h : ℕ) (f : Focus) → In (h, f) (children v.rules.hypotheses v.rules.tree n.hypothesis n.focus) → stands (place n.phase h f) v.nodes ≡ true
 
--- each node that waits or is under test is so
+-- this holds of each node that waits or is under test
 abbrev pub AllOpen : (Node → Type 0) → List Node → Type 0
 AllOpen P [] = Unit {0}
 AllOpen P (n ∷ ns) = (is_open n.state ≡ true → P n) × AllOpen P ns

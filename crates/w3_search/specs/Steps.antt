@@ -14,7 +14,7 @@ use Rattle.w3_search.specs.declared.node.NodeState.{NodeState}
 use Rattle.w3_search.specs.declared.node.NodeState.TheVariants.{Confirmed, Rejected, Waiting}
 use Rattle.w3_search.specs.Nodes.{active_of, changed, finished, in_state, is_active, is_active_at, is_confirmed, numbers_from, sampled, unfinished, with_node}
 
--- what a search goes by: the hypotheses, its window, the phases behind the first, and the tree of the foci
+-- what a search goes by: the hypotheses, its window, the phases after the first, and the tree of the foci
 pub record Rules : Type 0 where
   pub hypotheses : List Hypothesis
   pub decl : SearchDecl

@@ -20,7 +20,7 @@ pub enum NodeState {
     Rejected,
     /// It can't be tested.
     Barred(BarCause),
-    /// Its phase or the search ended before its window did, after so many samples.
+    /// Its phase or the search ended before its window did. It had this many samples.
     Unfinished(u32),
 }
 

@@ -17,7 +17,7 @@ pub(crate) fn push_if(numbers: &mut Vec<u32>, wanted: bool, number: u32)
     }
 }
 
-/// Puts numbers behind others.
+/// Puts numbers after others.
 pub(crate) fn push_all(numbers: &mut Vec<u32>, others: &[u32])
     requires room { vec_len numbers.old + length others.now ≤ vec_capacity numbers.old }
     ensures items { numbers.new.items ≡ numbers.old.items ++ others.now }

@@ -32,8 +32,12 @@ impl Model for Search {
 }
 
 impl Search {
-    /// A search by these hypotheses, this declaration and these phases, over the foci of this tree. It keeps copies of them.
+    /// Returns a search by these hypotheses, this declaration and these phases, over the foci of this tree. It keeps copies of them.
     /// It has the roots of the first phase, and takes all its room now: no other call takes memory.
+    ///
+    /// # Errors
+    ///
+    /// `NoMemory` where memory runs out.
     pub fn new(
         alloc: Global,
         hypotheses: &[Hypothesis],

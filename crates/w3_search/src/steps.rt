@@ -70,7 +70,7 @@ pub(crate) fn end_open(nodes: &mut [Node], waiting: &[u32], active: &[u32])
     end_each(nodes, active);
 }
 
-/// Puts a node that waits behind the others.
+/// Puts a node that waits after the others.
 pub(crate) fn push_node(
     list: &mut Vec<Node>,
     phase: u32,
