@@ -153,7 +153,7 @@ impl Due {
         if said { Some(self) } else { None }
     }
 
-    /// The first line of the bytes, without its LF, or None where that is missing.
+    /// Returns the first line of the bytes, without its LF, or None where that is missing.
     pub fn first_line(self, bytes: &[u8]) -> Option<&[u8]>
         ensures line { option_map (λ line. line.now) result ≡ first_line self bytes.now }
         ensures within { IfSome result (λ line. length line.now < length bytes.now) }
@@ -186,7 +186,7 @@ impl Due {
         }
     }
 
-    /// Whether a report may end here.
+    /// Returns whether a report may end here.
     pub fn may_end(self) -> bool
         ensures { result ≡ may_end self }
     {

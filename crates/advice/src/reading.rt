@@ -26,8 +26,8 @@ fn add_told(verdicts: &mut Vec<Verdict>, told: Option<Verdict>) -> Result<(), No
 ///
 /// # Errors
 ///
-/// A fault at the first byte of the first line that doesn't have the form that is due, or at the end where a line is missing; or out
-/// of memory.
+/// Out of memory, or a fault at the first byte of the first line that doesn't have the form that is due, or at the end
+/// where a line is missing.
 pub fn read_verdicts(alloc: Global, report: &[u8]) -> Result<Vec<Verdict>, ReportError>
     ensures told { Tells result (verdicts_of report.now) }
     ensures ticks { IfOk result (λ verdicts. All HasTicks verdicts.items) }

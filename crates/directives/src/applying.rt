@@ -87,8 +87,8 @@ fn act_on(alloc: Global, standing: &mut Standing, act: &DirectiveAct) -> Result<
 ///
 /// # Errors
 ///
-/// Out of memory, or `UnknownName` at the first directive whose name is no hypothesis that still stands, and `WrongKind` at the first
-/// whose axis isn't among those of its hypothesis; the line is that of the directive, and the column 0.
+/// Out of memory, or `UnknownName` at the first directive whose name is no hypothesis that still stands, and `WrongKind` at
+/// the first whose axis isn't among those of its hypothesis; the line is that of the directive, and the column 0.
 pub fn apply(
     alloc: Global,
     conf: &Conf,

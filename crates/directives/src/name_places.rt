@@ -14,7 +14,7 @@ pub(crate) struct NamePlaces {
     places: IndexMap<Vec<u8>, Vec<usize>>,
 }
 
-// By a call of its own: what drops it need not prove the drops of all its parts.
+// A function of its own, so that what drops it need not prove the drops of all its parts.
 impl Drop for NamePlaces {
     fn drop(self) {
         let NamePlaces { places: _ } = self;

@@ -42,14 +42,14 @@ pub fn doubleword(bytes: &[u8], at: usize) -> u64
     LittleEndian::read_u64(&bytes[at..])
 }
 
-/// Whether a number of things from a place on end within a length.
+/// Returns whether a number of things from a place on end within a length.
 pub fn ends_within(at: u64, count: u64, len: u64) -> bool
     ensures { result ≡ nat_le (at + count) len }
 {
     at <= len && count <= len - at
 }
 
-/// Whether a part of a file reaches past its length. A part of size 0 never does, wherever it lies.
+/// Returns whether a part of a file reaches past its length. A part of size 0 never does, wherever it lies.
 pub fn reaches_past(at: u64, size: u64, len: u64) -> bool
     ensures { result ≡ reaches_past at size len }
 {

@@ -37,7 +37,7 @@ impl Load {
         }
     }
 
-    /// The lowest address that the segment shares with another.
+    /// Returns the lowest address that the segment shares with another.
     pub fn shared(&self, other: &Load) -> Option<u64>
         requires this { self.now.header.address + self.now.header.memory_size < 2 ^ 64 }
         requires that { other.now.header.address + other.now.header.memory_size < 2 ^ 64 }
@@ -49,7 +49,7 @@ impl Load {
         if start < end { Some(start) } else { None }
     }
 
-    /// Whether a range lies in the file part of the segment.
+    /// Returns whether a range lies in the file part of the segment.
     pub fn is_around(&self, range: &TextRange) -> bool
         requires { self.now.header.address + self.now.header.file_size < 2 ^ 64 }
         ensures { result ≡ is_around self.now range.now }

@@ -68,14 +68,14 @@ impl Hist {
         self.count += 1;
     }
 
-    /// The bins, in the order of the samples.
+    /// Returns the bins, in the order of the samples.
     pub fn bins(&self) -> &[Bin]
         ensures { result.now ≡ self.now.bins }
     {
         self.bins.list.as_slice()
     }
 
-    /// How many samples a bin is the sum of; the last one may have fewer.
+    /// Returns how many samples a bin is the sum of; the last one may have fewer.
     pub fn width(&self) -> u64
         ensures value { result ≡ self.now.width }
         ensures least { IsWidth self.now.most self.now.count result }

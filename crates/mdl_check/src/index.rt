@@ -79,7 +79,7 @@ pub(crate) struct Kept<'a> {
     places: Vec<usize>,
 }
 
-// By a call of its own: what drops it need not prove the drops of all its parts.
+// A function of its own, so that what drops it need not prove the drops of all its parts.
 impl Drop for Kept<'_> {
     fn drop(self) {
         let Kept {

@@ -46,7 +46,7 @@ impl Model for PlanIndex {
     ghost invariant = { λ i. IsIndexOf i.procs i.points i.names i.places };
 }
 
-// By a call of its own: what drops it need not prove the drops of all its parts.
+// A function of its own, so that what drops it need not prove the drops of all its parts.
 impl Drop for PlanIndex {
     fn drop(self) {
         let PlanIndex {
@@ -144,7 +144,7 @@ impl PointPlaces {
 }
 
 impl PlanIndex {
-    /// The index of these procedures and points. The work is linear in both.
+    /// Returns the index of these procedures and points. The work is linear in both.
     ///
     /// # Errors
     ///

@@ -32,7 +32,7 @@ pub(crate) struct Planner<'a> {
     terms: Terms,
 }
 
-// By a call of its own: what drops it need not prove the drops of all its parts.
+// A function of its own, so that what drops it need not prove the drops of all its parts.
 impl Drop for Planner<'_> {
     fn drop(self) {
         let Planner {

@@ -67,12 +67,12 @@ fn planned(
 /// For each procedure at whose entry at least one entry statement stands, the plan has its range and these statements, by
 /// address: they tell a warm start what an open procedure has counted and started.
 ///
-/// A plan has one to three variables, and at most 4,096 sites at addresses of the points, each with 1 to 32 statements. A
-/// procedure that is told has as many.
-/// Where what was checked was parsed or shipped, a statement has at most 18 conditions, so that the plan's mini blocks have
-/// at most 13,373,440 words together. Where besides the tree's objects lie below 2^31, as those of every image do, and the
-/// points ascend, the tool's code measures the plan: the conditions are on counters of the plan and on the arguments 0 to
-/// 7, a statement counts a counter or starts and stops a timer, and no number in it is 2^31 or above.
+/// A plan has one to three variables, and at most 4,096 sites at addresses of the points, each with 1 to 32 statements, as
+/// many as a procedure with its range has. Where what was checked was parsed or shipped, a statement has at most 18
+/// conditions, so that the plan's mini blocks have at most 13,373,440 words together. Where moreover the tree's objects lie
+/// below 2^31, as those of every image do, and the points ascend, the tool's code measures the plan: the conditions are on
+/// counters of the plan and on the arguments 0 to 7, a statement counts a counter or starts and stops a timer, and no number
+/// in it is 2^31 or above.
 ///
 /// The tree's procedures are the index's, and the points are theirs, by address. The work is n log n in the points of the
 /// procedures that the insertions select, and linear in the configuration's constraints, which are looked through for each

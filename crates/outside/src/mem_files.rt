@@ -78,7 +78,7 @@ impl MemFile {
     }
 }
 
-/// Files in memory, whose readings fail at the calls that they are told.
+/// Files in memory whose readings fail at chosen calls.
 ///
 /// A name that was not given holds the empty list, and its readings never fail.
 #[derive(Drop)]
@@ -87,7 +87,7 @@ pub struct MemFiles {
 }
 
 impl MemFiles {
-    /// No file is given yet. This takes no memory.
+    /// Returns files of which none is given yet. This takes no memory.
     pub fn new(alloc: Global) -> Self
         ensures { (name : List ℕ) → file_of result name ≡ None }
     {

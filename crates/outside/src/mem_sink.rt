@@ -9,7 +9,7 @@ use crate::{Failed, Sink};
 use std::alloc::{AllocError, Global};
 use std::marker::Model;
 
-/// A sink in memory that fails at the calls that it is told, and takes no more than some bytes at each call.
+/// A sink in memory that fails at chosen calls, and takes a limited number of bytes at each call.
 ///
 /// It takes its room when it is made, and a call that finds no room fails.
 #[derive(Drop)]
@@ -45,7 +45,7 @@ impl Model for MemSink {
 }
 
 impl MemSink {
-    /// An empty sink with room for `room` bytes, which takes at most `piece` bytes at each call. The calls are
+    /// Returns an empty sink with room for `room` bytes, which takes at most `piece` bytes at each call. The calls are
     /// numbered from 0, and those whose numbers stand in `fails` fail.
     ///
     /// # Errors
@@ -64,7 +64,7 @@ impl MemSink {
         })
     }
 
-    /// The bytes that it has, in the order in which they were written.
+    /// Returns the bytes that it has, in the order in which they were written.
     pub fn bytes(&self) -> &[u8]
         ensures { result.now ≡ self.now.bytes }
     {

@@ -18,7 +18,7 @@ pub struct SureFiles {
 }
 
 impl SureFiles {
-    /// No file is given yet. This takes no memory.
+    /// Returns files of which none is given yet. This takes no memory.
     pub fn new(alloc: Global) -> Self
         ensures { (name : List ℕ) → content_of result name ≡ [] }
     {

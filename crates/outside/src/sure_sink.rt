@@ -35,7 +35,7 @@ impl Model for SureSink {
 }
 
 impl SureSink {
-    /// An empty sink with room for `room` bytes.
+    /// Returns an empty sink with room for `room` bytes.
     ///
     /// # Errors
     ///
@@ -50,7 +50,7 @@ impl SureSink {
         })
     }
 
-    /// The bytes that it has, in the order in which they were written.
+    /// Returns the bytes that it has, in the order in which they were written.
     pub fn bytes(&self) -> &[u8]
         ensures { result.now ≡ self.now.bytes }
     {

@@ -45,7 +45,7 @@ fn behind_blanks(text: &[u8], place: Place) -> Place
 }
 
 impl<'a> Scanner<'a> {
-    /// A scanner of the text, which is shorter than 2^32 - 1 bytes, so that lines and columns fit.
+    /// Returns a scanner of the text, which is shorter than 2^32 - 1 bytes, so that lines and columns fit.
     pub fn new(text: &'a [u8]) -> Scanner<'a>
         requires { length text.now + 1 < 2 ^ 32 }
         ensures tokens { result ≡ tokens_of text.now }
@@ -83,7 +83,7 @@ impl<'a> Scanner<'a> {
         }))
     }
 
-    /// The place after all that was read: where the next token begins, or the fault, or where the text ends.
+    /// Returns the place after all that was read: where the next token begins, or the fault, or where the text ends.
     pub fn place(&self) -> Place
         ensures { result ≡ place_of self.now }
     {

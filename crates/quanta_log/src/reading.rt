@@ -112,8 +112,8 @@ fn settings_of(version: Version, bytes: &[u8]) -> Settings
 ///
 /// # Errors
 ///
-/// The first fault of the bytes, or out of memory. It is looked in this order at how the bytes begin, whether the head is whole, its
-/// fields, whether the entries are whole, their fields, and whether there are bytes after them.
+/// Out of memory, or the first fault of the bytes: of how they begin, whether the head is whole, its fields, whether the
+/// entries are whole, their fields, and whether there are bytes after them.
 #[tactic(auto, unfolding(crate::specs::Meaning::meaning_of, crate::specs::Meaning::log_fault))]
 pub fn read(alloc: Global, bytes: &[u8]) -> Result<(Settings, Vec<Quantum>), LogError>
     ensures meaning { Means result (meaning_of bytes.now) }

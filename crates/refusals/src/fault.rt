@@ -32,7 +32,7 @@ pub enum Fault {
 }
 
 impl Fault {
-    /// The status of the program.
+    /// Returns the status of the program.
     pub fn status(&self) -> u8
         ensures { result ≡ fault_status self.now }
     {

@@ -28,7 +28,7 @@ impl From<NoMemory> for Refusal {
     }
 }
 
-/// The refusal of bytes that are no log.
+/// Returns the refusal of bytes that are no log.
 pub fn bad_log(fault: LogFault) -> Refusal
     ensures { result ≡ Refusal.Fault (log_fault_at fault) }
 {

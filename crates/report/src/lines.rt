@@ -77,8 +77,8 @@ fn add_output(alloc: Global, out: &mut Vec<u8>, output: &[u8]) -> Result<(), NoM
     out.extend_from_slice(b"\n")
 }
 
-/// Returns the text of a report. The number `skipped` is that of the function symbols that are no procedures. The harts' ticks
-/// together are below 2^64.
+/// Returns the text of a report. The number `skipped` is that of the function symbols that are no procedures. The harts'
+/// ticks together are below 2^64.
 ///
 /// # Errors
 ///

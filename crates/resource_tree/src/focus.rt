@@ -140,7 +140,7 @@ impl Tree {
         self.named(text)
     }
 
-    /// The focus that a text selects. None exactly where the text hasn't the form of a focus, or names no node.
+    /// Returns the focus that a text selects. None exactly where the text hasn't the form of a focus, or names no node.
     pub fn selected(&self, text: &[u8]) -> Option<Focus>
         ensures selects { Selects self.now text.now result }
         ensures in_tree { IfSome result (IsFocusOf self.now) }

@@ -30,7 +30,7 @@ impl Model for Tree {
     ghost invariant = { λ t. IsBounded (record { code = t.code; objects = t.objects; harts = t.harts }) };
 }
 
-// By a call of its own: what drops it need not prove the drops of all its parts.
+// A function of its own, so that what drops it need not prove the drops of all its parts.
 impl Drop for Tree {
     fn drop(self) {
         let Tree {
@@ -86,7 +86,7 @@ impl Tree {
         })
     }
 
-    /// The first hart that the focus selects, and how many it selects.
+    /// Returns the first hart that the focus selects, and how many it selects.
     pub fn harts(&self, focus: &Focus) -> (u32, u32)
         ensures { result ≡ harts_of self.now.harts focus.now.hart }
     {
@@ -114,7 +114,7 @@ impl Tree {
         }
     }
 
-    /// The address of the object that the focus selects. None exactly where it selects none.
+    /// Returns the address of the object that the focus selects. None exactly where it selects none.
     pub fn object_at(&self, focus: &Focus) -> Option<u64>
         ensures { result ≡ (part self.now focus.now).object }
     {

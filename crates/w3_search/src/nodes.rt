@@ -44,7 +44,7 @@ impl Model for Nodes {
     ghost invariant = { λ n. IsIndexed n.list.items n.index n.waiting.items n.active.items × HasRoom n.list n.waiting n.active n.next_active };
 }
 
-// By a call of its own: what drops it need not prove the drops of all its parts.
+// A function of its own, so that what drops it need not prove the drops of all its parts.
 impl Drop for Nodes {
     fn drop(self) {
         let Nodes {

@@ -55,9 +55,9 @@ impl Search {
         Ok(Search { state })
     }
 
-    /// A due work at tick t with these samples. One of a node that isn't under test, or of a number that no node has, is
-    /// passed over, and so is one with which the node's ticks would pass 64 bits. It gives the number of instruments that
-    /// are to be dropped.
+    /// Does the due work of tick `t` with these samples, and returns how many instruments are to be dropped. A sample of a node
+    /// that isn't under test, or of a number that no node has, is passed over, and so is one with which the node's ticks
+    /// would pass 64 bits.
     pub fn on_sample(&mut self, t: u64, samples: &[NodeSample]) -> u32
         ensures state { self.new ≡ spec.search_step t samples.now self.old }
         ensures drops { result ≡ length self.new.drops }
@@ -66,15 +66,15 @@ impl Search {
         self.state.drops().len() as u32
     }
 
-    /// The nodes that the last due work ended while they were under test, whose instruments are to be dropped: those with a
-    /// verdict first, then those that a phase ended, each by number.
+    /// Returns the nodes that the last due work ended while they were under test, whose instruments are to be dropped:
+    /// those with a verdict first, then those that a phase ended, each by number.
     pub fn drops(&self) -> &[u32]
         ensures { result.now ≡ self.now.drops }
     {
         self.state.drops()
     }
 
-    /// The numbers of the nodes that wait, which are of the present phase.
+    /// Returns the numbers of the nodes that wait, which are of the present phase.
     pub fn waiting(&self) -> &[u32]
         ensures waiting { result.now ≡ waiting_of self.now.nodes }
         ensures here { AreHere self.now.present self.now.nodes }
@@ -105,7 +105,7 @@ impl Search {
         self.state.end();
     }
 
-    /// The nodes in the order in which they were made, which are a history of the search whatever was called before.
+    /// Returns the nodes in the order in which they were made, which are a history of the search whatever was called before.
     pub fn nodes(&self) -> &[Node]
         ensures nodes { result.now ≡ self.now.nodes }
         ensures history { IsHistory self.now }

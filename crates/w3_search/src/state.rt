@@ -48,7 +48,7 @@ impl Model for State {
     ghost invariant = { λ s. IsState s.decl.window s.phases.items s.nodes s.present s.drops };
 }
 
-// By a call of its own: what drops it need not prove the drops of all its parts.
+// A function of its own, so that what drops it need not prove the drops of all its parts.
 impl Drop for State {
     fn drop(self) {
         let State {

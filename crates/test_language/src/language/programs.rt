@@ -30,7 +30,7 @@ fn object(alloc: Global, name: &[u8], at: u64) -> Result<Symbol, NoMemory> {
     })
 }
 
-/// The tree of a program that isn't large.
+/// Returns the tree of a program that isn't large.
 pub fn tree_of(
     alloc: Global,
     procs: &[Proc],
@@ -113,13 +113,13 @@ fn with_procedures(alloc: Global, procs: &[Proc]) -> Option<Tree> {
     with_objects(alloc, procs, &objects)
 }
 
-/// A program of three modules with three objects in 32 harts.
+/// Returns a program of three modules with three objects in 32 harts.
 pub fn three_modules(alloc: Global) -> Option<Tree> {
     let procs = procedures(alloc, &PROCEDURES).ok()?;
     with_procedures(alloc, &procs)
 }
 
-/// A program of one procedure `main` in two harts.
+/// Returns a program of one procedure `main` in two harts.
 pub fn one_procedure(alloc: Global) -> Option<Tree> {
     let procs = main_alone(alloc).ok()?;
     tree_of(alloc, &procs, &[], 2, &[])

@@ -11,7 +11,7 @@ use std::io;
 /// The most bytes that a text has: those after are left out.
 const MAX_LEN: usize = 65_536;
 
-/// What stands before the first space, and after it.
+/// Returns what stands before the first space, and after it.
 pub fn split(text: &str) -> (&str, &str) {
     match text.split_once(' ') {
         Some((word, rest)) => (word, rest),
@@ -33,7 +33,7 @@ pub fn bytes_of(alloc: Global, text: &str) -> Result<Vec<u8>, NoMemory>
     Ok(bytes)
 }
 
-/// The text that stands for these bytes.
+/// Returns the text that stands for these bytes.
 pub fn shown(bytes: &[u8]) -> PercentEncode<'_> {
     percent_encode(bytes, CONTROLS)
 }
