@@ -61,4 +61,6 @@ AdviceIsRead = (vs : List Verdict) → All IsNamed vs → IsDirectives (advice v
 
 -- What a readable report advises is spelled so: its hypotheses have names that a directive can name.
 abbrev pub ReportIsAdvised : Type 0
-ReportIsAdvised = (parts : ReportParts) (skipped : ℕ) → IsReadable parts skipped → IsDirectives (advice (verdicts_in parts)) (advised (verdicts_in parts))
+ReportIsAdvised =
+    (parts : ReportParts) (skipped : ℕ) → IsReadable parts skipped
+    → IsDirectives (advice (verdicts_in parts)) (advised (verdicts_in parts))

@@ -35,7 +35,8 @@ abbrev pub verdicts_from : Due → ℕ → ℕ → List ℕ → Result (List Ver
 verdicts_from due at passed [] = if may_end due then Ok [] else Err (BadReport at)
 verdicts_from due at (suc passed) (byte ∷ bytes) = verdicts_from due (at + 1) passed bytes
 verdicts_from due at zero (byte ∷ bytes) =
-    option_map_or (λ s. onto (option_to_list s.told) (verdicts_from s.next (at + 1) s.length bytes)) (step due (byte ∷ bytes)) (Err (BadReport at))
+    option_map_or (λ s. onto (option_to_list s.told) (verdicts_from s.next (at + 1) s.length bytes))
+    (step due (byte ∷ bytes)) (Err (BadReport at))
 
 -- the verdicts of a report in the order of their lines, or its first fault
 abbrev pub verdicts_of : List ℕ → Result (List Verdict) ReportFault

@@ -31,7 +31,8 @@ functions_of image = by_address (filter (λ s. is_func s.kind) image.symbols)
 -- a good name, and at least one whole word, all in the text
 abbrev pub can_be_procedure : Image → Symbol → Bool
 can_be_procedure image s =
-    is_good_name s.name && (s.at % 4 == 0) && (s.size % 4 == 0) && nat_lt 0 s.size && nat_le image.text_at s.at && nat_le (s.at + s.size) (image.text_at + image.text_len)
+    is_good_name s.name && (s.at % 4 == 0) && (s.size % 4 == 0) && nat_lt 0 s.size && nat_le image.text_at s.at
+    && nat_le (s.at + s.size) (image.text_at + image.text_len)
 
 -- an address of the symbol is one of the procedure's
 abbrev pub overlaps : Symbol → Proc → Bool

@@ -102,7 +102,8 @@ acted (First name) items = with_first name items
 -- ---- directives, in their order
 
 -- those after one that has no fault, or its fault
-abbrev pub go_on : (List Item → Result (List Item) DirectiveFault) → Directive → List Item → Option DirectiveKind → Result (List Item) DirectiveFault
+abbrev pub go_on : (List Item → Result (List Item) DirectiveFault) → Directive → List Item → Option DirectiveKind
+    → Result (List Item) DirectiveFault
 go_on more d items None = more (acted d.act items)
 go_on more d items (Some kind) = Err (record { line = d.line; col = 0; kind = kind })
 

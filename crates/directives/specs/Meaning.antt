@@ -62,7 +62,9 @@ Refuses error.NoMemory why = Unit {0}
 
 -- it spells one list of directives at most
 abbrev pub OneDirectives : Type 0
-OneDirectives = (text : List ℕ) (directives others : List Directive) → IsDirectives text directives → IsDirectives text others → directives ≡ others
+OneDirectives =
+    (text : List ℕ) (directives others : List Directive) → IsDirectives text directives → IsDirectives text others
+    → directives ≡ others
 
 -- it has one fault at most, at one place
 abbrev pub OneFault : Type 0
@@ -77,4 +79,5 @@ DirectivesOrFault = (text : List ℕ) (directives : List Directive) (line col : 
 -- each text spells directives or has a fault
 abbrev pub AlwaysMeans : Type 0
 AlwaysMeans = (text : List ℕ) →
-    ((directives : List Directive) × IsDirectives text directives) ⊎ ((line : ℕ) × (col : ℕ) × (kind : DirectiveKind) × IsFault text line col kind)
+    ((directives : List Directive) × IsDirectives text directives)
+    ⊎ ((line : ℕ) × (col : ℕ) × (kind : DirectiveKind) × IsFault text line col kind)

@@ -104,7 +104,8 @@ pub fn apply(
     // The objects of the tree come from these.
     ensures prefixes { IfOk result (λ made. prefixes_of shipped.now.items made.items ≡ prefixes_of shipped.now.items conf.now.items) }
     // The check asks that there are few items, and tells more where their statements are small.
-    ensures few { IfOk result (λ made. length (placed_items shipped.now.items made.items) ≤ length (placed_items shipped.now.items conf.now.items)) }
+    ensures few { IfOk result (λ made. length (placed_items shipped.now.items made.items)
+        ≤ length (placed_items shipped.now.items conf.now.items)) }
     ensures small { AllByRecursion HasSmall conf.now.items → IfOk result (λ made. AllByRecursion HasSmall made.items) }
 {
     let items = expanded(alloc, shipped.items.as_slice(), conf.items.as_slice())?;

@@ -51,7 +51,8 @@ impl NamePlaces {
 
     /// Puts a place under a name, after those that are there.
     pub(crate) fn push(&mut self, alloc: Global, name: &[u8], place: usize) -> Result<(), NoMemory>
-        ensures { OnOk result ((other : List ℕ) → under self.new other ≡ with_number (bytes_eq other name.now) place (under self.old other)) }
+        ensures { OnOk result ((other : List ℕ)
+            → under self.new other ≡ with_number (bytes_eq other name.now) place (under self.old other)) }
     {
         add_place(alloc, &mut self.places, name, place)
     }

@@ -61,8 +61,10 @@ fn note_item(
     item: &Item,
     place: usize,
 ) -> Result<(), NoMemory>
-    ensures named { OnOk result ((name : List ℕ) → under named.new name ≡ with_number (is_named name item.now) place (under named.old name)) }
-    ensures children { OnOk result ((name : List ℕ) → under children.new name ≡ with_number (is_child name item.now) place (under children.old name)) }
+    ensures named { OnOk result ((name : List ℕ)
+        → under named.new name ≡ with_number (is_named name item.now) place (under named.old name)) }
+    ensures children { OnOk result ((name : List ℕ)
+        → under children.new name ≡ with_number (is_child name item.now) place (under children.old name)) }
 {
     let Item::Hypothesis(hypothesis) = item else {
         return Ok(());

@@ -41,7 +41,10 @@ load_faults len place (l ∷ ls) = load_fault len place l ∷ load_faults len (p
 
 -- the lowest address that two segments have
 abbrev pub shared : Load → Load → Option ℕ
-shared l m = if nat_lt (max l.header.address m.header.address) (min (end_of l) (end_of m)) then Some (max l.header.address m.header.address) else None
+shared l m =
+    if nat_lt (max l.header.address m.header.address) (min (end_of l) (end_of m))
+    then Some (max l.header.address m.header.address)
+    else None
 
 -- the lower of two addresses, as far as there are any
 abbrev pub lower : Option ℕ → Option ℕ → Option ℕ

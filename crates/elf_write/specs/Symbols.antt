@@ -22,7 +22,10 @@ type_of Object = 1
 
 -- the entry of a symbol with a binding: STB_LOCAL (0), or STB_GLOBAL (1), which is 16 in st_info
 abbrev pub entry_with : ℕ → Symbol → Named
-entry_with binding s = record { name = s.name; entry = record { info = binding + type_of s.kind; section = 1; value = s.at; size = s.size } }
+entry_with binding s = record {
+  name = s.name;
+  entry = record { info = binding + type_of s.kind; section = 1; value = s.at; size = s.size };
+}
 
 -- the entry of a source file: STT_FILE and SHN_ABS
 abbrev pub file_entry : List ℕ → Named

@@ -58,7 +58,12 @@ pub record Histogram : Type 0 where
 
 -- The histogram of these samples, in at most c bins.
 abbrev pub hist_of : ℕ → List Bin → Histogram
-hist_of c samples = record { most = c; count = length samples; width = width_of c (length samples); bins = bins_of (width_of c (length samples)) samples }
+hist_of c samples = record {
+  most = c;
+  count = length samples;
+  width = width_of c (length samples);
+  bins = bins_of (width_of c (length samples)) samples;
+}
 
 -- there are samples whose histogram this is
 pub record IsHistogram (h : Histogram) : Type 0 where

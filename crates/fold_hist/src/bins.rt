@@ -33,7 +33,9 @@ impl Bins {
         requires width { 0 < self.old.width }
         requires room { count % self.old.width ≡ 0 → vec_len self.old.list < vec_capacity self.old.list }
         ensures width { self.new.width ≡ self.old.width }
-        ensures list { self.new.list.items ≡ (if count % self.old.width == 0 then self.old.list.items ++ sample ∷ [] else with_last self.old.list.items sample) }
+        ensures list { self.new.list.items ≡ (if count % self.old.width == 0
+            then self.old.list.items ++ sample ∷ []
+            else with_last self.old.list.items sample) }
         ensures capacity { vec_capacity self.old.list ≤ vec_capacity self.new.list }
     {
         if count % self.width == 0 {

@@ -29,7 +29,8 @@ impl Model for Hist {
 
     ghost view = { λ h. record { most = h.most; count = h.count; width = h.bins.width; bins = h.bins.list.items } };
 
-    ghost invariant = { λ h. (h.most ≤ vec_capacity h.bins.list) × IsHistogram (record { most = h.most; count = h.count; width = h.bins.width; bins = h.bins.list.items }) };
+    ghost invariant = { λ h. (h.most ≤ vec_capacity h.bins.list)
+        × IsHistogram (record { most = h.most; count = h.count; width = h.bins.width; bins = h.bins.list.items }) };
 }
 
 impl Hist {
@@ -58,7 +59,8 @@ impl Hist {
         requires { self.old.count < 2 ^ 32 }
 
         // Of whatever samples it was made, it is then that of these and the new one.
-        ensures samples { (samples : List Sample) → self.old ≡ hist_of self.old.most samples → self.new ≡ hist_of self.old.most (samples ++ record { from = from; to = to; sum = sum } ∷ []) }
+        ensures samples { (samples : List Sample) → self.old ≡ hist_of self.old.most samples
+            → self.new ≡ hist_of self.old.most (samples ++ record { from = from; to = to; sum = sum } ∷ []) }
         ensures pushed { self.new ≡ pushed self.old (record { from = from; to = to; sum = sum }) }
         ensures most { self.new.most ≡ self.old.most }
         ensures count { self.new.count ≡ self.old.count + 1 }

@@ -100,7 +100,9 @@ is_orphan all None = false
 is_orphan all (Some parent) = not (stands hypothesis_name parent all)
 
 abbrev pub is_metric_unknown : List Entry → TheMetric → Bool
-is_metric_unknown all m = list_any (λ name. not (is_some (constraint_named (constraints_in all) name))) m.constraints || have uses.OtherName (Some m.name) m.blocks
+is_metric_unknown all m =
+    list_any (λ name. not (is_some (constraint_named (constraints_in all) name))) m.constraints
+    || have uses.OtherName (Some m.name) m.blocks
 
 abbrev pub is_hypothesis_unknown : List Entry → TheHypothesis → Bool
 is_hypothesis_unknown all h = not (is_some (metric_number all h.metric)) || is_orphan all h.parent || not (list_all is_axis h.axes)

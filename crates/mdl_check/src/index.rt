@@ -33,7 +33,8 @@ impl<'a> Model for ConstraintUse<'a> {
 
     ghost view = { λ u. u.constraint.now };
 
-    ghost invariant = { λ u. (u.as_counter ≡ have uses.AsCounter None u.constraint.now.blocks) × (u.as_timer ≡ have uses.AsTimer None u.constraint.now.blocks) };
+    ghost invariant = { λ u. (u.as_counter ≡ have uses.AsCounter None u.constraint.now.blocks)
+        × (u.as_timer ≡ have uses.AsTimer None u.constraint.now.blocks) };
 }
 
 impl<'a> ConstraintUse<'a> {

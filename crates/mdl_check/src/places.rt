@@ -40,7 +40,9 @@ fn add_taken<'a>(
     include: Include,
     item: &'a Item,
 ) -> Result<(), NoMemory>
-    ensures { OnOk result (placed_items.new.items ≡ (if is_taken include.metrics item.now then placed_items.old.items ++ (placed include.line item.now ∷ []) else placed_items.old.items)) }
+    ensures { OnOk result (placed_items.new.items ≡ (if is_taken include.metrics item.now
+        then placed_items.old.items ++ (placed include.line item.now ∷ [])
+        else placed_items.old.items)) }
 {
     if is_taken(include.metrics, item) {
         placed_items.push(PlacedItem::new(include.line, item))?;

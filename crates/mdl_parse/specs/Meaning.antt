@@ -58,8 +58,9 @@ lex_kind (lex.BigNumber place) = kind.BigNumber
 -- The first fault of a text, which stands at this line and column.
 pub data IsFault (text : List ℕ) : ℕ → ℕ → SyntaxKind → Type 0 where
   -- a word can't follow those before it
-  AtWord : (before : List PlacedWord) (placed : PlacedWord) (after : List PlacedWord) (why : Refusal) → placed_words text ≡ before ++ (placed ∷ after) →
-      Begin most_conditions before → CantFollow why (before ++ (placed ∷ [])) → IsFault text placed.line placed.col (refusal_kind why)
+  AtWord : (before : List PlacedWord) (placed : PlacedWord) (after : List PlacedWord) (why : Refusal)
+      → placed_words text ≡ before ++ (placed ∷ after)
+      → Begin most_conditions before → CantFollow why (before ++ (placed ∷ [])) → IsFault text placed.line placed.col (refusal_kind why)
   -- the words have no fault, but after them stands something that is no word
   AtBytes : (fault : LexFault) → (tokens_of text).ending ≡ AtFault fault → Begin most_conditions (placed_words text) →
       IsFault text (fault_place fault).line (fault_place fault).col (lex_kind fault)

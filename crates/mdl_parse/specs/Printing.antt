@@ -90,7 +90,9 @@ abbrev pub block_lines : ℕ → Block → List Line
 block_lines level b = (level, block_head b) ∷ (map (insertion_line (level + 1)) b.insertions ++ (close_line level ∷ []))
 
 abbrev pub base_words : Metric → List Word
-base_words m = keyword (codes "base") ∷ keyword (codes "is") ∷ keyword (if m.timer then codes "timer" else codes "counter") ∷ (initially_words m.initially ++ (SignWord OpenBrace ∷ []))
+base_words m =
+    keyword (codes "base") ∷ keyword (codes "is") ∷ keyword (if m.timer then codes "timer" else codes "counter")
+    ∷ (initially_words m.initially ++ (SignWord OpenBrace ∷ []))
 
 abbrev pub reference_line : List ℕ → Line
 reference_line name = (1, reference_words name)

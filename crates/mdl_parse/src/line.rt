@@ -101,7 +101,8 @@ fn add_gap(out: &mut Vec<u8>, left: Seen, right: Seen) -> Result<(), NoMemory>
 
 /// Adds the word that stands after another.
 fn add_next(alloc: Global, out: &mut Vec<u8>, left: Seen, word: Seen) -> Result<(), NoMemory>
-    ensures { OnOk result (out.new.items ≡ out.old.items ++ (gap (word_seen left.entry) (word_seen word.entry) ++ word_text (word_seen word.entry))) }
+    ensures { OnOk result (out.new.items
+        ≡ out.old.items ++ (gap (word_seen left.entry) (word_seen word.entry) ++ word_text (word_seen word.entry))) }
 {
     add_gap(out, left, word)?;
     add_word(alloc, out, word)

@@ -69,7 +69,8 @@ fn push_at(rows: &mut [Row], place: usize, number: usize) -> Result<(), NoMemory
 /// Adds a row of one number for a procedure.
 fn add_row(alloc: Global, rows: &mut Vec<Row>, proc_no: u32, number: usize) -> Result<(), NoMemory>
     ensures owner { OnOk result (map (λ r. r.proc_no) rows.new.items ≡ map (λ r. r.proc_no) rows.old.items ++ proc_no ∷ []) }
-    ensures added { OnOk result (map (λ r. r.numbers.items) rows.new.items ≡ map (λ r. r.numbers.items) rows.old.items ++ (number ∷ []) ∷ []) }
+    ensures added { OnOk result (map (λ r. r.numbers.items) rows.new.items
+        ≡ map (λ r. r.numbers.items) rows.old.items ++ (number ∷ []) ∷ []) }
     ensures kept { OnErr result (rows.new.items ≡ rows.old.items) }
 {
     let numbers = vec![in alloc; number]?;

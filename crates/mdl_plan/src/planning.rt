@@ -101,7 +101,8 @@ pub fn plan(
     ensures few_conds { IsSound checked.now → IfOk result HasFewConds }
     ensures cost { IsSound checked.now → IfOk result (λ plan. predicted plan ≤ most_words) }
     // The tree of an image's objects has low ones, and the points of an image ascend.
-    ensures measurable { IsSound checked.now → HasLowObjects tree.now → IsStrictlyIncreasing (map (λ p. p.at) index.now.points) → IfOk result IsMeasurable }
+    ensures measurable { IsSound checked.now → HasLowObjects tree.now
+        → IsStrictlyIncreasing (map (λ p. p.at) index.now.points) → IfOk result IsMeasurable }
 {
     let metric = &checked.metrics.as_slice()[metric as usize];
     let active = active_at(checked.constraints.as_slice(), metric, focus)?;

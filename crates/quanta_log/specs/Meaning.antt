@@ -50,7 +50,12 @@ settings_of Two b = settings_with b (start_of (number 4 b 40)) (number 4 b 44)
 
 -- the quantum of an entry at a place
 abbrev pub quantum_at : Version → List ℕ → ℕ → Quantum
-quantum_at One b at = record { worker = number 4 b at; hart = number 4 b (at + 4); turns = number 4 b (at + 8); owns = number 4 b (at + 12) }
+quantum_at One b at = record {
+  worker = number 4 b at;
+  hart = number 4 b (at + 4);
+  turns = number 4 b (at + 8);
+  owns = number 4 b (at + 12);
+}
 quantum_at Two b at = record { worker = number 1 b at; hart = number 1 b (at + 1); turns = number 2 b (at + 2); owns = number 2 b (at + 4) }
 
 -- the quanta of n entries from a place on

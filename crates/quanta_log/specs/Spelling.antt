@@ -18,7 +18,9 @@ start_number Warm = 1
 
 -- after the magic: harts, bins, budget, width, count; in version 2 start and instruments too
 abbrev pub shared_head : Settings → ℕ → List ℕ
-shared_head s count = little_bytes 4 s.harts ++ (little_bytes 4 s.bins ++ (little_bytes 8 s.budget ++ (little_bytes 8 s.width ++ little_bytes 8 count)))
+shared_head s count =
+    little_bytes 4 s.harts ++ (little_bytes 4 s.bins
+    ++ (little_bytes 8 s.budget ++ (little_bytes 8 s.width ++ little_bytes 8 count)))
 
 abbrev pub later_head : Version → Settings → List ℕ
 later_head One s = []

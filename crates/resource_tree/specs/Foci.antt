@@ -146,7 +146,8 @@ object_text os object = named_text (option_and_then (λ k. option_map (λ o. o.n
 -- the canonical text of a focus: all three parts
 abbrev pub canonical : Resources → Focus → List ℕ
 canonical t f =
-    codes "/Code" ++ code_text t.code f.code ++ codes ",/Machine" ++ hart_text f.hart ++ codes ",/SyncObject" ++ object_text t.objects f.object
+    codes "/Code" ++ code_text t.code f.code ++ codes ",/Machine" ++ hart_text f.hart ++ codes ",/SyncObject"
+    ++ object_text t.objects f.object
 
 -- the numbers of the procedures of a module
 abbrev pub procs_of_module : CodeNodes → ℕ → List ℕ

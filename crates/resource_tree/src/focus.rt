@@ -33,7 +33,8 @@ fn split_part(part: &[u8]) -> Option<(Axis, &[u8])>
 
 /// The node of the code that names select, which are given each after a `/`.
 fn code_node(code: &CodeTree, below: &[u8]) -> Option<CodePart>
-    ensures { (names : List (List ℕ)) → length names ≤ 2 → list_all is_good_name names ≡ true → below.now ≡ below_text names → result ≡ code_named code.now names }
+    ensures { (names : List (List ℕ)) → length names ≤ 2 → list_all is_good_name names ≡ true
+        → below.now ≡ below_text names → result ≡ code_named code.now names }
 {
     let Some((_, path)) = below.split_first() else {
         return Some(CodePart::All);
@@ -77,7 +78,8 @@ fn first_comma(text: &[u8]) -> Option<usize>
 /// The first part of a text, and the text after its comma, where it has one.
 fn split_comma(text: &[u8]) -> (&[u8], Option<&[u8]>)
     ensures part { (p : Part) → (ps : List Part) → is_part p ≡ true → text.now ≡ parts_text (p ∷ ps) → result.0.now ≡ part_text p }
-    ensures rest { (p : Part) → (ps : List Part) → is_part p ≡ true → text.now ≡ parts_text (p ∷ ps) → MatchOption result.1 (ps ≡ []) (λ rest. (0 < length ps) × (rest.now ≡ parts_text ps)) }
+    ensures rest { (p : Part) → (ps : List Part) → is_part p ≡ true → text.now ≡ parts_text (p ∷ ps)
+        → MatchOption result.1 (ps ≡ []) (λ rest. (0 < length ps) × (rest.now ≡ parts_text ps)) }
 {
     match first_comma(text) {
         Some(end) => (&text[..end], Some(&text[end + 1..])),

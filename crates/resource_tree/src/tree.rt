@@ -62,7 +62,8 @@ impl Tree {
         ensures tree { IfOk result (λ tree. tree ≡ tree_of procs.now objects.now harts prefixes.now) }
         ensures named { AreNamed procs.now → IfOk result IsNamed }
         // Objects lie where their symbols do, so below what these are below.
-        ensures low { (n : ℕ) → AllByRecursion (λ s. s.at < n) objects.now → IfOk result (λ tree. AllByRecursion (λ o. o.at < n) tree.objects) }
+        ensures low { (n : ℕ) → AllByRecursion (λ s. s.at < n) objects.now
+            → IfOk result (λ tree. AllByRecursion (λ o. o.at < n) tree.objects) }
     {
         Ok(Tree {
             code: CodeTree::of(alloc, procs)?,

@@ -19,7 +19,9 @@ below base digit = if nat_lt digit base then Some digit else None
 -- the number whose first digits give n, and whose others are these bytes
 abbrev pub digits_from : ℕ → ℕ → List ℕ → Option ℕ
 digits_from base n [] = Some n
-digits_from base n (byte ∷ bytes) = option_and_then (λ digit. digits_from base (n * base + digit) bytes) (option_and_then (below base) (digit_of byte))
+digits_from base n (byte ∷ bytes) =
+    option_and_then (λ digit. digits_from base (n * base + digit) bytes)
+    (option_and_then (below base) (digit_of byte))
 
 -- a number has a digit at least
 abbrev pub digits_of : ℕ → List ℕ → Option ℕ

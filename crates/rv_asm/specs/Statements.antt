@@ -42,7 +42,8 @@ made_by forms name text = option_and_then (λ form. form text) (named name forms
 -- what no operands follow
 abbrev pub fixed : List (List ℕ × Statement)
 fixed =
-    (codes "ebreak", the.Instruction instr.Ebreak) ∷ (codes "fence", the.Instruction (instr.Fence 0 0 0x0ff)) ∷ (codes "ecall", the.Instruction instr.Ecall)
+    (codes "ebreak", the.Instruction instr.Ebreak) ∷ (codes "fence", the.Instruction (instr.Fence 0 0 0x0ff))
+    ∷ (codes "ecall", the.Instruction instr.Ecall)
     ∷ (codes "nop", the.Instruction (instr.OpImm imm.Addi 0 0 0)) ∷ (codes "ret", the.Instruction (instr.Jalr 0 1 0))
     ∷ (codes ".text", the.Text) ∷ (codes ".data", the.Data) ∷ (codes ".end", the.End) ∷ []
 
@@ -63,7 +64,9 @@ atomics = flat_map (λ size. map (λ form. (form.0 ++ size.0, form.1)) (accesses
 
 -- the width of a value
 abbrev pub value_widths : List (List ℕ × ValueWidth)
-value_widths = (codes ".dword", width.Doubleword) ∷ (codes ".byte", width.Byte) ∷ (codes ".half", width.Half) ∷ (codes ".word", width.Word) ∷ []
+value_widths =
+    (codes ".dword", width.Doubleword) ∷ (codes ".byte", width.Byte) ∷ (codes ".half", width.Half)
+    ∷ (codes ".word", width.Word) ∷ []
 
 -- what has a row of its own; `mv rd, rs` is `addi rd, rs, 0`, and `jr rs` is `jalr zero, 0(rs)`
 abbrev pub singles : List (Form Statement)
@@ -104,7 +107,8 @@ Found = Statement × List ℕ
 -- what a name alone follows
 abbrev pub before_name : List (List ℕ × Statement)
 before_name =
-    (codes ".module", the.Module) ∷ (codes "j", the.Jump (instr.Jal 0 0)) ∷ (codes "call", the.Jump (instr.Jal 1 0)) ∷ (codes ".proc", the.Procedure) ∷ []
+    (codes ".module", the.Module) ∷ (codes "j", the.Jump (instr.Jal 0 0)) ∷ (codes "call", the.Jump (instr.Jal 1 0))
+    ∷ (codes ".proc", the.Procedure) ∷ []
 
 -- what has a row of its own
 abbrev pub named_singles : List (Form Found)

@@ -82,7 +82,10 @@ fn add_under(
     hypothesis: &Hypothesis,
     number: u32,
 ) -> Result<(), NoMemory>
-    ensures { OnOk result ((name : List ℕ) → numbers_under (λ key. key.items) (λ own. own.items) name under.new.entries ≡ with_number (is_under name hypothesis.now) number (numbers_under (λ key. key.items) (λ own. own.items) name under.old.entries)) }
+    ensures { OnOk result ((name : List ℕ)
+        → numbers_under (λ key. key.items) (λ own. own.items) name under.new.entries
+        ≡ with_number (is_under name hypothesis.now) number
+        (numbers_under (λ key. key.items) (λ own. own.items) name under.old.entries)) }
 {
     if let Some(parent) = &hypothesis.parent {
         add_number(alloc, under, parent.bytes(), number)?;

@@ -34,7 +34,8 @@ is_open state = false
 -- ---- places
 
 abbrev pub place : ℕ → ℕ → Focus → NodePlace
-place phase hypothesis focus = record { phase = phase; hypothesis = hypothesis; code = focus.code; hart = focus.hart; object = focus.object }
+place phase hypothesis focus =
+    record { phase = phase; hypothesis = hypothesis; code = focus.code; hart = focus.hart; object = focus.object }
 
 abbrev pub place_of : Node → NodePlace
 place_of n = place n.phase n.hypothesis n.focus
@@ -52,7 +53,9 @@ is_same_code (Procedure a) (Procedure b) = a == b
 is_same_code a b = false
 
 abbrev pub is_same_place : NodePlace → NodePlace → Bool
-is_same_place a b = (a.phase == b.phase) && ((a.hypothesis == b.hypothesis) && (is_same_code a.code b.code && (is_same_number a.hart b.hart && is_same_number a.object b.object)))
+is_same_place a b =
+    (a.phase == b.phase) && ((a.hypothesis == b.hypothesis) && (is_same_code a.code b.code
+    && (is_same_number a.hart b.hart && is_same_number a.object b.object)))
 
 -- a node stands at this place
 abbrev pub stands : NodePlace → List Node → Bool
@@ -62,7 +65,18 @@ stands p ns = list_any (λ n. is_same_place p (place_of n)) ns
 
 -- a node that waits
 abbrev pub new_node : ℕ → Option ℕ → ℕ → Focus → Node
-new_node phase parent hypothesis focus = record { phase = phase; parent = parent; hypothesis = hypothesis; focus = focus; state = Waiting; seen = 0; from = 0; to = 0; value = 0; ticks = 0 }
+new_node phase parent hypothesis focus = record {
+  phase = phase;
+  parent = parent;
+  hypothesis = hypothesis;
+  focus = focus;
+  state = Waiting;
+  seen = 0;
+  from = 0;
+  to = 0;
+  value = 0;
+  ticks = 0;
+}
 
 -- the greatest number of nodes
 abbrev pub most_nodes : ℕ

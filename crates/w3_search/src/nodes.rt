@@ -41,7 +41,8 @@ impl Model for Nodes {
 
     ghost view = { λ n. n.list.items };
 
-    ghost invariant = { λ n. IsIndexed n.list.items n.index n.waiting.items n.active.items × HasRoom n.list n.waiting n.active n.next_active };
+    ghost invariant = { λ n. IsIndexed n.list.items n.index n.waiting.items n.active.items
+        × HasRoom n.list n.waiting n.active n.next_active };
 }
 
 // A function of its own, so that what drops it need not prove the drops of all its parts.

@@ -52,7 +52,8 @@ pub(crate) fn put_in(numbers: &mut Vec<u32>, number: u32)
 /// Where a number stands.
 fn place_of(numbers: &[u32], number: u32) -> Option<usize>
     ensures within { IfSome result (λ place. place < length numbers.now) }
-    ensures place { MatchOption result (numbers.now ≡ without number numbers.now) (λ place. remove numbers.now place ≡ without number numbers.now) }
+    ensures place { MatchOption result (numbers.now ≡ without number numbers.now)
+        (λ place. remove numbers.now place ≡ without number numbers.now) }
 {
     for (place, other) in numbers.iter().enumerate() {
         if *other == number {

@@ -48,7 +48,8 @@ impl Search {
         requires hypotheses { length hypotheses.now < 2 ^ 32 }
         requires window { 1 ≤ decl.now.window }
         requires phases { length phases.now < 2 ^ 32 }
-        ensures { IfOk result (λ s. s ≡ spec.new_search (record { hypotheses = hypotheses.now; decl = decl.now; phases = phases.now; tree = tree.now })) }
+        ensures { IfOk result (λ s. s ≡ spec.new_search
+            (record { hypotheses = hypotheses.now; decl = decl.now; phases = phases.now; tree = tree.now })) }
     {
         let mut state = State::new(alloc, hypotheses, decl, phases, tree)?;
         state.add_roots();

@@ -43,7 +43,12 @@ impl Model for State {
 
     ghost Value = { SearchData };
 
-    ghost view = { λ s. record { rules = record { hypotheses = s.hypotheses; decl = s.decl; phases = s.phases.items; tree = s.tree }; nodes = s.nodes; present = s.present; drops = s.drops.items } };
+    ghost view = { λ s. record {
+      rules = record { hypotheses = s.hypotheses; decl = s.decl; phases = s.phases.items; tree = s.tree };
+      nodes = s.nodes;
+      present = s.present;
+      drops = s.drops.items;
+    } };
 
     ghost invariant = { λ s. IsState s.decl.window s.phases.items s.nodes s.present s.drops };
 }
@@ -141,7 +146,12 @@ impl State {
         requires hypotheses { length hypotheses.now < 2 ^ 32 }
         requires window { 1 ≤ decl.now.window }
         requires phases { length phases.now < 2 ^ 32 }
-        ensures { IfOk result (λ s. s ≡ record { rules = record { hypotheses = hypotheses.now; decl = decl.now; phases = phases.now; tree = tree.now }; nodes = []; present = 0; drops = [] }) }
+        ensures { IfOk result (λ s. s ≡ record {
+          rules = record { hypotheses = hypotheses.now; decl = decl.now; phases = phases.now; tree = tree.now };
+          nodes = [];
+          present = 0;
+          drops = [];
+        }) }
     {
         Ok(State {
             hypotheses: Hypotheses::new(alloc, hypotheses)?,
