@@ -38,7 +38,7 @@ abbrev pub parent_of : List Item → List ℕ → Option (List ℕ)
 parent_of [] name = None
 parent_of (item ∷ items) name = if is_named name item then parent_in item else parent_of items name
 
--- the name is that of one of n ancestors, of which the first may be given
+-- the name is one of n ancestors' in a row, of which the first is the given one, if any
 abbrev pub leads_up : List Item → ℕ → List ℕ → Option (List ℕ) → Bool
 leads_up items zero name next = false
 leads_up items (suc n) name None = false

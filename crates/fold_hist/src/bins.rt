@@ -39,7 +39,7 @@ impl Bins {
         ensures capacity { vec_capacity self.old.list ≤ vec_capacity self.new.list }
     {
         if count % self.width == 0 {
-            let _there_is_room = self.list.push(sample);
+            self.list.push(sample).unwrap();
         } else {
             add_to_last(&mut self.list, sample);
         }

@@ -4,8 +4,9 @@ use Rattle.std.specs.List.{list_any}
 use Rattle.std.specs.Str.{bytes_eq}
 use Rattle.pn_types.specs.declared.focus.Focus.{Focus}
 use Rattle.mdl_ast.specs.declared.items.Item.{Item}
+use Rattle.resource_tree.specs.SameNodes.{is_same_code, is_same_number}
 use Rattle.mdl_check.specs.Placed.{Entry}
-use Rattle.mdl_check.specs.Rules.{is_same_code, is_same_number, is_shown_by}
+use Rattle.mdl_check.specs.Rules.{is_shown_by}
 use Rattle.mdl_check.specs.declared.sight.Sight.{Sight}
 use denote.Ref.{Bor}
 

@@ -3,8 +3,8 @@ use Rattle.std.specs.Prelude.{ℕ, zero, suc, ◌+◌, ◌%◌, ◌^◌, ◌==�
 use Rattle.std.specs.List.{list_any}
 use Rattle.std.specs.Option.{option_map_or}
 use Rattle.pn_types.specs.declared.focus.Focus.{Focus}
-use Rattle.pn_types.specs.declared.focus.CodePart.{CodePart}
-use Rattle.pn_types.specs.declared.focus.CodePart.TheVariants.{All, Module, Procedure}
+use Rattle.resource_tree.specs.SameNodes.{is_same_code}
+pub use Rattle.resource_tree.specs.SameNodes.{is_same_number}
 use Rattle.w3_search.specs.declared.node.Node.{Node}
 use Rattle.w3_search.specs.declared.node.NodeSample.{NodeSample}
 use Rattle.w3_search.specs.declared.node.NodeState.{NodeState}
@@ -39,18 +39,6 @@ place phase hypothesis focus =
 
 abbrev pub place_of : Node → NodePlace
 place_of n = place n.phase n.hypothesis n.focus
-
--- two numbers that are one, or none twice
-abbrev pub is_same_number : Option ℕ → Option ℕ → Bool
-is_same_number None None = true
-is_same_number (Some a) (Some b) = a == b
-is_same_number a b = false
-
-abbrev pub is_same_code : CodePart → CodePart → Bool
-is_same_code All All = true
-is_same_code (Module a) (Module b) = a == b
-is_same_code (Procedure a) (Procedure b) = a == b
-is_same_code a b = false
 
 abbrev pub is_same_place : NodePlace → NodePlace → Bool
 is_same_place a b =

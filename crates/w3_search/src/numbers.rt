@@ -13,7 +13,7 @@ pub(crate) fn push_if(numbers: &mut Vec<u32>, wanted: bool, number: u32)
     ensures capacity { vec_capacity numbers.old ≤ vec_capacity numbers.new }
 {
     if wanted {
-        let _there_is_room = numbers.push(number);
+        numbers.push(number).unwrap();
     }
 }
 
@@ -23,7 +23,7 @@ pub(crate) fn push_all(numbers: &mut Vec<u32>, others: &[u32])
     ensures items { numbers.new.items ≡ numbers.old.items ++ others.now }
     ensures capacity { vec_capacity numbers.old ≤ vec_capacity numbers.new }
 {
-    let _there_is_room = numbers.extend_from_slice(others);
+    numbers.extend_from_slice(others).unwrap();
 }
 
 /// Where a number goes in an ascending list.
@@ -46,7 +46,7 @@ pub(crate) fn put_in(numbers: &mut Vec<u32>, number: u32)
     ensures capacity { vec_capacity numbers.old ≤ vec_capacity numbers.new }
 {
     let place = place_for(numbers, number);
-    let _there_is_room = numbers.insert(place, number);
+    numbers.insert(place, number).unwrap();
 }
 
 /// Where a number stands.
@@ -69,7 +69,7 @@ pub(crate) fn take_out(numbers: &mut Vec<u32>, number: u32)
     ensures capacity { vec_capacity numbers.old ≤ vec_capacity numbers.new }
 {
     if let Some(place) = place_of(numbers, number) {
-        let _number = numbers.remove(place);
+        numbers.remove(place);
     }
 }
 
