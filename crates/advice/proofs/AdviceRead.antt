@@ -56,7 +56,7 @@ act_text (First name) = directive (codes "first ") name
 abbrev named : List ℕ → List ℕ → List ℕ → List Piece → List Piece
 named gap word name rest = (gap, keyword word) ∷ (codes " ", NameWord name) ∷ ([], SignWord Semicolon) ∷ rest
 
--- the words of what is done, behind a gap
+-- the words of what is done, after a gap
 abbrev act_pieces : List ℕ → DirectiveAct → List Piece → List Piece
 act_pieces gap (Prune name) rest = named gap (codes "prune") name rest
 act_pieces gap (PruneAxis name axis) rest = rest

@@ -1,4 +1,4 @@
--- That advised thresholds keep answers.
+-- That advised thresholds keep the results of the test.
 use Rattle.std.proofs.Common.{◌≡◌, ℕ, zero, suc, ◌*◌, ◌/◌, ◌<◌, ◌≤◌, ◌&&◌, cond, min, Bool, true, false, Some, List, [], ◌∷◌, length, get_or, map, filter, refl, sym, ap, ◌∙◌, subst, bytes_eq, arith}
 use Rattle.std.specs.List.{fold, reduce, All}
 use Rattle.std.proofs.Math.Nat.{le-div_iff_mul-le, mul-le-mul_right}

@@ -17,7 +17,7 @@ use Rattle.advice.specs.Words.{are_branch, are_branches, are_names, is_branch, p
 use Rattle.advice.proofs.Parts.{lacks, one_part, part_at}
 use Rattle.advice.proofs.Spaced.{all_append, all_weaker}
 
--- ---- names behind slashes
+-- ---- names after slashes
 
 no_slash : (b : ℕ) → is_name_byte b ≡ true → not (b == 47) ≡ true
 no_slash b h = grind arith
@@ -46,7 +46,7 @@ branch : (root : List ℕ) (most : ℕ) (names : List (List ℕ)) → lacks 47 r
 branch root most names h same few good =
     ap (λ (l : List (List ℕ)). are_branch root most ([] ∷ l)) (below root names h good) ∙ rw same (few_names most names few good)
 
--- ---- branches behind commas
+-- ---- branches after commas
 
 below_plain : (names : List (List ℕ)) → list_all is_good_name names ≡ true → lacks 44 (below_text names) ≡ true
 below_plain [] good = refl
@@ -56,7 +56,7 @@ below_plain (name ∷ names) good =
 
 -- ---- the names in a canonical text
 
--- it has so many good names at most, each behind a slash
+-- it has at most `most` good names, each after a slash
 record Below (most : ℕ) (text : List ℕ) : Type 0 where
   pub names : List (List ℕ)
   pub few : length names ≤ most

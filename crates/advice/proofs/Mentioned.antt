@@ -5,7 +5,7 @@ use Rattle.advice.specs.Advice.{hypothesis_of, names_behind, threshold_of}
 use Rattle.advice.specs.declared.hypothesis.Hypothesis.{Hypothesis}
 use Rattle.advice.specs.declared.verdict.Verdict.{Verdict}
 
--- the names of this verdict and of those behind it
+-- the names of this verdict and of those after it
 abbrev with_mention : Bool → List ℕ → List (List ℕ) → List (List ℕ)
 with_mention before name names = cond before names (name ∷ names)
 

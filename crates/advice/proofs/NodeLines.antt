@@ -59,7 +59,7 @@ module _ (window i : ℕ) (p : NodePart) (h : IsNodeLine p) (small : IsSmall i) 
     λ fs. head_fits (decimal i) p.phase (parent_text p.node.parent) p.hypothesis p.focus fs ws (number_fits i small) h.phase (parent_fits p.node.parent h.parent) h.hypothesis h.focus,
   )
 
-  -- words with a number behind them
+  -- words with a number after them
   numbered : (ws : List (List ℕ)) (n : ℕ) → list_all is_word ws ≡ true → words (before ws (decimal n)) ≡ ws ++ decimal n ∷ []
   numbered ws n e = words_before ws (decimal n) e ∙ ap (λ (l : List (List ℕ)). ws ++ l) (one_word (decimal n) (digits_above 10 n))
 

@@ -1,4 +1,4 @@
--- The parts behind those that were passed.
+-- The parts after those that were passed.
 use Rattle.std.proofs.Common.{◌≡◌, ℕ, zero, suc, ◌+◌, Option, Some, None, Bor, List, [], ◌∷◌, drop, slice_get, refl, sym, ap, ◌∙◌, add-one, MatchOption}
 use Rattle.std.specs.Option.{unwrap_or}
 

@@ -23,7 +23,7 @@ Piece = List ℕ × Word
 abbrev placed_at : Place → Word → PlacedWord
 placed_at place word = record { word = word; line = place.line; col = place.col }
 
--- words behind their gaps, from a place on
+-- words after their gaps, from a place on
 abbrev pub placed : Place → List Piece → List PlacedWord
 placed place [] = []
 placed place (piece ∷ pieces) = placed_at (behind_bytes place piece.0) piece.1 ∷ placed (behind_bytes (behind_bytes place piece.0) (word_text piece.1)) pieces
@@ -43,7 +43,7 @@ abbrev found_in : List ℕ → Rest → List PlacedWord
 found_in source rest = map (placed_word source) (scan rest).tokens
 
 module _ (source : List ℕ) where
-  -- a word, a gap, and what is found behind them
+  -- a word, a gap, and what is found after them
   word_step : (front gap next : List ℕ) (word : Word) (place : Place) (more : List PlacedWord) → is_word word ≡ true → stops (goes_on word) (gap ++ next) ≡ true → list_all is_white_space gap ≡ true → blank_len false next ≡ 0 → source ≡ front ++ (word_text word ++ (gap ++ next)) → place.at ≡ length front → found_in source (record { place = behind_bytes (behind_bytes place (word_text word)) gap; bytes = next }) ≡ more → found_in source (record { place = place; bytes = word_text word ++ (gap ++ next) }) ≡ placed_at place word ∷ more
   word_step front gap next word place more is stop white none e at reads =
       let text = word_text word in

@@ -87,7 +87,7 @@ begun : (word text all : List ℕ) → all ≡ word ++ text → is_one_line word
 unfolding more
 begun word text all e h l = let m = more word text h l in record { rest = l.body; is = e ∙ m.is; one = m.one }
 
--- a word with a number behind it
+-- a word with a number after it
 numbered : (word : List ℕ) (n : ℕ) (text : List ℕ) → is_one_line word ≡ true → Line text → Line (word ++ (decimal n ++ text))
 numbered word n text h l = more word (decimal n ++ text) h (more (decimal n) text (decimal_line n) l)
 

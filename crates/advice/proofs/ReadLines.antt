@@ -31,7 +31,7 @@ passing due at (suc k) (byte ∷ bytes) h =
     let same : at + 1 + k ≡ at + suc k = omega arith in
     passing due (at + 1) k bytes (omega arith) ∙ ap (λ (n : ℕ). verdicts_from due n 0 (drop k bytes)) same
 
--- a line that is as said
+-- a line of the form that is due
 stepped : (due next : Due) (bytes line : List ℕ) → first_line due bytes ≡ Some line → after due line ≡ Some next → step due bytes ≡ Some (record { length = length line; told = told_in due line; next = next })
 stepped due next bytes line first said = rw (first, said) refl
 

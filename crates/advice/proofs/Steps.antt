@@ -1,4 +1,4 @@
--- Each line of a report, and what is due behind it.
+-- Each line of a report, and what is due after it.
 use Rattle.std.proofs.Common.{◌≡◌, ℕ, suc, ◌+◌, ◌-◌, ◌<◌, ◌==◌, ◌||◌, not, true, false, Some, Ok, List, [], ◌∷◌, ◌++◌, length, slice_get, codes, refl, ap, ◌∙◌, arith, length-append}
 use Rattle.std.specs.Option.{option_to_list}
 use Rattle.std.proofs.lemmas.Bool.{lt-ltb, ne_eqb}
@@ -75,7 +75,7 @@ output_due number line count is a =
     let form : has_form (codes "output NUMBER") line ≡ true = ap (are_as (words (codes "output NUMBER"))) is ∙ rw (number_is count number a) refl in
     rw (form, number_there 1 count number line (word_there 1 line _ is) a) refl
 
--- behind the number of nodes stands nothing, or that there are no more
+-- after the number of nodes stands nothing, or that there are no more
 pub nodes_due : (number line : List ℕ) (tail : List (List ℕ)) (count : ℕ) → words line ≡ codes "search" ∷ codes "nodes" ∷ number ∷ tail → number_of number ≡ Some count → is_shown line ≡ false → (are_as [] tail || are_as (codes "full" ∷ []) tail) ≡ true → after Shown line ≡ Some (Nodes count)
 nodes_due number line tail count is a other said =
     let search : is_search line ≡ true =

@@ -57,8 +57,10 @@ IsNamed v = is_name v.hypothesis ≡ true
 abbrev pub AdviceIsRead : Type 0
 AdviceIsRead = (vs : List Verdict) → All IsNamed vs → IsDirectives (advice vs) (advised vs)
 
--- ---- one command behind another
+-- ---- one command after another
 
 -- What a readable report advises is spelled so: its hypotheses have names that a directive can name.
 abbrev pub ReportIsAdvised : Type 0
-ReportIsAdvised = (parts : ReportParts) (skipped : ℕ) → IsReadable parts skipped → IsDirectives (advice (verdicts_in parts)) (advised (verdicts_in parts))
+ReportIsAdvised =
+    (parts : ReportParts) (skipped : ℕ) → IsReadable parts skipped
+    → IsDirectives (advice (verdicts_in parts)) (advised (verdicts_in parts))

@@ -36,4 +36,5 @@ first_line h = first_text h.name h.threshold
 -- All prunes, all thresholds, and all firsts from the last to the first: each goes before those that went first so far.
 abbrev pub advice : List Verdict → List ℕ
 advice vs =
-    flat_map prune_line (hypotheses_of vs) ++ (flat_map threshold_line (hypotheses_of vs) ++ flat_map first_line (reverse (hypotheses_of vs)))
+    flat_map prune_line (hypotheses_of vs)
+    ++ (flat_map threshold_line (hypotheses_of vs) ++ flat_map first_line (reverse (hypotheses_of vs)))

@@ -1,4 +1,4 @@
--- The lines of a report: which may stand behind which.
+-- The lines of a report: which may follow which.
 use Rattle.std.specs.Prelude.{ℕ, ◌-◌, ◌==◌, ◌&&◌, ◌||◌, nat_lt, if◌then◌else◌, bytes_eq, Bool, true, false, Option, Some, None, List, codes, position, slice_get, take}
 use Rattle.std.specs.Option.{option_map, option_map_or}
 use Rattle.pn_text.specs.Bytes.{begins_with}
@@ -55,11 +55,11 @@ is_shown line = begins_with (codes "refused ") line || begins_with (codes "histo
 abbrev pub is_search : List ℕ → Bool
 is_search line = has_form (codes "search nodes NUMBER") line || has_form (codes "search nodes NUMBER full") line
 
--- this is due behind a line that is as said
+-- this is due after a line of the form
 abbrev pub due_if : Bool → Due → Option Due
 due_if said due = if said then Some due else None
 
--- what is due behind a line; None where the line isn't as said
+-- what is due after a line; None where the line doesn't have the form that is due
 abbrev pub after : Due → List ℕ → Option Due
 after Title line = due_if (bytes_eq line (codes "paradyn report 1")) Counts
 after Counts line = due_if (has_form (codes "harts NUMBER ticks NUMBER samples NUMBER skipped NUMBER") line) (Harts (number_at 1 line))
@@ -86,7 +86,7 @@ told_in due line = None
 abbrev pub to_lf : List ℕ → Option (List ℕ)
 to_lf bytes = option_map (λ end. take end bytes) (position is_lf bytes)
 
--- so many bytes, if an LF stands behind them
+-- what is left after n bytes, if an LF follows them
 abbrev pub to_lf_at : ℕ → List ℕ → Option (List ℕ)
 to_lf_at n bytes = if option_map_or is_lf (slice_get bytes n) false then Some (take n bytes) else None
 

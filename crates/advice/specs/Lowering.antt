@@ -8,6 +8,6 @@ abbrev pub least_with : ℕ → Option ℕ → ℕ
 least_with n None = n
 least_with n (Some before) = min before n
 
--- the threshold of this name behind a true verdict
+-- the threshold of this name after a true verdict
 abbrev pub lowered : Verdict → List ℕ → Option ℕ → Option ℕ
 lowered v name before = if bytes_eq name v.hypothesis then Some (least_with (rate v) before) else before

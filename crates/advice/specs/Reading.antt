@@ -16,7 +16,7 @@ abbrev pub onto : List Verdict → Result (List Verdict) ReportFault → Result 
 onto vs (Ok rest) = Ok (vs ++ rest)
 onto vs (Err fault) = Err fault
 
--- a line that is as said: its length without the LF, the verdict that it tells, and what is due behind it
+-- a line of the form that is due: its length without the LF, the verdict that it tells, and what is due after it
 pub record Step : Type 0 where
   pub length : ℕ
   pub told : Option Verdict
@@ -29,23 +29,24 @@ step_on due line = option_map (λ next. record { length = length line; told = to
 abbrev pub step : Due → List ℕ → Option Step
 step due bytes = option_and_then (step_on due) (first_line due bytes)
 
--- The verdicts of bytes that begin at a place of a report, where this is due; so many of the bytes belong to a line that was
--- read, and are passed. The fault is where a line begins that has no LF or isn't as said, or at the end that comes too early.
+-- The verdicts of bytes that begin at a place of a report, where this is due; the second number says how many of them belong to a
+-- line that was read, and are passed. The fault is where a line begins that has no LF or not the form, or at the end if it is too early.
 abbrev pub verdicts_from : Due → ℕ → ℕ → List ℕ → Result (List Verdict) ReportFault
 verdicts_from due at passed [] = if may_end due then Ok [] else Err (BadReport at)
 verdicts_from due at (suc passed) (byte ∷ bytes) = verdicts_from due (at + 1) passed bytes
 verdicts_from due at zero (byte ∷ bytes) =
-    option_map_or (λ s. onto (option_to_list s.told) (verdicts_from s.next (at + 1) s.length bytes)) (step due (byte ∷ bytes)) (Err (BadReport at))
+    option_map_or (λ s. onto (option_to_list s.told) (verdicts_from s.next (at + 1) s.length bytes))
+    (step due (byte ∷ bytes)) (Err (BadReport at))
 
 -- the verdicts of a report in the order of their lines, or its first fault
 abbrev pub verdicts_of : List ℕ → Result (List Verdict) ReportFault
 verdicts_of report = verdicts_from Title 0 0 report
 
--- why a call was refused; want of memory is free
+-- why a call was refused; running out of memory is always allowed
 abbrev pub Refuses : ReportError → (ReportFault → Type 0) → Type 0
 Refuses (error.Fault fault) why = why fault
 Refuses error.NoMemory why = Unit {0}
 
--- the answer is what the bytes tell, unless memory is wanting
+-- the result is what the bytes tell, unless memory runs out
 abbrev pub Tells : Result (Vec Verdict) ReportError → Result (List Verdict) ReportFault → Type 0
 Tells result told = MatchResult result (λ vs. told ≡ Ok vs.items) (λ e. Refuses e (λ fault. told ≡ Err fault))

@@ -38,7 +38,7 @@ abbrev pub are_branch : List ℕ → ℕ → List (List ℕ) → Bool
 are_branch root most (first ∷ name ∷ names) = is_none first && bytes_eq name root && are_names most names
 are_branch root most other = false
 
--- a part of a focus: a hierarchy with at most so many names below it, each behind a slash
+-- a part of a focus: a hierarchy with at most `most` names below it, each after a slash
 abbrev pub is_branch : List ℕ → ℕ → List ℕ → Bool
 is_branch root most text = are_branch root most (parts 47 text)
 

@@ -86,8 +86,12 @@ fn add_firsts(out: &mut Vec<u8>, hypotheses: &[Hypothesis]) -> Result<(), NoMemo
     Ok(())
 }
 
-/// The directives that earlier verdicts advise, as a text of one directive a line: hypotheses that never were true are
+/// Returns the directives that earlier verdicts advise, as a text of one directive a line: hypotheses that never were true are
 /// pruned, and each other one gets the greatest threshold that keeps its true verdicts true, and goes first.
+///
+/// # Errors
+///
+/// `NoMemory` where memory runs out.
 pub fn advise(alloc: Global, verdicts: &[Verdict]) -> Result<Vec<u8>, NoMemory>
     requires { All HasTicks verdicts.now }
     ensures { IfOk result (λ text. text.items ≡ advice verdicts.now) }

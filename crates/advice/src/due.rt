@@ -1,4 +1,4 @@
-//! The lines of a report: which may stand behind which.
+//! The lines of a report: which may follow which.
 
 ghost use Rattle.std.specs.Prelude.{◌≡◌, ◌<◌, length, position, IfOk, IfSome};
 ghost use Rattle.std.specs.Option.{option_map};
@@ -19,13 +19,13 @@ pub enum Due {
     Title,
     /// The numbers of harts, ticks, samples, and symbols that were skipped.
     Counts,
-    /// So many lines of harts, and then the length of the output.
+    /// This many lines of harts, and then the length of the output.
     Harts(u64),
-    /// So many bytes of output.
+    /// This many bytes of output.
     Output(u64),
     /// What was refused or shown, then the search or the end.
     Shown,
-    /// So many nodes of the search, and then the end.
+    /// This many nodes of the search, and then the end.
     Nodes(u64),
 }
 
@@ -132,7 +132,7 @@ fn to_lf(bytes: &[u8]) -> Option<&[u8]>
     Some(&bytes[..end])
 }
 
-/// So many bytes, if an LF stands behind them.
+/// What is left after `count` bytes, if an LF follows them.
 fn to_lf_at(count: u64, bytes: &[u8]) -> Option<&[u8]>
     ensures line { option_map (λ line. line.now) result ≡ to_lf_at count bytes.now }
     ensures within { IfSome result (λ line. length line.now < length bytes.now) }
@@ -146,14 +146,14 @@ fn to_lf_at(count: u64, bytes: &[u8]) -> Option<&[u8]>
 }
 
 impl Due {
-    /// This, if a line is as said.
+    /// This, if the line is one of the form.
     fn only_if(self, said: bool) -> Option<Due>
         ensures { result ≡ due_if said self }
     {
         if said { Some(self) } else { None }
     }
 
-    /// The first line of the bytes, without its LF, or None where that is missing.
+    /// Returns the first line of the bytes, without its LF, or None where that is missing.
     pub fn first_line(self, bytes: &[u8]) -> Option<&[u8]>
         ensures line { option_map (λ line. line.now) result ≡ first_line self bytes.now }
         ensures within { IfSome result (λ line. length line.now < length bytes.now) }
@@ -164,7 +164,7 @@ impl Due {
         }
     }
 
-    /// What is due behind a line, or None where the line isn't as said.
+    /// Returns what is due after a line, or None where the line doesn't have the form that is due.
     pub fn after(self, line: &[u8]) -> Option<Due>
         ensures { result ≡ after self line.now }
     {
@@ -186,14 +186,18 @@ impl Due {
         }
     }
 
-    /// Whether a report may end here.
+    /// Returns whether a report may end here.
     pub fn may_end(self) -> bool
         ensures { result ≡ may_end self }
     {
         matches!(self, Due::Shown | Due::Nodes(0))
     }
 
-    /// The verdict in a line that was due.
+    /// Returns the verdict in a line that was due.
+    ///
+    /// # Errors
+    ///
+    /// `NoMemory` where memory runs out.
     pub fn told_in(self, alloc: Global, line: &[u8]) -> Result<Option<Verdict>, NoMemory>
         ensures told { IfOk result (λ verdict. verdict ≡ told_in self line.now) }
         ensures ticks { IfOk result (λ verdict. IfSome verdict HasTicks) }

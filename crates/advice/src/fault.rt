@@ -1,3 +1,5 @@
+//! Where a report has its first fault, and why none was read.
+
 use std::alloc::{AllocError, AllocFailed};
 
 /// Why bytes are no report.
@@ -10,7 +12,7 @@ pub enum ReportFault {
 /// Why a report's verdicts were not read.
 #[derive(Clone, Copy, Debug, PartialEq, Eq, Drop)]
 pub enum ReportError {
-    /// Memory was wanting.
+    /// Memory ran out.
     NoMemory,
     /// The first fault of the bytes.
     Fault(ReportFault),

@@ -50,7 +50,9 @@ fn lower(
     verdict: &Verdict,
 ) -> Result<(), NoMemory>
     requires { 0 < verdict.now.ticks }
-    ensures { OnOk result ((name : List ℕ) → lookup (λ key. bytes_eq name key.items) thresholds.new.entries ≡ lowered verdict.now name (lookup (λ key. bytes_eq name key.items) thresholds.old.entries)) }
+    ensures { OnOk result ((name : List ℕ)
+        → lookup (λ key. bytes_eq name key.items) thresholds.new.entries
+        ≡ lowered verdict.now name (lookup (λ key. bytes_eq name key.items) thresholds.old.entries)) }
 {
     let name = verdict.hypothesis.bytes();
     let least = least_with(rate(verdict), thresholds.get(name).copied());
@@ -61,7 +63,8 @@ fn lower(
 /// The threshold of each hypothesis that has a true verdict, by its name.
 fn thresholds(alloc: Global, verdicts: &[Verdict]) -> Result<IndexMap<Vec<u8>, u32>, NoMemory>
     requires { All HasTicks verdicts.now }
-    ensures { IfOk result (λ thresholds. (name : List ℕ) → lookup (λ key. bytes_eq name key.items) thresholds.entries ≡ threshold_of verdicts.now name) }
+    ensures { IfOk result (λ thresholds. (name : List ℕ)
+        → lookup (λ key. bytes_eq name key.items) thresholds.entries ≡ threshold_of verdicts.now name) }
 {
     let mut thresholds = IndexMap::new(alloc);
     for verdict in verdicts {
@@ -87,7 +90,11 @@ fn hypothesis_of(
     })
 }
 
-/// The hypotheses in the order of their first mention, with their thresholds.
+/// Returns the hypotheses in the order of their first mention, with their thresholds.
+///
+/// # Errors
+///
+/// `NoMemory` where memory runs out.
 pub fn hypotheses_of(alloc: Global, verdicts: &[Verdict]) -> Result<Vec<Hypothesis>, NoMemory>
     requires { All HasTicks verdicts.now }
     ensures { IfOk result (λ all. all.items ≡ hypotheses_of verdicts.now) }

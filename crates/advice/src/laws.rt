@@ -4,7 +4,7 @@ ghost use Rattle.advice.specs.AdvisedDirectives.{AdviceIsRead, ReportIsAdvised};
 ghost use Rattle.advice.specs.Laws.{AnswersStay};
 ghost use Rattle.advice.specs.Seams.{CanonicalIsFocus, ReportIsRead};
 
-/// At the advised thresholds the test gives the answers again that it gave at earlier thresholds, on each verdict of a
+/// At the advised thresholds the test gives the same result as at earlier thresholds, on each verdict of a
 /// hypothesis that isn't pruned.
 pub fn answers_stay()
     ensures { AnswersStay }

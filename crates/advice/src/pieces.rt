@@ -29,7 +29,7 @@ fn end_of(separator: u8, text: &[u8]) -> Option<usize>
 }
 
 impl<'a> Pieces<'a> {
-    /// The parts of a text.
+    /// Returns the parts of a text.
     pub fn of(separator: u8, text: &'a [u8]) -> Pieces<'a>
         ensures { result ≡ parts separator text.now }
     {

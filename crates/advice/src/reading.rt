@@ -22,8 +22,12 @@ fn add_told(verdicts: &mut Vec<Verdict>, told: Option<Verdict>) -> Result<(), No
     Ok(())
 }
 
-/// The verdicts on the nodes of a report's search, in their order; none where it has no search. The fault is at the first
-/// byte of the first line that isn't as said, or at the end where a line is missing.
+/// Returns the verdicts on the nodes of a report's search, in their order; none where it has no search.
+///
+/// # Errors
+///
+/// Out of memory, or a fault at the first byte of the first line that doesn't have the form that is due, or at the end
+/// where a line is missing.
 pub fn read_verdicts(alloc: Global, report: &[u8]) -> Result<Vec<Verdict>, ReportError>
     ensures told { Tells result (verdicts_of report.now) }
     ensures ticks { IfOk result (λ verdicts. All HasTicks verdicts.items) }

@@ -1,3 +1,5 @@
+//! A verdict that a report tells.
+
 use pn_types::Text;
 
 /// What the test of a hypothesis at a focus showed.

@@ -13,7 +13,7 @@ use pn_types::is_good_name;
 /// The greatest number of digits of a number.
 const MOST_DIGITS: usize = 20;
 
-/// Whether a word is this text.
+/// Returns whether a word is this text.
 pub fn says(word: &[u8], text: &[u8]) -> bool
     ensures { result ≡ bytes_eq word.now text.now }
 {
@@ -98,7 +98,7 @@ fn are_names(most: usize, mut names: Pieces) -> bool
     true
 }
 
-/// Whether a part of a focus is a hierarchy with at most so many names below it.
+/// Whether a part of a focus is a hierarchy with at most `most` names below it.
 fn is_branch(root: &[u8], most: usize, text: &[u8]) -> bool
     ensures { result ≡ is_branch root.now most text.now }
 {
@@ -149,8 +149,8 @@ fn is_as(form: &[u8], word: &[u8]) -> bool
     }
 }
 
-/// Whether a line has a form, in which `NUMBER`, `PARENT` (a number or `none`), `NAME` and `FOCUS` stand for such words,
-/// `ANYTHING` for one word or more, and each other word for itself.
+/// Returns whether a line has a form, in which `NUMBER`, `PARENT` (a number or `none`), `NAME` and `FOCUS` stand for such
+/// words, `ANYTHING` for one word or more, and each other word for itself.
 pub fn has_form(form: &[u8], line: &[u8]) -> bool
     ensures { result ≡ has_form form.now line.now }
 {
@@ -170,7 +170,7 @@ pub fn has_form(form: &[u8], line: &[u8]) -> bool
     words.next().is_none()
 }
 
-/// The word at a place of a line, counted from 0, or nothing.
+/// Returns the word at a place of a line, counted from 0, or nothing.
 pub fn word_at(place: usize, line: &[u8]) -> &[u8]
     ensures { result.now ≡ word_at place line.now }
 {
@@ -184,7 +184,7 @@ pub fn word_at(place: usize, line: &[u8]) -> &[u8]
     }
 }
 
-/// The number at a place of a line, or 0.
+/// Returns the number at a place of a line, or 0.
 pub fn number_at(place: usize, line: &[u8]) -> u64
     ensures { result ≡ number_at place line.now }
 {

@@ -18,7 +18,7 @@ abbrev Rises : ℕ → List ℕ → Type 0
 Rises n [] = Unit {0}
 Rises n (x ∷ xs) = (n ≤ x) × Rises (x + 1) xs
 
--- whole words, each procedure behind the one before it, and the first at n or behind
+-- whole words, each procedure after the one before it, and the first at n or after
 abbrev Follow : ℕ → List Proc → Type 0
 Follow n [] = Unit {0}
 Follow n (p ∷ ps) = (n ≤ p.start) × (p.len % 4 ≡ 0) × Follow (p.start + p.len) ps

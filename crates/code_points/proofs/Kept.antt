@@ -25,7 +25,7 @@ abbrev pub is_key : Symbol → Key → Bool
 is_key s k = bytes_eq s.«module» k.0.now && bytes_eq s.name k.1.now
 
 -- These procedures lead to all. They end at `end` or before and have the modules and names `keys`, and the rest of the
--- function symbols is behind their starts.
+-- function symbols is after their starts.
 pub record Kept (image : Image) (procs : List Proc) (end : ℕ) (keys : List Key) (rest : List Symbol) : Type 0 where
   pub same : kept_of image procs rest ≡ procedures_of image
   pub low : ℕ

@@ -31,7 +31,8 @@ functions_of image = by_address (filter (λ s. is_func s.kind) image.symbols)
 -- a good name, and at least one whole word, all in the text
 abbrev pub can_be_procedure : Image → Symbol → Bool
 can_be_procedure image s =
-    is_good_name s.name && (s.at % 4 == 0) && (s.size % 4 == 0) && nat_lt 0 s.size && nat_le image.text_at s.at && nat_le (s.at + s.size) (image.text_at + image.text_len)
+    is_good_name s.name && (s.at % 4 == 0) && (s.size % 4 == 0) && nat_lt 0 s.size && nat_le image.text_at s.at
+    && nat_le (s.at + s.size) (image.text_at + image.text_len)
 
 -- an address of the symbol is one of the procedure's
 abbrev pub overlaps : Symbol → Proc → Bool
@@ -49,7 +50,7 @@ is_kept image kept s = can_be_procedure image s && not (list_any (overlaps s) ke
 abbrev pub proc_of : Symbol → Proc
 proc_of s = record { name = s.name; «module» = s.«module»; start = s.at; len = s.size }
 
--- these procedures, and behind them those of the function symbols, each judged by the ones before it
+-- these procedures, and after them those of the function symbols, each judged by the ones before it
 abbrev pub kept_of : Image → List Proc → List Symbol → List Proc
 kept_of image kept [] = kept
 kept_of image kept (s ∷ ss) = kept_of image (if is_kept image kept s then kept ++ proc_of s ∷ [] else kept) ss

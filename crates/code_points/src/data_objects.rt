@@ -51,8 +51,12 @@ fn is_data(image: &Image, symbol: &Symbol) -> bool
         && is_outside(image, first, last)
 }
 
-/// The objects of a program, in the order of the image's symbols: the object symbols that lie in one segment and outside
+/// Returns the objects of a program, in the order of the image's symbols: the object symbols that lie in one segment and outside
 /// the text. One without a size is its one address. So each lies below where segments end.
+///
+/// # Errors
+///
+/// `NoMemory` where memory runs out.
 pub fn objects(alloc: Global, image: &Image) -> Result<Vec<Symbol>, NoMemory>
     ensures objects { IfOk result (λ objects. objects.items ≡ objects_of image.now) }
     ensures low { IsImage image.now → IfOk result (λ objects. AllByRecursion (λ s. s.at < SEGMENTS_TO) objects.items) }

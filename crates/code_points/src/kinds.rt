@@ -75,9 +75,13 @@ fn add_points(
     Ok(())
 }
 
-/// The points of an image's procedures, by ascending address. An address of a procedure is a point where it is the
+/// Returns the points of an image's procedures, by ascending address. An address of a procedure is a point where it is the
 /// first, its word leaves the procedure or calls, or the word before it is the procedure's too and calls. The number
 /// of a point's procedure is its place among these procedures.
+///
+/// # Errors
+///
+/// `NoMemory` where memory runs out.
 #[tactic(auto, using(crate::proofs::NamedProcs::text_below))]
 pub fn points(alloc: Global, image: &Image, procs: &[Proc]) -> Result<Vec<Point>, NoMemory>
     requires image { IsImage image.now }

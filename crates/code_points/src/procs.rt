@@ -59,10 +59,14 @@ fn kept(alloc: Global, image: &Image, functions: &[&Symbol]) -> Result<Vec<Proc>
     Ok(procs)
 }
 
-/// The procedures of an image by ascending address, and how many function symbols are none. The function symbols are
+/// Returns the procedures of an image by ascending address, and how many function symbols are none. The function symbols are
 /// judged by ascending address, ties in the order of the image's symbols. One is a procedure where its name is good,
 /// its address and its size are multiples of 4, its size isn't 0, it lies in the text, it overlaps no procedure before
 /// it, and none of them has its module and name.
+///
+/// # Errors
+///
+/// `NoMemory` where memory runs out.
 #[tactic(auto, using(crate::proofs::NamedProcs::text_below))]
 pub fn procedures(alloc: Global, image: &Image) -> Result<(Vec<Proc>, u32), NoMemory>
     requires { IsImage image.now }

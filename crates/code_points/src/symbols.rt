@@ -20,7 +20,11 @@ fn functions(alloc: Global, symbols: &[Symbol]) -> Result<Vec<&Symbol>, NoMemory
     Ok(found)
 }
 
-/// The function symbols by ascending address, ties in their order.
+/// Returns the function symbols by ascending address, ties in their order.
+///
+/// # Errors
+///
+/// `NoMemory` where memory runs out.
 pub fn functions_by_address(alloc: Global, symbols: &[Symbol]) -> Result<Vec<&Symbol>, NoMemory>
     ensures found { IfOk result (λ found. map (λ s. s.now) found.items ≡ by_address (filter (λ s. is_func s.kind) symbols.now)) }
     ensures few { IfOk result (λ found. length found.items ≤ length symbols.now) }

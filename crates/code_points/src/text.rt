@@ -5,7 +5,7 @@ ghost use Rattle.rv_word.specs.Plain.{program_word, words_from};
 
 use rv_word::split_word;
 
-/// The word at an address of a text that begins at `text_at`, where it has one there.
+/// Returns the word at an address of a text that begins at `text_at`, where it has one there.
 pub fn word(text: &[u8], text_at: u64, at: u64) -> Option<u32>
     ensures { result ≡ program_word (words_from text_at text.now) at }
 {

@@ -1,4 +1,4 @@
--- What the reader answers is what the text means.
+-- What the reader returns is what the text means.
 use Rattle.std.proofs.Common.{◌≡◌, ℕ, List, [], ◌∷◌, ◌++◌, flat_map, Option, Some, None, Ok, refl, sym, ap, subst, ◌∙◌, arith}
 use Rattle.std.proofs.lemmas.List.{append_assoc, append-nil}
 use Rattle.pn_text.specs.Scans.{Ending, AtEnd, AtFault, tokens_of}
@@ -41,7 +41,7 @@ begins words_ahead c = record { whole = c.whole; tail = c.tail; words = c.words;
 pub whole_begins : (words_ahead : List PlacedWord) (ds : List Directive) → AreOf words_ahead ds → Begin words_ahead
 whole_begins words_ahead ds a = record { whole = ds; tail = []; words = tt; spelled = subst (λ (t : List PlacedWord). AreOf t ds) (sym (append-nil words_ahead)) a }
 
--- ---- answers
+-- ---- results
 
 -- reading stops before these words
 abbrev pub stops : List PlacedWord → Read (List Directive)
@@ -66,7 +66,7 @@ stopped text [] (AtEnd last) d e =
     let f = directives_reads.fails 0 (placed_words text) _ e in
     AtLast last d (subst Begin (sym (f.split ∙ append-nil f.used)) (begins f.used f.begun)) (λ ds a. (let e2 = sym (read_again (placed_words text) ds a) ∙ e in absurd cc))
 
--- all words are read, and this stands behind them
+-- all words are read, and this stands after them
 abbrev Ended : List ℕ → List Directive → Option DirectiveFault → Type 0
 Ended text ds None = IsDirectives text ds
 Ended text ds (Some fault) = Faults text fault

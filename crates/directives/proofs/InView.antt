@@ -1,4 +1,4 @@
--- A token in view and those behind it.
+-- A token in view and those after it.
 use Rattle.std.proofs.Common.{◌≡◌, ℕ, ◌≤◌, Option, Some, None, List, [], ◌∷◌, length, map, sym, ap, subst, ◌∙◌, arith}
 use Rattle.pn_text.specs.Scans.{Scan, Ending, AreSpans}
 use Rattle.pn_text.specs.declared.token.Token.{Token}

@@ -4,9 +4,11 @@ pub mod Exact
 pub mod OneMeaning
 pub mod AlwaysMeans
 pub mod Slots
+pub mod AllStanding
 pub mod Ancestors
 pub mod Pruning
 pub mod Moving
+pub mod AtStart
 pub mod Settling
 pub mod Loops
 pub mod Stripped

@@ -11,7 +11,8 @@ use Rattle.mdl_ast.specs.declared.items.Hypothesis.{Hypothesis as TheHypothesis}
 use Rattle.directives.specs.Hypotheses.{is_named, stands}
 use Rattle.directives.specs.Acts.{parent_in, parent_of, leads_up, is_under, pruned}
 use Rattle.directives.specs.Standing.{slot, taken, left, IsLeftOf, count, standing, is_child, is_place, ArePlaces, children_of}
-use Rattle.directives.proofs.Slots.{Slots, at, left_at, left_of, nothing_there, stood_there, left_again, emptied_at, any_taken, all_taken, count_left, standing_count, any_standing, some_standing, all_standing, standing_alike}
+use Rattle.directives.proofs.Slots.{Slots, at, left_at, left_of, nothing_there, stood_there, left_again, emptied_at, any_taken, all_taken, count_left}
+use Rattle.directives.proofs.AllStanding.{standing_count, any_standing, some_standing, all_standing, standing_alike}
 use Rattle.directives.proofs.Ancestors.{under_is, Agrees, parent_found, no_parent, under_more, under_named, under_itself, under_child}
 
 -- ---- lists

@@ -38,7 +38,7 @@ abbrev pub parent_of : List Item → List ℕ → Option (List ℕ)
 parent_of [] name = None
 parent_of (item ∷ items) name = if is_named name item then parent_in item else parent_of items name
 
--- the name is that of one of n ancestors, of which the first may be given
+-- the name is one of n ancestors' in a row, of which the first is the given one, if any
 abbrev pub leads_up : List Item → ℕ → List ℕ → Option (List ℕ) → Bool
 leads_up items zero name next = false
 leads_up items (suc n) name None = false
@@ -68,7 +68,7 @@ with_threshold threshold h = record h { threshold = threshold }
 
 -- ---- first
 
--- the hypothesis of this name, and behind it the others in their order
+-- the hypothesis of this name, and after it the others in their order
 unfoldable pub with_first : List ℕ → List Item → List Item
 with_first name items = filter (is_named name) items ++ filter (λ item. not (is_named name item)) items
 
@@ -101,8 +101,9 @@ acted (First name) items = with_first name items
 
 -- ---- directives, in their order
 
--- those behind one that has no fault, or its fault
-abbrev pub go_on : (List Item → Result (List Item) DirectiveFault) → Directive → List Item → Option DirectiveKind → Result (List Item) DirectiveFault
+-- those after one that has no fault, or its fault
+abbrev pub go_on : (List Item → Result (List Item) DirectiveFault) → Directive → List Item → Option DirectiveKind
+    → Result (List Item) DirectiveFault
 go_on more d items None = more (acted d.act items)
 go_on more d items (Some kind) = Err (record { line = d.line; col = 0; kind = kind })
 

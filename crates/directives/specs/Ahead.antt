@@ -1,4 +1,4 @@
--- For proofs alone: the words that are to come, and what a function of the reader answers.
+-- For proofs alone: the words that are to come, and what a function of the reader returns.
 use Rattle.std.specs.Prelude.{◌≡◌, ℕ, Option, Some, None, Result, Ok, Err, List, [], ◌∷◌, map, length}
 use Rattle.pn_text.specs.Scans.{Scan, Ending, AtEnd, AtFault, AreSpans, tokens_of, fault_place}
 use Rattle.pn_text.specs.declared.token.Token.{Token}
@@ -12,12 +12,12 @@ use Rattle.directives.specs.declared.stop.Stop.{Stop}
 use Rattle.directives.specs.declared.stop.Stop.TheVariants.{NoMemory, Unexpected}
 use Rattle.directives.specs.Meaning.{lex_kind}
 
--- it stops where reading stops, unless memory is wanting
+-- it stops where reading stops, unless memory runs out
 abbrev pub StopsAt : {A : Type 0} → Stop → List PlacedWord → Read A → Type 0
 StopsAt NoMemory rest read = Unit {0}
 StopsAt Unexpected rest read = read ≡ taken None rest
 
--- it answers what was read, and leaves what is left
+-- it returns what was read, and leaves what is left
 abbrev pub Gives : {A : Type 0} → Result A Stop → List PlacedWord → Read A → Type 0
 Gives (Ok a) rest read = read ≡ Ok (a, rest)
 Gives (Err why) rest read = StopsAt why rest read
@@ -33,11 +33,11 @@ pub record Ahead : Type 0 where
 abbrev pub ahead : List ℕ → Ahead
 ahead text = record { words_ahead = placed_words text; ending = (tokens_of text).ending }
 
--- what stands behind the first
+-- what stands after the first
 abbrev pub passed : Ahead → Ahead
 passed a = record { words_ahead = behind a.words_ahead; ending = a.ending }
 
--- a token in view, and those behind it
+-- a token in view, and those after it
 abbrev pub in_view : List ℕ → Option Token → Scan → Ahead
 in_view text token scan = record { words_ahead = map (placed_word text) (tokens_ahead token scan); ending = scan.ending }
 
@@ -57,7 +57,7 @@ fault_in [] (AtEnd last) = record { line = last.line; col = last.col; kind = kin
 fault_in [] (AtFault fault) = lex_fault fault
 fault_in (placed ∷ words_ahead) ending = record { line = placed.line; col = placed.col; kind = kind.Unexpected }
 
--- the fault that stands behind all words, if there is one
+-- the fault that stands after all words, if there is one
 abbrev pub unread_in : List PlacedWord → Ending → Option DirectiveFault
 unread_in [] (AtEnd last) = None
 unread_in [] (AtFault fault) = Some (lex_fault fault)

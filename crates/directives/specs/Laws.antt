@@ -34,13 +34,16 @@ is_child name parent item = false
 -- the hypothesis of the second name has that of the first as an ancestor
 pub data IsAncestor (items : List Item) (ancestor : List ℕ) : List ℕ → Type 0 where
   Parent : (name : List ℕ) → list_any (is_child name ancestor) items ≡ true → IsAncestor items ancestor name
-  Higher : (name parent : List ℕ) → list_any (is_child name parent) items ≡ true → IsAncestor items ancestor parent → IsAncestor items ancestor name
+  Higher : (name parent : List ℕ) → list_any (is_child name parent) items ≡ true → IsAncestor items ancestor parent
+      → IsAncestor items ancestor name
 
 -- no hypothesis that was pruned stands, and none that had it as an ancestor
 abbrev pub PrunedIsGone : Type 0
-PrunedIsGone = (t : Resources) (shipped items made : List Item) (directives : List Directive) (pruned : List ℕ) → IsAccepted t shipped items → applied shipped items directives ≡ Ok made →
-    list_any (λ d. is_prune pruned d.act) directives ≡ true →
-    (stands pruned made ≡ false) × ((name : List ℕ) → IsAncestor (expanded shipped items) pruned name → stands name made ≡ false)
+PrunedIsGone =
+    (t : Resources) (shipped items made : List Item) (directives : List Directive) (pruned : List ℕ)
+    → IsAccepted t shipped items → applied shipped items directives ≡ Ok made
+    → list_any (λ d. is_prune pruned d.act) directives ≡ true
+    → (stands pruned made ≡ false) × ((name : List ℕ) → IsAncestor (expanded shipped items) pruned name → stands name made ≡ false)
 
 -- ---- pruned axes
 
@@ -51,8 +54,10 @@ is_axis_prune name axis act = false
 
 -- a hypothesis isn't refined along an axis that was taken from it
 abbrev pub AxisIsGone : Type 0
-AxisIsGone = (shipped items made : List Item) (directives : List Directive) (name axis : List ℕ) → applied shipped items directives ≡ Ok made →
-    list_any (λ d. is_axis_prune name axis d.act) directives ≡ true → has_axis name axis made ≡ false
+AxisIsGone =
+    (shipped items made : List Item) (directives : List Directive) (name axis : List ℕ)
+    → applied shipped items directives ≡ Ok made
+    → list_any (λ d. is_axis_prune name axis d.act) directives ≡ true → has_axis name axis made ≡ false
 
 -- ---- thresholds
 
@@ -73,8 +78,10 @@ is_off name threshold item = false
 
 -- a hypothesis has the last threshold that was given to it
 abbrev pub LastThresholdHolds : Type 0
-LastThresholdHolds = (shipped items made : List Item) (directives : List Directive) (name : List ℕ) (threshold : ℕ) → applied shipped items directives ≡ Ok made →
-    last_threshold name None directives ≡ Some threshold → list_any (is_off name threshold) made ≡ false
+LastThresholdHolds =
+    (shipped items made : List Item) (directives : List Directive) (name : List ℕ) (threshold : ℕ)
+    → applied shipped items directives ≡ Ok made
+    → last_threshold name None directives ≡ Some threshold → list_any (is_off name threshold) made ≡ false
 
 -- ---- the other items
 
@@ -84,9 +91,14 @@ hypothesis_in item = []
 
 -- the hypotheses of a configuration that the check accepts are those with the shipped ones in the place of their include
 abbrev pub SameHypotheses : Type 0
-SameHypotheses = (t : Resources) (shipped items : List Item) (checked : Checked) → IsAnswer t shipped items (Ok checked) → checked.hypotheses ≡ flat_map hypothesis_in (expanded shipped items)
+SameHypotheses =
+    (t : Resources) (shipped items : List Item) (checked : Checked) → IsAnswer t shipped items (Ok checked)
+    → checked.hypotheses ≡ flat_map hypothesis_in (expanded shipped items)
 
 -- what the check makes of the configuration differs in the hypotheses alone
 abbrev pub OthersStay : Type 0
-OthersStay = (t : Resources) (shipped items made : List Item) (directives : List Directive) (before after : Checked) → IsAnswer t shipped items (Ok before) →
-    applied shipped items directives ≡ Ok made → IsAnswer t shipped made (Ok after) → after ≡ record before { hypotheses = flat_map hypothesis_in made }
+OthersStay =
+    (t : Resources) (shipped items made : List Item) (directives : List Directive) (before after : Checked)
+    → IsAnswer t shipped items (Ok before)
+    → applied shipped items directives ≡ Ok made → IsAnswer t shipped made (Ok after)
+    → after ≡ record before { hypotheses = flat_map hypothesis_in made }

@@ -39,10 +39,10 @@ lex_kind (lex.BigNumber place) = BigNumber
 
 -- The first fault of a text, which stands at this line and column.
 pub data IsFault (text : List ℕ) : ℕ → ℕ → DirectiveKind → Type 0 where
-  -- the words begin directives, but not with this word behind them
+  -- the words begin directives, but not with this word after them
   AtWord : (before : List PlacedWord) (placed : PlacedWord) (after : List PlacedWord) → placed_words text ≡ before ++ (placed ∷ after) →
       Begin before → (Begin (before ++ (placed ∷ [])) → ⊥) → IsFault text placed.line placed.col Unexpected
-  -- the words have no fault, but behind them stands something that is no word
+  -- the words have no fault, but after them stands something that is no word
   AtBytes : (fault : LexFault) → (tokens_of text).ending ≡ AtFault fault → Begin (placed_words text) →
       IsFault text (fault_place fault).line (fault_place fault).col (lex_kind fault)
   -- the end comes too early
@@ -53,7 +53,7 @@ pub data IsFault (text : List ℕ) : ℕ → ℕ → DirectiveKind → Type 0 wh
 abbrev pub Faults : List ℕ → DirectiveFault → Type 0
 Faults text fault = IsFault text fault.line fault.col fault.kind
 
--- why a call was refused; want of memory is free
+-- why a call was refused; running out of memory is always allowed
 abbrev pub Refuses : DirectiveError → (DirectiveFault → Type 0) → Type 0
 Refuses (error.Fault fault) why = why fault
 Refuses error.NoMemory why = Unit {0}
@@ -62,7 +62,9 @@ Refuses error.NoMemory why = Unit {0}
 
 -- it spells one list of directives at most
 abbrev pub OneDirectives : Type 0
-OneDirectives = (text : List ℕ) (directives others : List Directive) → IsDirectives text directives → IsDirectives text others → directives ≡ others
+OneDirectives =
+    (text : List ℕ) (directives others : List Directive) → IsDirectives text directives → IsDirectives text others
+    → directives ≡ others
 
 -- it has one fault at most, at one place
 abbrev pub OneFault : Type 0
@@ -77,4 +79,5 @@ DirectivesOrFault = (text : List ℕ) (directives : List Directive) (line col : 
 -- each text spells directives or has a fault
 abbrev pub AlwaysMeans : Type 0
 AlwaysMeans = (text : List ℕ) →
-    ((directives : List Directive) × IsDirectives text directives) ⊎ ((line : ℕ) × (col : ℕ) × (kind : DirectiveKind) × IsFault text line col kind)
+    ((directives : List Directive) × IsDirectives text directives)
+    ⊎ ((line : ℕ) × (col : ℕ) × (kind : DirectiveKind) × IsFault text line col kind)

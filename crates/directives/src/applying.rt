@@ -74,7 +74,7 @@ fn act_on(alloc: Global, standing: &mut Standing, act: &DirectiveAct) -> Result<
     }
 }
 
-/// The configuration that directives make of one that the check accepts with these shipped items over this tree.
+/// Returns the configuration that directives make of one that the check accepts with these shipped items over this tree.
 ///
 /// `include hypotheses` is replaced by the shipped hypotheses at its line, and then the directives act in their order:
 ///
@@ -83,10 +83,12 @@ fn act_on(alloc: Global, standing: &mut Standing, act: &DirectiveAct) -> Result<
 /// - `threshold H N` sets its threshold;
 /// - `first H` puts it before all other items, which keep their order.
 ///
-/// The check accepts what is made, and the names of objects begin as they did. The tree is named for this alone.
+/// The check accepts what is made, and the names of objects begin as they did. The tree is an argument for this alone.
 ///
-/// `UnknownName` comes at the first directive whose name is no hypothesis that still stands, and `WrongKind` at the first
-/// whose axis isn't among those of its hypothesis; the line is that of the directive, and the column 0.
+/// # Errors
+///
+/// Out of memory, or `UnknownName` at the first directive whose name is no hypothesis that still stands, and `WrongKind` at
+/// the first whose axis isn't among those of its hypothesis; the line is that of the directive, and the column 0.
 pub fn apply(
     alloc: Global,
     conf: &Conf,
@@ -102,7 +104,8 @@ pub fn apply(
     // The objects of the tree come from these.
     ensures prefixes { IfOk result (λ made. prefixes_of shipped.now.items made.items ≡ prefixes_of shipped.now.items conf.now.items) }
     // The check asks that there are few items, and tells more where their statements are small.
-    ensures few { IfOk result (λ made. length (placed_items shipped.now.items made.items) ≤ length (placed_items shipped.now.items conf.now.items)) }
+    ensures few { IfOk result (λ made. length (placed_items shipped.now.items made.items)
+        ≤ length (placed_items shipped.now.items conf.now.items)) }
     ensures small { AllByRecursion HasSmall conf.now.items → IfOk result (λ made. AllByRecursion HasSmall made.items) }
 {
     let items = expanded(alloc, shipped.items.as_slice(), conf.items.as_slice())?;

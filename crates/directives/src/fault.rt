@@ -9,7 +9,7 @@ use std::alloc::{AllocError, AllocFailed};
 /// What kind of fault it is.
 #[derive(Clone, Copy, PartialEq, Eq, Drop)]
 pub enum DirectiveKind {
-    /// No word begins with the byte, or none that goes on as the bytes behind it do.
+    /// No word begins with the byte, or none that goes on as the bytes after it do.
     BadByte,
     /// The line or the text ends before the second quote of a string.
     OpenString,
@@ -37,7 +37,7 @@ pub struct DirectiveFault {
 /// Why directives can't be used.
 #[derive(Clone, Copy, PartialEq, Eq, Drop)]
 pub enum DirectiveError {
-    /// Memory was wanting.
+    /// Memory ran out.
     NoMemory,
     /// The first fault.
     Fault(DirectiveFault),

@@ -1,4 +1,4 @@
-//! What holds of directives, and of a configuration after them. Laws.
+//! What holds of directives, and of a configuration after them.
 
 ghost use Rattle.directives.specs.Meaning.{OneDirectives, OneFault, DirectivesOrFault, AlwaysMeans};
 ghost use Rattle.directives.specs.Laws.{PrunedIsGone, AxisIsGone, LastThresholdHolds, SameHypotheses, OthersStay};

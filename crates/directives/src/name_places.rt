@@ -14,7 +14,7 @@ pub(crate) struct NamePlaces {
     places: IndexMap<Vec<u8>, Vec<usize>>,
 }
 
-// By a call of its own: what drops it need not prove the drops of all its parts.
+// A function of its own, so that what drops it need not prove the drops of all its parts.
 impl Drop for NamePlaces {
     fn drop(self) {
         let NamePlaces { places: _ } = self;
@@ -49,9 +49,10 @@ impl NamePlaces {
         }
     }
 
-    /// Puts a place under a name, behind those that are there.
+    /// Puts a place under a name, after those that are there.
     pub(crate) fn push(&mut self, alloc: Global, name: &[u8], place: usize) -> Result<(), NoMemory>
-        ensures { OnOk result ((other : List ℕ) → under self.new other ≡ with_number (bytes_eq other name.now) place (under self.old other)) }
+        ensures { OnOk result ((other : List ℕ)
+            → under self.new other ≡ with_number (bytes_eq other name.now) place (under self.old other)) }
     {
         add_place(alloc, &mut self.places, name, place)
     }

@@ -103,7 +103,7 @@ impl<'a> Words<'a> {
     }
 }
 
-/// The directives that a text spells, or its first fault. The text has at most 1,048,576 bytes.
+/// Returns the directives that a text spells. The text has at most 1,048,576 bytes.
 ///
 /// Its words are those of configurations, with their white space and comments:
 ///

@@ -17,8 +17,8 @@ use pn_types::NoMemory;
 use std::alloc::Global;
 use std::marker::Model;
 
-/// The items of a configuration while directives act on them. Contracts see those that still stand, in their order: the hypotheses
-/// that were put before all others first.
+/// The items of a configuration while directives act on them. Contracts see those that still stand, in their order, the
+/// hypotheses that were put before all others first.
 pub(crate) struct Standing {
     // By place; none where a hypothesis was taken away.
     slots: Vec<Option<Item>>,
@@ -41,7 +41,7 @@ impl Model for Standing {
     ghost invariant = { λ s. ArePlaces s.slots.items (under s.named) (under s.children) };
 }
 
-// By a call of its own: what drops it need not prove the drops of all its parts.
+// A function of its own, so that what drops it need not prove the drops of all its parts.
 impl Drop for Standing {
     fn drop(self) {
         let Standing {
@@ -61,8 +61,10 @@ fn note_item(
     item: &Item,
     place: usize,
 ) -> Result<(), NoMemory>
-    ensures named { OnOk result ((name : List ℕ) → under named.new name ≡ with_number (is_named name item.now) place (under named.old name)) }
-    ensures children { OnOk result ((name : List ℕ) → under children.new name ≡ with_number (is_child name item.now) place (under children.old name)) }
+    ensures named { OnOk result ((name : List ℕ)
+        → under named.new name ≡ with_number (is_named name item.now) place (under named.old name)) }
+    ensures children { OnOk result ((name : List ℕ)
+        → under children.new name ≡ with_number (is_child name item.now) place (under children.old name)) }
 {
     let Item::Hypothesis(hypothesis) = item else {
         return Ok(());

@@ -8,7 +8,7 @@ use std::alloc::{AllocError, AllocFailed};
 /// Why no directive was read.
 #[derive(Drop)]
 pub(crate) enum Stop {
-    /// Memory is wanting.
+    /// Memory ran out.
     NoMemory,
     /// The word in view, or the end, can't stand here.
     Unexpected,

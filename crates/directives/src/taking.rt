@@ -72,7 +72,8 @@ pub(crate) fn take_under(
 ) -> Result<(), NoMemory>
     requires { ArePlaces slots.old (under named.now) (under children.now) }
     ensures left { IsLeftOf slots.old slots.new }
-    ensures pruned { OnOk result ((moved : List ℕ) → stands name.now (standing slots.old moved) ≡ true → standing slots.new moved ≡ pruned name.now (standing slots.old moved)) }
+    ensures pruned { OnOk result ((moved : List ℕ) → stands name.now (standing slots.old moved) ≡ true
+        → standing slots.new moved ≡ pruned name.now (standing slots.old moved)) }
 {
     let mut parents = Vec::new(alloc);
     take_items(slots, named.under(name), &mut parents)?;

@@ -1,6 +1,6 @@
 //! The words of a text, one after another, the next one in view.
 //!
-//! A function that answers Unexpected leaves the word in view that doesn't fit.
+//! A function that returns Unexpected leaves the word in view that doesn't fit.
 
 ghost use Rattle.std.specs.Prelude.{◌≡◌, ◌+◌, ◌<◌, ◌^◌, length, IfOk, IfErr};
 ghost use Rattle.std.specs.Option.{option_map, option_and_then};
@@ -38,7 +38,7 @@ impl<'a> Model for Words<'a> {
     ghost invariant = { λ w. StandIn w.text.now w.token w.scanner };
 }
 
-/// The token that a scanner answers, and None at its end or its fault.
+/// The token that a scanner returns, and None at its end or its fault.
 fn next_token(scanner: &mut Scanner) -> Option<Token>
     ensures tokens { tokens_ahead result scanner.new ≡ scanner.old.tokens }
     ensures ending { scanner.new.ending ≡ scanner.old.ending }
@@ -202,7 +202,7 @@ impl<'a> Words<'a> {
         Ok(number)
     }
 
-    /// The fault that stands behind all words, if they are passed and there is one.
+    /// The fault that stands after all words, if they are passed and there is one.
     pub(crate) fn unread(&mut self) -> Option<DirectiveFault>
         ensures { result ≡ unread_in self.old.words_ahead self.old.ending }
     {

@@ -13,6 +13,6 @@ pub fails : (test : Bool) (fault : ElfFault) → fault_where test fault ≡ None
 fails true fault h = absurd (cc)
 fails false fault h = refl
 
--- behind a check that gives none the others count
+-- after a check that gives none the others count
 pub behind : (check : Option ElfFault) (checks : List (Option ElfFault)) → check ≡ None → first_fault (check ∷ checks) ≡ first_fault checks
 behind check checks h = ap (λ c. first_fault (c ∷ checks)) h

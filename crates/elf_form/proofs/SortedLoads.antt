@@ -105,7 +105,7 @@ module _ (P : Load → Type 0) where
   all-fold sorted [] p q = p
   all-fold sorted (l ∷ ls) p q = all-fold (with_load sorted l) ls (all-with sorted l p q.0) q.1
 
--- what ends at or before a segment ends at or before those behind it
+-- what ends at or before a segment ends at or before those after it
 further : (l m : Load) (xs : List Load) → end_of l ≤ m.header.address → AllByRecursion (λ x. end_of m ≤ x.header.address) xs → AllByRecursion (λ x. end_of l ≤ x.header.address) xs
 further l m [] le all = tt
 further l m (x ∷ xs) le all = (omega (arith, all.0), further l m xs le all.1)

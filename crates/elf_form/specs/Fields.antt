@@ -11,11 +11,11 @@ use Rattle.elf_form.specs.declared.symbol.SymbolEntry.{SymbolEntry}
 unfoldable pub field : ℕ → List ℕ → ℕ → ℕ
 field n bytes at = little_number n (drop at bytes)
 
--- so many bytes of a file from a place on
+-- `size` bytes of a file from a place on
 abbrev pub part : List ℕ → ℕ → ℕ → List ℕ
 part bytes at size = take size (drop at bytes)
 
--- the n entries of a table, each of so many bytes, from a place on
+-- the n entries of a table from a place on, each of `size` bytes
 abbrev pub table : {A : Type 0} → (List ℕ → ℕ → A) → ℕ → List ℕ → ℕ → ℕ → List A
 table read size bytes zero at = []
 table read size bytes (suc n) at = read bytes at ∷ table read size bytes n (at + size)

@@ -20,7 +20,7 @@ is_riscv64 h =
 abbrev pub has_bad_flags : Header → Bool
 has_bad_flags h = not (h.flags % 16 == 0)
 
--- a header table reaches past the end of a file of so many bytes
+-- a header table reaches past the end of a file of `len` bytes
 abbrev pub has_short_tables : Header → ℕ → Bool
 has_short_tables h len =
     reaches_past h.program_headers (h.program_header_count * 56) len || reaches_past h.section_headers (h.section_header_count * 64) len

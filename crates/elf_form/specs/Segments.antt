@@ -21,11 +21,11 @@ loads_from index [] = []
 loads_from index (p ∷ ps) =
     if is_load p then record { index = index; header = p } ∷ loads_from (index + 1) ps else loads_from (index + 1) ps
 
--- the address behind the segment's memory
+-- the address after the segment's memory
 abbrev pub end_of : Load → ℕ
 end_of l = l.header.address + l.header.memory_size
 
--- the first fault of a segment, in a file of so many bytes, where `place` segments are loaded before it
+-- the first fault of a segment, in a file of `len` bytes, where `place` segments are loaded before it
 abbrev pub load_fault : ℕ → ℕ → Load → Option ElfFault
 load_fault len place l =
     first_fault (fault_where (nat_lt l.header.memory_size l.header.file_size || nat_le MAX_SEGMENTS place) (BadSegment l.index)
@@ -34,14 +34,17 @@ load_fault len place l =
     ∷ fault_where (nat_lt SEGMENTS_TO (end_of l)) (HighSegment l.header.address)
     ∷ [])
 
--- the faults of segments, the first of which has so many before it
+-- the faults of segments, where `place` others come before the first
 abbrev pub load_faults : ℕ → ℕ → List Load → List (Option ElfFault)
 load_faults len place [] = []
 load_faults len place (l ∷ ls) = load_fault len place l ∷ load_faults len (place + 1) ls
 
 -- the lowest address that two segments have
 abbrev pub shared : Load → Load → Option ℕ
-shared l m = if nat_lt (max l.header.address m.header.address) (min (end_of l) (end_of m)) then Some (max l.header.address m.header.address) else None
+shared l m =
+    if nat_lt (max l.header.address m.header.address) (min (end_of l) (end_of m))
+    then Some (max l.header.address m.header.address)
+    else None
 
 -- the lower of two addresses, as far as there are any
 abbrev pub lower : Option ℕ → Option ℕ → Option ℕ
@@ -67,7 +70,7 @@ overlap_fault (Some a) = Some (Overlap a)
 abbrev pub total_size : List Load → ℕ
 total_size loads = sum_by (λ l. l.header.memory_size) loads
 
--- the first fault of the segments in a file of so many bytes
+-- the first fault of the segments in a file of `len` bytes
 unfoldable pub segments_fault : ℕ → List Load → Option ElfFault
 segments_fault len loads =
     first_fault (first_fault (load_faults len 0 loads)
@@ -81,7 +84,7 @@ is_around l r = nat_le l.header.address r.at && nat_le r.end (l.header.address +
 
 -- ---- the memory of the image
 
--- a segment's memory: its file part, and zeros behind it
+-- a segment's memory: its file part, and zeros after it
 abbrev pub segment_of : List ℕ → Load → Segment
 segment_of b l = record { at = l.header.address; bytes = part b l.header.offset l.header.file_size; size = l.header.memory_size }
 

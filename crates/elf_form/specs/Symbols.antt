@@ -93,7 +93,7 @@ entries_of b symbols = table symbol_entry_of 24 b (symbols.size / 24) symbols.of
 abbrev pub section_bytes : List ℕ → SectionHeader → List ℕ
 section_bytes b s = part b s.offset s.size
 
--- a section reaches past the end of a file of so many bytes
+-- a section reaches past the end of a file of `len` bytes
 abbrev pub is_short : ℕ → SectionHeader → Bool
 is_short len s = reaches_past s.offset s.size len
 

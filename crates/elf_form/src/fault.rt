@@ -1,3 +1,5 @@
+//! Why bytes are no ELF file that can be loaded, and why a file was not loaded.
+
 use std::alloc::{AllocError, AllocFailed};
 
 /// Why a file has no image. Lengths are in bytes.
@@ -41,7 +43,7 @@ pub enum ElfFault {
 /// Why a file was not loaded.
 #[derive(Clone, Copy, Debug, PartialEq, Eq, Drop)]
 pub enum ElfError {
-    /// Memory was wanting.
+    /// Memory ran out.
     NoMemory,
     /// The first fault of the file.
     Fault(ElfFault),

@@ -1,3 +1,5 @@
+//! The file header.
+
 ghost use Rattle.std.specs.Prelude.{◌≡◌, ◌≤◌, length};
 ghost use Rattle.elf_form.specs.Fields.{header_of};
 ghost use Rattle.elf_form.specs.Headers.{begins_as_elf, is_riscv64, has_bad_flags, has_short_tables};
@@ -33,14 +35,14 @@ pub struct Header {
     pub section_header_count: u16,
 }
 
-/// Whether the file begins with the bytes 7F 45 4C 46.
+/// Returns whether the file begins with the bytes 7F 45 4C 46.
 pub fn begins_as_elf(bytes: &[u8]) -> bool
     ensures { result ≡ begins_as_elf bytes.now }
 {
     bytes.len() >= 4 && word(bytes, 0) == 0x464c_457f
 }
 
-/// The file header.
+/// Returns the file header.
 pub fn header_of(bytes: &[u8]) -> Header
     requires { 64 ≤ length bytes.now }
     ensures { result ≡ header_of bytes.now }
@@ -62,7 +64,7 @@ pub fn header_of(bytes: &[u8]) -> Header
 }
 
 impl Header {
-    /// Whether the file is an executable for 64-bit RISC-V with tables of the standard's entries.
+    /// Returns whether the file is an executable for 64-bit RISC-V with tables of the standard's entries.
     pub fn is_riscv64(&self) -> bool
         ensures { result ≡ is_riscv64 self.now }
     {
@@ -74,14 +76,14 @@ impl Header {
             && (self.section_header_count == 0 || self.section_header_size == 64)
     }
 
-    /// Whether the flags ask for compressed code, floating-point registers or RV32E.
+    /// Returns whether the flags ask for compressed code, floating-point registers or RV32E.
     pub fn has_bad_flags(&self) -> bool
         ensures { result ≡ has_bad_flags self.now }
     {
         self.flags % 16 != 0
     }
 
-    /// Whether a table reaches past the end of a file of so many bytes.
+    /// Returns whether a table reaches past the end of a file of `len` bytes.
     pub fn has_short_tables(&self, len: u64) -> bool
         ensures { result ≡ has_short_tables self.now len }
     {

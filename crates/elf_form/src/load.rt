@@ -1,3 +1,5 @@
+//! Segments to be loaded, and their faults.
+
 ghost use Rattle.std.specs.Prelude.{◌≡◌, ◌+◌, ◌<◌, ◌^◌, Some};
 ghost use Rattle.elf_form.specs.Segments.{load_fault, shared, is_around};
 
@@ -17,7 +19,7 @@ pub struct Load {
 }
 
 impl Load {
-    /// The fault of the segment, if there is one, in a file of so many bytes, where `place` others are loaded before it.
+    /// Returns the fault of the segment, if there is one, in a file of `len` bytes, where `place` others are loaded before it.
     pub fn fault(&self, len: u64, place: usize) -> Option<ElfFault>
         ensures { result ≡ load_fault len place self.now }
     {
@@ -35,7 +37,7 @@ impl Load {
         }
     }
 
-    /// The lowest address that the segment shares with another.
+    /// Returns the lowest address that the segment shares with another.
     pub fn shared(&self, other: &Load) -> Option<u64>
         requires this { self.now.header.address + self.now.header.memory_size < 2 ^ 64 }
         requires that { other.now.header.address + other.now.header.memory_size < 2 ^ 64 }
@@ -47,7 +49,7 @@ impl Load {
         if start < end { Some(start) } else { None }
     }
 
-    /// Whether a range lies in the file part of the segment.
+    /// Returns whether a range lies in the file part of the segment.
     pub fn is_around(&self, range: &TextRange) -> bool
         requires { self.now.header.address + self.now.header.file_size < 2 ^ 64 }
         ensures { result ≡ is_around self.now range.now }

@@ -1,3 +1,5 @@
+//! Section headers, and the range of the text.
+
 ghost use Rattle.std.specs.Prelude.{◌≡◌, ◌+◌, ◌≤◌, ◌<◌, ◌^◌, length, Option};
 ghost use Rattle.elf_form.specs.Fields.{section_header_of};
 ghost use Rattle.elf_form.specs.Symbols.{is_short};
@@ -29,11 +31,11 @@ pub struct SectionHeader {
 pub struct TextRange {
     /// The first address.
     pub at: u64,
-    /// The address behind the last.
+    /// The address after the last.
     pub end: u128,
 }
 
-/// The section header at a place.
+/// Returns the section header at a place.
 pub fn section_header_at(bytes: &[u8], at: usize) -> SectionHeader
     requires { at + 64 ≤ length bytes.now }
     ensures { result ≡ section_header_of bytes.now at }
@@ -50,14 +52,14 @@ pub fn section_header_at(bytes: &[u8], at: usize) -> SectionHeader
 }
 
 impl SectionHeader {
-    /// Whether the section reaches past the end of a file of so many bytes.
+    /// Returns whether the section reaches past the end of a file of `len` bytes.
     pub fn reaches_past(&self, len: u64) -> bool
         ensures { result ≡ is_short len self.now }
     {
         reaches_past(self.offset, self.size, len)
     }
 
-    /// Whether the section is allocated and executable, and not empty.
+    /// Returns whether the section is allocated and executable, and not empty.
     pub fn is_text(&self) -> bool
         ensures { result ≡ is_text self.now }
     {
@@ -71,14 +73,14 @@ impl SectionHeader {
         self.flags / 2 % 4 == 1 && self.size > 0 && self.kind != 8
     }
 
-    /// Whether the section is no text, and begins in the range of the text.
+    /// Returns whether the section is no text, and begins in the range of the text.
     pub fn intrudes(&self, range: &TextRange) -> bool
         ensures { result ≡ intrudes range.now self.now }
     {
         self.is_other() && range.at <= self.address && (self.address as u128) < range.end
     }
 
-    /// The smallest range that covers a range and the section.
+    /// Returns the smallest range that covers a range and the section.
     pub fn widened(&self, range: Option<TextRange>) -> TextRange
         ensures { Some result ≡ widened range self.now }
     {

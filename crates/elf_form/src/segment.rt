@@ -1,3 +1,5 @@
+//! Program headers.
+
 ghost use Rattle.std.specs.Prelude.{◌≡◌, ◌+◌, ◌≤◌, length};
 ghost use Rattle.elf_form.specs.Fields.{program_header_of};
 ghost use Rattle.elf_form.specs.Segments.{is_load};
@@ -19,7 +21,7 @@ pub struct ProgramHeader {
     pub memory_size: u64,
 }
 
-/// The program header at a place.
+/// Returns the program header at a place.
 pub fn program_header_at(bytes: &[u8], at: usize) -> ProgramHeader
     requires { at + 56 ≤ length bytes.now }
     ensures { result ≡ program_header_of bytes.now at }
@@ -34,7 +36,7 @@ pub fn program_header_at(bytes: &[u8], at: usize) -> ProgramHeader
 }
 
 impl ProgramHeader {
-    /// Whether the segment has memory to be loaded.
+    /// Returns whether the segment has memory to be loaded.
     pub fn is_load(&self) -> bool
         ensures { result ≡ is_load self.now }
     {

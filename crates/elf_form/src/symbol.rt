@@ -1,3 +1,5 @@
+//! Entries of the symbol table.
+
 ghost use Rattle.std.specs.Prelude.{◌≡◌, ◌+◌, ◌≤◌, length};
 ghost use Rattle.elf_form.specs.Fields.{symbol_entry_of};
 ghost use Rattle.elf_form.specs.Symbols.{kind_of, is_file, is_local};
@@ -23,7 +25,7 @@ pub struct SymbolEntry {
     pub size: u64,
 }
 
-/// The symbol table's entry at a place.
+/// Returns the symbol table's entry at a place.
 pub fn symbol_entry_at(bytes: &[u8], at: usize) -> SymbolEntry
     requires { at + 24 ≤ length bytes.now }
     ensures { result ≡ symbol_entry_of bytes.now at }
@@ -38,7 +40,7 @@ pub fn symbol_entry_at(bytes: &[u8], at: usize) -> SymbolEntry
 }
 
 impl SymbolEntry {
-    /// What the entry stands for, where it is a defined function or object.
+    /// Returns what the entry stands for, where it is a defined function or object.
     pub fn kind(&self) -> Option<SymKind>
         ensures { result ≡ kind_of self.now }
     {
@@ -49,14 +51,14 @@ impl SymbolEntry {
         }
     }
 
-    /// Whether the entry names the source file of the local symbols behind it.
+    /// Returns whether the entry names the source file of the local symbols after it.
     pub fn is_file(&self) -> bool
         ensures { result ≡ is_file self.now }
     {
         self.info % 16 == 4
     }
 
-    /// Whether the symbol is local.
+    /// Returns whether the symbol is local.
     pub fn is_local(&self) -> bool
         ensures { result ≡ is_local self.now }
     {

@@ -17,7 +17,7 @@ ended (x ∷ xs) zero (suc k) le lt z = let e = ended xs 0 k (omega arith) (omeg
 ended (x ∷ xs) (suc at) zero le lt z = absurd (omega arith)
 ended (x ∷ xs) (suc at) (suc k) le lt z = ended xs at k (omega arith) (omega arith) z
 
--- behind a place from which none is ended, none is
+-- after a place from which none is ended, none is
 not_ended : (s : List ℕ) (end at : ℕ) → end ≤ at → is_ended s end ≡ false → is_ended s at ≡ false
 not_ended [] end zero le h = refl
 not_ended [] end (suc at) le h = refl
@@ -44,14 +44,14 @@ prefix_len-take p (suc n) (x ∷ xs) = let e = prefix_len-take p n xs in one (p 
 long : (name : List ℕ) → 200 < length name → module_of name ≡ program_module
 long name h = grind (arith, common_steps)
 
--- the front of a name that is cut behind n bytes
+-- the front of a name that is cut after n bytes
 cut : (n : ℕ) (xs : List ℕ) → name_at (take n xs) 0 ≡ take (min n (prefix_len (λ byte. not (byte == 0)) xs)) xs
 cut n xs =
     let k = prefix_len (λ byte. not (byte == 0)) xs in
     let le : min n k ≤ n = omega arith in
     ap (λ j. take j (take n xs)) (prefix_len-take (λ byte. not (byte == 0)) n xs) ∙ take-take (min n k) n xs le
 
--- a name that is cut behind 201 bytes gives the same module
+-- a name that is cut after 201 bytes gives the same module
 module_of-cut : (xs : List ℕ) → module_of (name_at (take 201 xs) 0) ≡ module_of (name_at xs 0)
 module_of-cut xs =
     let k = prefix_len (λ byte. not (byte == 0)) xs in

@@ -3,7 +3,7 @@ use Rattle.std.proofs.Common.{◌≡◌, ℕ, zero, suc, ◌+◌, ◌-◌, ◌*�
 use Rattle.elf_form.specs.Fields.{table}
 
 module _ {A : Type 0} (read : List ℕ → ℕ → A) (size : ℕ) (b : List ℕ) where
-  -- the entries from one on are that one and those behind it
+  -- the entries from one on are that one and those after it
   table-next : (n i at : ℕ) → i < n → table read size b (n - i) (at + i * size) ≡ read b (at + i * size) ∷ table read size b (n - (i + 1)) (at + (i + 1) * size)
   table-next n i at h =
       let count : n - i ≡ suc (n - (i + 1)) = omega arith in

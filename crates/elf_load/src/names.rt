@@ -12,7 +12,7 @@ use pn_types::{PROGRAM_MODULE, is_good_name};
 /// The greatest length of a good name in bytes.
 const NAME_LIMIT: usize = 200;
 
-/// The place behind the last zero byte of the strings: each name that begins before it is ended.
+/// Returns the place after the last zero byte of the strings: each name that begins before it is ended.
 pub fn ended_len(strings: &[u8]) -> usize
     ensures { (at : ℕ) → is_ended strings.now at ≡ nat_lt at result }
 {
@@ -36,7 +36,7 @@ fn name_len(bytes: &[u8]) -> usize
     bytes.len()
 }
 
-/// The bytes of the strings from a place on, up to a zero byte.
+/// Returns the bytes of the strings from a place on, up to a zero byte.
 pub fn name_at(strings: &[u8], at: usize) -> &[u8]
     ensures { result.now ≡ name_at strings.now at }
 {
@@ -55,14 +55,14 @@ fn module_of(name: &[u8]) -> &[u8]
     }
 }
 
-/// The name at a place, or so much of a long one as tells that it is too long.
+/// The name at a place. Of a name that is too long it is only a front, which is too long too.
 fn front_of_name(strings: &[u8], at: usize) -> &[u8]
     ensures { result.now ≡ name_at (take (NAME_LIMIT + 1) (drop at strings.now)) 0 }
 {
     name_at(part(strings, at as u64, NAME_LIMIT as u64 + 1), 0)
 }
 
-/// The module that the name of a source file at a place gives. No more of it is read than counts.
+/// Returns the module that the name of a source file at a place gives. No more of it is read than counts.
 #[tactic(auto, using(crate::proofs::NameLemmas::cut_name))]
 pub fn module_at(strings: &[u8], at: usize) -> &[u8]
     ensures { result.now ≡ module_of (name_at strings.now at) }
@@ -70,7 +70,7 @@ pub fn module_at(strings: &[u8], at: usize) -> &[u8]
     module_of(front_of_name(strings, at))
 }
 
-/// Whether a module is that of all symbols that aren't local.
+/// Returns whether a module is that of all symbols that aren't local.
 pub fn is_program(module: &[u8]) -> bool
     ensures { result ≡ bytes_eq «module».now program_module }
 {

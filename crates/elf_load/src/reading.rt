@@ -1,3 +1,5 @@
+//! Reading a whole ELF file.
+
 ghost use Rattle.std.specs.Prelude.{◌≡◌, ◌≤◌, ◌<◌, ◌^◌, length, true, IfOk, Ok, Err, None};
 ghost use Rattle.std.specs.List.{All};
 ghost use Rattle.pn_types.specs.GoodNames.{is_good_name};
@@ -41,7 +43,11 @@ fn image_of(
     })
 }
 
-/// The image of an ELF file, or its first fault. Want of memory is the answer also where the names of its symbols have
+/// Returns the image of an ELF file.
+///
+/// # Errors
+///
+/// The first fault of the file, or out of memory. Out of memory comes also where the names of its symbols have
 /// more than [`MAX_NAMES_LEN`] bytes together, or its symbol table has 2^32 entries or more.
 pub fn load(alloc: Global, bytes: &[u8]) -> Result<Image, ElfError>
     ensures meaning { Means result (meaning_of bytes.now) }

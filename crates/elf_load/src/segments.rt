@@ -13,7 +13,11 @@ use elf_form::{ElfFault, Load, ProgramHeader};
 use pn_types::{MAX_IMAGE_SIZE, NoMemory, Segment, Seq};
 use std::alloc::Global;
 
-/// The segments to be loaded, in table order.
+/// Returns the segments to be loaded, in table order.
+///
+/// # Errors
+///
+/// `NoMemory` where memory runs out.
 pub fn loads_of(alloc: Global, headers: &[ProgramHeader]) -> Result<Vec<Load>, NoMemory>
     requires { length headers.now < 2 ^ 16 }
     ensures { IfOk result (λ loads. loads.items ≡ loads_from 0 headers.now) }
@@ -30,7 +34,7 @@ pub fn loads_of(alloc: Global, headers: &[ProgramHeader]) -> Result<Vec<Load>, N
     Ok(loads)
 }
 
-/// The first fault of a single segment, in a file of so many bytes.
+/// The first fault of a single segment, in a file of `len` bytes.
 fn first_load_fault(loads: &[Load], len: u64) -> Option<ElfFault>
     ensures fault { result ≡ first_fault (load_faults len 0 loads.now) }
     ensures placed { IfNone result (All (IsPlaced len) loads.now) }
@@ -94,7 +98,11 @@ fn total_size(len: u64, loads: &[Load]) -> u64
     total
 }
 
-/// The first fault of the segments of a file of so many bytes.
+/// Checks the segments of a file of `len` bytes.
+///
+/// # Errors
+///
+/// The first fault of the segments.
 #[tactic(auto, unfolding(elf_form::specs::Segments::segments_fault))]
 pub fn check_segments(loads: &[Load], len: u64) -> Result<(), ElfFault>
     ensures fault { Checks result (segments_fault len loads.now) }
@@ -151,7 +159,11 @@ fn segment_of(alloc: Global, bytes: &[u8], load: &Load) -> Result<Segment, NoMem
     })
 }
 
-/// The memory of the segments by ascending address.
+/// Returns the memory of the segments by ascending address.
+///
+/// # Errors
+///
+/// `NoMemory` where memory runs out.
 #[tactic(auto, unfolding(elf_form::specs::Meaning::segments_of))]
 pub fn segments_of(alloc: Global, bytes: &[u8], loads: &[Load]) -> Result<Vec<Segment>, NoMemory>
     ensures { IfOk result (λ segments. segments.items ≡ segments_of bytes.now loads.now) }

@@ -147,7 +147,11 @@ fn table_symbols(
     Ok(gather(alloc, names, &entries)?)
 }
 
-/// The symbols of a file with these sections, where they have no fault.
+/// Returns the symbols of a file with these sections.
+///
+/// # Errors
+///
+/// The first fault of the symbols, or out of memory.
 #[tactic(auto, unfolding(elf_form::specs::Symbols::symbols_fault, elf_form::specs::Symbols::symbols_of))]
 pub fn checked_symbols(
     alloc: Global,

@@ -13,7 +13,11 @@ use elf_form::{
 use pn_types::NoMemory;
 use std::alloc::Global;
 
-/// The file header, where it has no fault.
+/// Returns the file header.
+///
+/// # Errors
+///
+/// The first fault of the header.
 #[tactic(auto, unfolding(elf_form::specs::Headers::header_fault))]
 pub fn checked_header(bytes: &[u8]) -> Result<Header, ElfFault>
     ensures fault { Checks result (header_fault bytes.now) }
@@ -40,7 +44,11 @@ pub fn checked_header(bytes: &[u8]) -> Result<Header, ElfFault>
     Ok(header)
 }
 
-/// All program headers.
+/// Returns all program headers.
+///
+/// # Errors
+///
+/// `NoMemory` where memory runs out.
 pub fn program_headers(
     alloc: Global,
     bytes: &[u8],
@@ -59,7 +67,11 @@ pub fn program_headers(
     Ok(headers)
 }
 
-/// All section headers.
+/// Returns all section headers.
+///
+/// # Errors
+///
+/// `NoMemory` where memory runs out.
 pub fn section_headers(
     alloc: Global,
     bytes: &[u8],
@@ -77,7 +89,11 @@ pub fn section_headers(
     Ok(headers)
 }
 
-/// All entries of a symbol table.
+/// Returns all entries of a symbol table.
+///
+/// # Errors
+///
+/// `NoMemory` where memory runs out.
 pub fn symbol_entries(
     alloc: Global,
     bytes: &[u8],
@@ -95,7 +111,7 @@ pub fn symbol_entries(
     Ok(entries)
 }
 
-/// So many bytes of a file from a place on, as far as the file has them.
+/// Returns `size` bytes of a file from a place on, as far as the file has them.
 pub fn part(bytes: &[u8], at: u64, size: u64) -> &[u8]
     ensures { result.now ≡ part bytes.now at size }
 {

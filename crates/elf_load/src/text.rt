@@ -126,7 +126,11 @@ fn range_fault(
     None
 }
 
-/// The range of the text, where it has no fault.
+/// Returns the range of the text.
+///
+/// # Errors
+///
+/// The first fault of the text.
 #[tactic(auto, unfolding(elf_form::specs::Texts::text_fault))]
 pub fn checked_text(
     bytes: &[u8],

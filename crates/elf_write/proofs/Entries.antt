@@ -70,7 +70,7 @@ module _ (symbols : List Symbol) (i : ℕ) (s : Symbol) (in' : i < length symbol
 pub fits : (now rest start all : List ℕ) → now ++ rest ≡ start ++ all → length start + length all < 2 ^ 32 → length now < 2 ^ 32
 fits now rest start all e h = omega (arith, ap length e, length-append now rest, length-append start all, h)
 
--- a symbol whose module is another one comes behind the entry of its source file
+-- a symbol whose module is another one comes after the entry of its source file
 pub file_first : (source : List ℕ) (s : Symbol) (sym0 sym1 sym2 str0 str1 : List ℕ) → bytes_eq s.module source ≡ false → sym1 ≡ sym0 ++ entry_bytes (length str0) (file_entry s.module).entry → str1 ≡ str0 ++ (s.module ++ 0 ∷ []) → sym2 ≡ sym1 ++ entry_bytes (length str1) (entry_with 0 s).entry → sym2 ≡ sym0 ++ entries_bytes (length str0) (entries_after source s)
 file_first source s sym0 sym1 sym2 str0 str1 other one name two =
     let place : length str1 ≡ length str0 + length s.module + 1 = omega (arith, ap length name, length-append str0 (s.module ++ 0 ∷ []), length-append s.module (0 ∷ [])) in

@@ -16,7 +16,7 @@ use Rattle.elf_write.proofs.TablesAgain.{table_from, programs_read, programs_aga
 use Rattle.pn_types.specs.Images.{IsImage}
 use Rattle.pn_types.specs.declared.image.Image.{Image}
 
--- what stands behind a part
+-- what stands after a part
 pub behind_part : (f : List ℕ) (at : ℕ) (x rest : List ℕ) → drop at f ≡ x ++ rest → drop (at + length x) f ≡ rest
 behind_part f at x rest e = sym (drop-drop (length x) at f) ∙ ap (λ r. drop (length x) r) e ∙ drop_at x rest (length x) refl
 

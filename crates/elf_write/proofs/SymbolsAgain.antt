@@ -43,7 +43,7 @@ name_len (x ∷ xs) rest h =
 ahead : (strings : List ℕ) (place : ℕ) (x : Named) (xs : List Named) → drop place strings ≡ names_of (x ∷ xs) → drop place strings ≡ x.name ++ (0 ∷ names_of xs)
 ahead strings place x xs h = h ∙ append_assoc x.name (0 ∷ []) (names_of xs)
 
--- the strings behind a name
+-- the strings after a name
 beyond : (strings : List ℕ) (place : ℕ) (x : Named) (xs : List Named) → drop place strings ≡ names_of (x ∷ xs) → drop (place + length x.name + 1) strings ≡ names_of xs
 beyond strings place x xs h =
     let len : place + length x.name + 1 ≡ place + length (x.name ++ 0 ∷ []) = omega (arith, length-append x.name (0 ∷ [])) in
@@ -114,7 +114,7 @@ module _ (strings : List ℕ) where
       ∙ ap (λ s. s ∷ symbols_from strings source (entries_read next (map (entry_with 16) gs))) (same_symbol g (name_at strings place) program_module (name_again strings place (entry_with 16 g) (map (entry_with 16) gs) h all.0.name) (sym all.0.source))
       ∙ ap (λ r. g ∷ r) (globals_again source next gs (beyond strings place (entry_with 16 g) (map (entry_with 16) gs) h) all.1)
 
-  -- the entry of a local symbol behind that of its source file
+  -- the entry of a local symbol after that of its source file
   own_step : (place : ℕ) (s : Symbol) (xs : List Named) → drop place strings ≡ names_of (entry_with 0 s ∷ xs) → IsLocal s → symbols_from strings s.module (entries_read place (entry_with 0 s ∷ xs)) ≡ s ∷ symbols_from strings s.module (entries_read (place + length s.name + 1) xs)
   own_step place s xs h is =
       let rest = entries_read (place + length s.name + 1) xs in

@@ -13,10 +13,10 @@ words ns = flat_map (little_bytes 4) ns
 unfoldable pub doublewords : List ℕ → List ℕ
 doublewords ns = flat_map (little_bytes 8) ns
 
--- how many zeros stand behind a part of so many bytes, up to the next multiple of 8
+-- how many zeros stand after a part of `len` bytes, up to the next multiple of 8
 abbrev pub padding : ℕ → ℕ
 padding len = (8 - len % 8) % 8
 
--- a part, with the zeros behind it
+-- a part, with the zeros after it
 unfoldable pub padded : List ℕ → List ℕ
 padded bytes = bytes ++ replicate (padding (length bytes)) 0

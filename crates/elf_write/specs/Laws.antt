@@ -17,4 +17,5 @@ IsFileAccepted = (file : List ℕ) (i : Image) → IsBytes file → meaning_of f
 -- an image can be written if a file of at most 33,554,432 bytes means it, and its names have at most 67,108,864 bytes together
 abbrev pub IsLoadedWritable : Type 0
 IsLoadedWritable =
-    (file : List ℕ) (i : Image) → IsBytes file → length file ≤ 33554432 → meaning_of file ≡ Ok i → names_len i.symbols ≤ 67108864 → CanWrite i
+    (file : List ℕ) (i : Image) → IsBytes file → length file ≤ 33554432 → meaning_of file ≡ Ok i
+    → names_len i.symbols ≤ 67108864 → CanWrite i

@@ -1,4 +1,4 @@
--- The ELF file of an image: its parts, one behind the other (System V ABI: ELF header, program header, sections).
+-- The ELF file of an image: its parts, one after the other (System V ABI: ELF header, program header, sections).
 use Rattle.std.specs.Prelude.{ℕ, ◌+◌, ◌-◌, ◌*◌, ◌<◌, ◌^◌, ◌&&◌, nat_le, nat_lt, if◌then◌else◌, List, [], ◌∷◌, ◌++◌, length, replicate}
 use Rattle.std.specs.List.{flat_map}
 use Rattle.elf_write.specs.Fields.{halves, words, doublewords, padded}
@@ -25,7 +25,7 @@ program_headers place (s ∷ ss) = program_header place s ++ program_headers (pl
 
 -- ---- places
 
--- where the segments' bytes begin, behind the header and the program headers
+-- where the segments' bytes begin, after the header and the program headers
 abbrev pub segments_at : List Segment → ℕ
 segments_at segments = 64 + 56 * length segments
 
@@ -79,15 +79,45 @@ null_section = record { kind = 0; flags = 0; address = 0; offset = 0; size = 0; 
 
 -- the text: SHT_PROGBITS, allocated and executable
 abbrev pub text_section : Image → Places → Section
-text_section i places = record { kind = 1; flags = 6; address = i.text_at; offset = places.text; size = i.text_len; link = 0; info = 0; alignment = 4; entry_size = 0 }
+text_section i places = record {
+  kind = 1;
+  flags = 6;
+  address = i.text_at;
+  offset = places.text;
+  size = i.text_len;
+  link = 0;
+  info = 0;
+  alignment = 4;
+  entry_size = 0;
+}
 
 -- the symbols: SHT_SYMTAB, linked with the strings, with the number of entries that aren't global
 abbrev pub symbol_section : Image → Places → Section
-symbol_section i places = record { kind = 2; flags = 0; address = 0; offset = places.symbols; size = length (symbol_table i.symbols); link = 3; info = 1 + length (locals_of i.symbols); alignment = 8; entry_size = 24 }
+symbol_section i places = record {
+  kind = 2;
+  flags = 0;
+  address = 0;
+  offset = places.symbols;
+  size = length (symbol_table i.symbols);
+  link = 3;
+  info = 1 + length (locals_of i.symbols);
+  alignment = 8;
+  entry_size = 24;
+}
 
 -- the strings: SHT_STRTAB
 abbrev pub string_section : Image → Places → Section
-string_section i places = record { kind = 3; flags = 0; address = 0; offset = places.strings; size = length (string_table i.symbols); link = 0; info = 0; alignment = 1; entry_size = 0 }
+string_section i places = record {
+  kind = 3;
+  flags = 0;
+  address = 0;
+  offset = places.strings;
+  size = length (string_table i.symbols);
+  link = 0;
+  info = 0;
+  alignment = 1;
+  entry_size = 0;
+}
 
 -- the null section, the text, the symbols and the strings
 unfoldable pub section_headers : Image → Places → List ℕ

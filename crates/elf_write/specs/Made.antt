@@ -15,7 +15,7 @@ written (Err fault) = Err fault
 abbrev pub elf_of : List ℕ → Result (List ℕ) AsmFault
 elf_of text = written (assembled text)
 
--- the entry of an image is the address of a word of its text; a label `_start` behind the last word isn't
+-- the entry of an image is the address of a word of its text; a label `_start` after the last word isn't
 abbrev pub IsEntered : Image → Type 0
 IsEntered image = is_entry image.entry (record { at = image.text_at; end = image.text_at + image.text_len }) ≡ true
 

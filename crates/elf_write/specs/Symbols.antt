@@ -22,19 +22,22 @@ type_of Object = 1
 
 -- the entry of a symbol with a binding: STB_LOCAL (0), or STB_GLOBAL (1), which is 16 in st_info
 abbrev pub entry_with : ℕ → Symbol → Named
-entry_with binding s = record { name = s.name; entry = record { info = binding + type_of s.kind; section = 1; value = s.at; size = s.size } }
+entry_with binding s = record {
+  name = s.name;
+  entry = record { info = binding + type_of s.kind; section = 1; value = s.at; size = s.size };
+}
 
 -- the entry of a source file: STT_FILE and SHN_ABS
 abbrev pub file_entry : List ℕ → Named
 file_entry name = record { name = name; entry = record { info = 4; section = 0xfff1; value = 0; size = 0 } }
 
--- the entries of a local symbol, behind one of the module `source`: where the module changes, the entry of its source file
+-- the entries of a local symbol, after one of the module `source`: where the module changes, the entry of its source file
 -- comes first
 abbrev pub entries_after : List ℕ → Symbol → List Named
 entries_after source s =
     if bytes_eq s.module source then entry_with 0 s ∷ [] else file_entry s.module ∷ entry_with 0 s ∷ []
 
--- the entries of local symbols, behind one of the module `source`
+-- the entries of local symbols, after one of the module `source`
 abbrev pub local_entries : List ℕ → List Symbol → List Named
 local_entries source [] = []
 local_entries source (s ∷ ss) = entries_after source s ++ local_entries s.module ss
@@ -60,7 +63,7 @@ entries_of symbols = null_entry ∷ locals_of symbols ++ globals_of symbols
 abbrev pub entry_bytes : ℕ → Entry → List ℕ
 entry_bytes place e = words (place ∷ []) ++ (e.info ∷ 0 ∷ []) ++ halves (e.section ∷ []) ++ doublewords (e.value ∷ e.size ∷ [])
 
--- the bytes of entries, the first name standing at a place, and each other one behind the one before
+-- the bytes of entries, the first name standing at a place, and each other one after the one before
 abbrev pub entries_bytes : ℕ → List Named → List ℕ
 entries_bytes place [] = []
 entries_bytes place (e ∷ es) = entry_bytes place e.entry ++ entries_bytes (place + length e.name + 1) es

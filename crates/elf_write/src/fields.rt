@@ -6,10 +6,14 @@ ghost use Rattle.elf_write.specs.Fields.{halves, words, doublewords, padding, pa
 use byteorder::{ByteOrder, LittleEndian};
 use pn_types::NoMemory;
 
-/// As many zeros as a part ever has behind it, and one more.
+/// As many zeros as a part ever has after it, and one more.
 const ZEROS: [u8; 8] = [0; 8];
 
 /// Appends numbers of two bytes.
+///
+/// # Errors
+///
+/// `NoMemory` where memory runs out.
 #[tactic(auto, unfolding(crate::specs::Fields::halves))]
 pub fn push_halves(out: &mut Vec<u8>, numbers: &[u16]) -> Result<(), NoMemory>
     ensures { OnOk result (out.new.items ≡ out.old.items ++ halves numbers.now) }
@@ -23,6 +27,10 @@ pub fn push_halves(out: &mut Vec<u8>, numbers: &[u16]) -> Result<(), NoMemory>
 }
 
 /// Appends numbers of four bytes.
+///
+/// # Errors
+///
+/// `NoMemory` where memory runs out.
 #[tactic(auto, unfolding(crate::specs::Fields::words))]
 pub fn push_words(out: &mut Vec<u8>, numbers: &[u32]) -> Result<(), NoMemory>
     ensures { OnOk result (out.new.items ≡ out.old.items ++ words numbers.now) }
@@ -36,6 +44,10 @@ pub fn push_words(out: &mut Vec<u8>, numbers: &[u32]) -> Result<(), NoMemory>
 }
 
 /// Appends numbers of eight bytes.
+///
+/// # Errors
+///
+/// `NoMemory` where memory runs out.
 #[tactic(auto, unfolding(crate::specs::Fields::doublewords))]
 pub fn push_doublewords(out: &mut Vec<u8>, numbers: &[u64]) -> Result<(), NoMemory>
     ensures { OnOk result (out.new.items ≡ out.old.items ++ doublewords numbers.now) }
@@ -48,7 +60,7 @@ pub fn push_doublewords(out: &mut Vec<u8>, numbers: &[u64]) -> Result<(), NoMemo
     Ok(())
 }
 
-/// How many zeros stand behind a part of so many bytes, up to the next multiple of 8.
+/// Returns how many zeros stand after a part of `len` bytes, up to the next multiple of 8.
 pub fn padding(len: u64) -> u64
     ensures number { result ≡ padding len }
     ensures few { result < 8 }
@@ -56,7 +68,7 @@ pub fn padding(len: u64) -> u64
     (8 - len % 8) % 8
 }
 
-/// So many zeros.
+/// Zeros, `count` of them.
 fn zeros(count: u64) -> &'static [u8]
     requires { count < 8 }
     ensures { result.now ≡ replicate count 0 }
@@ -64,7 +76,11 @@ fn zeros(count: u64) -> &'static [u8]
     &ZEROS[..count as usize]
 }
 
-/// Appends a part, and the zeros behind it.
+/// Appends a part, and the zeros after it.
+///
+/// # Errors
+///
+/// `NoMemory` where memory runs out.
 #[tactic(auto, unfolding(crate::specs::Fields::padded))]
 pub fn push_padded(out: &mut Vec<u8>, part: &[u8]) -> Result<(), NoMemory>
     ensures { OnOk result (out.new.items ≡ out.old.items ++ padded part.now) }

@@ -34,6 +34,10 @@ pub struct Section {
 }
 
 /// Appends the file header.
+///
+/// # Errors
+///
+/// `NoMemory` where memory runs out.
 pub fn push_file_header(
     out: &mut Vec<u8>,
     entry: u64,
@@ -60,6 +64,10 @@ fn push_program_header(out: &mut Vec<u8>, place: u64, segment: &Segment) -> Resu
 }
 
 /// Appends the headers of the segments.
+///
+/// # Errors
+///
+/// `NoMemory` where memory runs out.
 pub fn push_program_headers(out: &mut Vec<u8>, segments: &[Segment]) -> Result<(), NoMemory>
     requires few { length segments.now < 2 ^ 16 }
     requires small { sum_by (λ s. length s.bytes) segments.now < 2 ^ 32 }
@@ -74,6 +82,10 @@ pub fn push_program_headers(out: &mut Vec<u8>, segments: &[Segment]) -> Result<(
 }
 
 /// Appends the header of a section.
+///
+/// # Errors
+///
+/// `NoMemory` where memory runs out.
 #[tactic(auto, unfolding(crate::specs::Layout::section_header))]
 pub fn push_section_header(out: &mut Vec<u8>, section: &Section) -> Result<(), NoMemory>
     ensures { OnOk result (out.new.items ≡ out.old.items ++ section_header section.now) }

@@ -1,3 +1,5 @@
+//! The ELF file of an assembly text.
+
 ghost use Rattle.std.specs.Prelude.{◌≡◌, ◌≤◌, Ok, Err, IfOk, MatchResult, length};
 ghost use Rattle.rv_asm.specs.Means.{Refuses};
 ghost use Rattle.elf_write.specs.Made.{elf_of, IsMeantAgain};
@@ -7,8 +9,11 @@ use elf_form::MAX_PROGRAM_LEN;
 use rv_asm::{AsmError, assemble};
 use std::alloc::Global;
 
-/// The ELF file of the program that an assembly text stands for, or the text's first fault. The text has at most
-/// [`MAX_PROGRAM_LEN`] bytes.
+/// Returns the ELF file of the program that an assembly text stands for. The text has at most [`MAX_PROGRAM_LEN`] bytes.
+///
+/// # Errors
+///
+/// The text's first fault, or out of memory.
 #[tactic(auto, using(crate::proofs::Writable::can_write))]
 pub fn elf_of_text(alloc: Global, text: &[u8]) -> Result<Vec<u8>, AsmError>
     requires { length text.now ≤ MAX_PROGRAM_LEN }

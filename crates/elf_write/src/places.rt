@@ -20,7 +20,7 @@ pub struct Places {
     pub sections: u64,
 }
 
-/// The length of a part with the zeros behind it.
+/// Returns the length of a part with the zeros after it.
 #[tactic(auto, unfolding(crate::specs::Fields::padded))]
 pub fn padded_len(part: &[u8]) -> u64
     requires { length part.now < 2 ^ 63 }
@@ -29,7 +29,7 @@ pub fn padded_len(part: &[u8]) -> u64
     part.len() as u64 + padding(part.len() as u64)
 }
 
-/// The length of the segments' bytes, each with the zeros behind it.
+/// Returns the length of the segments' bytes, each with the zeros after it.
 pub fn segments_len(segments: &[Segment]) -> u64
     requires few { length segments.now < 2 ^ 16 }
     requires small { sum_by (λ s. length s.bytes) segments.now < 2 ^ 32 }
@@ -43,7 +43,7 @@ pub fn segments_len(segments: &[Segment]) -> u64
     len
 }
 
-/// Where the segments' bytes begin.
+/// Returns where the segments' bytes begin.
 pub fn segments_at(segments: &[Segment]) -> u64
     requires { length segments.now < 2 ^ 16 }
     ensures { result ≡ segments_at segments.now }
@@ -51,7 +51,7 @@ pub fn segments_at(segments: &[Segment]) -> u64
     64 + 56 * segments.len() as u64
 }
 
-/// The place of an address, where it is in the bytes of a segment, and 0 elsewhere.
+/// Returns the place of an address, where it is in the bytes of a segment, and 0 elsewhere.
 pub fn place_of(address: u64, segments: &[Segment]) -> u64
     requires few { length segments.now < 2 ^ 16 }
     requires small { sum_by (λ s. length s.bytes) segments.now < 2 ^ 32 }

@@ -114,7 +114,7 @@ impl Tables {
         Ok(())
     }
 
-    /// Appends a local symbol behind one of the module `source`, and before it the entry of its source file where the
+    /// Appends a local symbol after one of the module `source`, and before it the entry of its source file where the
     /// module changes.
     fn push_behind(&mut self, source: &[u8], symbol: &Symbol) -> Result<(), NoMemory>
         requires room { length self.old.strings.items + length (names_of (entries_after source.now symbol.now)) < 2 ^ 32 }
@@ -176,7 +176,11 @@ impl Tables {
     }
 }
 
-/// The tables of these symbols.
+/// Returns the tables of these symbols.
+///
+/// # Errors
+///
+/// `NoMemory` where memory runs out.
 #[tactic(auto, unfolding(crate::specs::Symbols::symbol_table, crate::specs::Symbols::string_table))]
 pub fn tables_of(alloc: Global, symbols: &[Symbol]) -> Result<Tables, NoMemory>
     requires { length (string_table symbols.now) < 2 ^ 32 }

@@ -1,3 +1,5 @@
+//! Writing an image as an ELF file.
+
 ghost use Rattle.std.specs.Prelude.{◌≡◌, ◌<◌, ◌^◌, ◌+◌, ◌++◌, OnOk, IfOk, length, sum_by};
 ghost use Rattle.pn_types.specs.Images.{IsImage};
 ghost use Rattle.elf_write.specs.Symbols.{symbol_table, string_table, locals_of};
@@ -127,8 +129,12 @@ fn push_section_headers(
     push_section_header(out, &string_section(image, tables, places))
 }
 
-/// The ELF file of an image: the headers, each segment's bytes, the symbols and their names. The names of the symbols and
+/// Returns the ELF file of an image: the headers, each segment's bytes, the symbols and their names. The names of the symbols and
 /// of their modules take fewer than 2^32 bytes together.
+///
+/// # Errors
+///
+/// `NoMemory` where memory runs out.
 #[tactic(auto, using(crate::proofs::Lengths::few_segments, crate::proofs::Lengths::small_segments), unfolding(crate::specs::Layout::elf_bytes))]
 pub fn write(alloc: Global, image: &Image) -> Result<Vec<u8>, NoMemory>
     requires image { IsImage image.now }

@@ -21,7 +21,7 @@ bin_of xs = record { from = first_from xs; to = last_to xs; sum = sum_by (λ x. 
 
 -- ---- the width
 
--- the first of w, 2 * w, 4 * w and so on of which c bins hold n samples, after at most so many doublings
+-- the first of w, 2 * w, 4 * w and so on of which c bins hold n samples, with a limit on the doublings, which comes first
 abbrev pub doubled : ℕ → ℕ → ℕ → ℕ → ℕ
 doubled zero c w n = w
 doubled (suc fuel) c w n = if nat_le n (c * w) then w else doubled fuel c (2 * w) n
@@ -39,7 +39,7 @@ pub record IsWidth (c n w : ℕ) : Type 0 where
 
 -- ---- the bins
 
--- the list cut into pieces of w, the last of which may be shorter; at most so many pieces
+-- the list cut into pieces of w, the last of which may be shorter; the first number limits the pieces
 abbrev pub pieces : ℕ → ℕ → List Bin → List (List Bin)
 pieces zero w xs = []
 pieces (suc fuel) w [] = []
@@ -58,7 +58,12 @@ pub record Histogram : Type 0 where
 
 -- The histogram of these samples, in at most c bins.
 abbrev pub hist_of : ℕ → List Bin → Histogram
-hist_of c samples = record { most = c; count = length samples; width = width_of c (length samples); bins = bins_of (width_of c (length samples)) samples }
+hist_of c samples = record {
+  most = c;
+  count = length samples;
+  width = width_of c (length samples);
+  bins = bins_of (width_of c (length samples)) samples;
+}
 
 -- there are samples whose histogram this is
 pub record IsHistogram (h : Histogram) : Type 0 where

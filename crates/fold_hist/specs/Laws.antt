@@ -8,7 +8,8 @@ use Rattle.fold_hist.specs.Steps.{pushed}
 -- after pushes to the histogram of no samples it is that of the samples that were pushed
 abbrev pub IsOfAllPushes : Type 0
 IsOfAllPushes =
-    (most : ℕ) (samples : List Bin) → 1 ≤ most → AllByRecursion (λ s. s.sum < 2 ^ 64) samples → fold pushed (hist_of most []) samples ≡ hist_of most samples
+    (most : ℕ) (samples : List Bin) → 1 ≤ most → AllByRecursion (λ s. s.sum < 2 ^ 64) samples
+    → fold pushed (hist_of most []) samples ≡ hist_of most samples
 
 -- bin i of those of w samples each is that of the samples i * w to (i + 1) * w - 1, as far as there are samples
 abbrev pub HasEachBin : Type 0

@@ -14,7 +14,7 @@ paired [] = []
 paired (a ∷ []) = a ∷ []
 paired (a ∷ b ∷ rest) = joined a b ∷ paired rest
 
--- the last bin with another one behind it
+-- the last bin with another one after it
 abbrev pub with_last : List Bin → Bin → List Bin
 with_last [] b = []
 with_last (a ∷ []) b = joined a b ∷ []

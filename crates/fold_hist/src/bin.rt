@@ -1,3 +1,5 @@
+//! One bin of a histogram.
+
 ghost use Rattle.std.specs.Prelude.{◌≡◌};
 ghost use Rattle.fold_hist.specs.Steps.{joined};
 
@@ -14,7 +16,7 @@ pub struct Bin {
 }
 
 impl Bin {
-    /// This bin and the one behind it as one.
+    /// This bin and the one after it as one.
     pub(crate) fn joined(self, next: Bin) -> Bin
         ensures { result ≡ joined self next }
     {

@@ -1,9 +1,11 @@
+//! The list of bins: folding, and adding a sample.
+
 ghost use Rattle.std.specs.Prelude.{◌≡◌, ◌<◌, ◌≤◌, ◌+◌, ◌*◌, ◌%◌, ◌^◌, ◌==◌, ◌∷◌, ◌++◌, [], if◌then◌else◌, length, drop, vec_capacity, vec_len};
 ghost use Rattle.fold_hist.specs.Steps.{paired, with_last};
 
 use crate::bin::Bin;
 
-/// Bins of one width: each is of so many samples, but the last one may have fewer.
+/// Bins of one width: each has that many samples, but the last one may have fewer.
 #[derive(Drop)]
 pub(crate) struct Bins {
     pub width: u64,
@@ -11,7 +13,7 @@ pub(crate) struct Bins {
 }
 
 impl Bins {
-    /// Makes room for a sample behind so many others: where `most` bins are full, they fold into half as many of the
+    /// Makes room for a sample after `count` others: where `most` bins are full, they fold into half as many of the
     /// double width.
     pub(crate) fn make_room(&mut self, most: u32, count: u64)
         requires product { most * self.old.width < 2 ^ 64 }
@@ -26,16 +28,18 @@ impl Bins {
         }
     }
 
-    /// Puts a sample behind so many others: into a new bin where the last one is full, else into the last one.
+    /// Puts a sample after `count` others: into a new bin where the last one is full, else into the last one.
     pub(crate) fn put(&mut self, count: u64, sample: Bin)
         requires width { 0 < self.old.width }
         requires room { count % self.old.width ≡ 0 → vec_len self.old.list < vec_capacity self.old.list }
         ensures width { self.new.width ≡ self.old.width }
-        ensures list { self.new.list.items ≡ (if count % self.old.width == 0 then self.old.list.items ++ sample ∷ [] else with_last self.old.list.items sample) }
+        ensures list { self.new.list.items ≡ (if count % self.old.width == 0
+            then self.old.list.items ++ sample ∷ []
+            else with_last self.old.list.items sample) }
         ensures capacity { vec_capacity self.old.list ≤ vec_capacity self.new.list }
     {
         if count % self.width == 0 {
-            let _there_is_room = self.list.push(sample);
+            self.list.push(sample).unwrap();
         } else {
             add_to_last(&mut self.list, sample);
         }

@@ -19,7 +19,7 @@ pub enum Set {
 pub enum EventKind {
     /// Its entry.
     Entry,
-    /// Behind its calls.
+    /// After its calls.
     After,
     /// Its returns.
     Return,
@@ -32,7 +32,7 @@ pub enum EventKind {
 pub struct Insertion {
     /// Its line.
     pub line: u32,
-    /// It goes before what is there (`prepend`), and not behind it (`append`).
+    /// It goes before what is there (`prepend`), and not after it (`append`).
     pub prepend: bool,
     /// The kind of the points.
     pub kind: EventKind,

@@ -19,7 +19,11 @@ fn copy_name(alloc: Global, name: &Option<Text>) -> Result<Option<Text>, NoMemor
 }
 
 impl Metric {
-    /// An equal metric.
+    /// Returns an equal metric.
+    ///
+    /// # Errors
+    ///
+    /// `NoMemory` where memory runs out.
     pub fn copy(&self, alloc: Global) -> Result<Metric, NoMemory>
         ensures { IfOk result (λ copy. copy ≡ self.now) }
     {
@@ -36,7 +40,11 @@ impl Metric {
 }
 
 impl Constraint {
-    /// An equal constraint.
+    /// Returns an equal constraint.
+    ///
+    /// # Errors
+    ///
+    /// `NoMemory` where memory runs out.
     pub fn copy(&self, alloc: Global) -> Result<Constraint, NoMemory>
         ensures { IfOk result (λ copy. copy ≡ self.now) }
     {
@@ -52,7 +60,11 @@ impl Constraint {
 }
 
 impl Hypothesis {
-    /// An equal hypothesis.
+    /// Returns an equal hypothesis.
+    ///
+    /// # Errors
+    ///
+    /// `NoMemory` where memory runs out.
     pub fn copy(&self, alloc: Global) -> Result<Hypothesis, NoMemory>
         ensures { IfOk result (λ copy. copy ≡ self.now) }
     {
@@ -68,7 +80,11 @@ impl Hypothesis {
 }
 
 impl PhaseDecl {
-    /// An equal phase.
+    /// Returns an equal phase.
+    ///
+    /// # Errors
+    ///
+    /// `NoMemory` where memory runs out.
     pub fn copy(&self, alloc: Global) -> Result<PhaseDecl, NoMemory>
         ensures { IfOk result (λ copy. copy ≡ self.now) }
     {
@@ -106,7 +122,11 @@ impl Wish {
 }
 
 impl Item {
-    /// An equal item.
+    /// Returns an equal item.
+    ///
+    /// # Errors
+    ///
+    /// `NoMemory` where memory runs out.
     pub fn copy(&self, alloc: Global) -> Result<Item, NoMemory>
         ensures { IfOk result (λ copy. copy ≡ self.now) }
     {

@@ -12,7 +12,7 @@ pub struct Include {
     pub metrics: bool,
 }
 
-/// Objects whose names begin so are locks and the like: `sync NAME;`.
+/// Objects whose names begin with this are synchronization objects, as locks: `sync NAME;`.
 #[derive(Drop)]
 pub struct SyncDecl {
     /// Its line.

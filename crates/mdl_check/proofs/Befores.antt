@@ -10,7 +10,8 @@ use Rattle.pn_types.specs.declared.focus.Focus.{Focus}
 use Rattle.mdl_ast.specs.declared.items.Item.{Item}
 use Rattle.mdl_ast.specs.declared.items.Item.TheVariants.{Include, Sync, Metric, Constraint, Hypothesis, Search, Phase, Wish}
 use Rattle.mdl_check.specs.Placed.{Entry}
-use Rattle.mdl_check.specs.Rules.{is_shown_by, is_same_code, is_same_number, is_same_focus}
+use Rattle.resource_tree.specs.SameNodes.{is_same_code, is_same_number}
+use Rattle.mdl_check.specs.Rules.{is_shown_by, is_same_focus}
 use Rattle.mdl_check.specs.Sights.{sight, is_same_sight, AreShown, IsFirstSight}
 use Rattle.mdl_check.specs.declared.sight.Sight.{Sight}
 use denote.Ref.{Bor}

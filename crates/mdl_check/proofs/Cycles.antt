@@ -15,7 +15,7 @@ has_place parents place parent h = by (slice_get parents place) refl h
     by None e g = absurd cc
     by (Some p) e g = slice_get_within parents place p e
 
--- so many generations above
+-- that many generations above
 abbrev pub up : List (Option ℕ) → ℕ → Option ℕ → Option ℕ
 up parents zero next = next
 up parents (suc k) next = up parents k (option_and_then (parent_at parents) next)

@@ -1,4 +1,4 @@
--- What an answer to the items says of the configuration.
+-- What a result for the items says of the configuration.
 use Rattle.std.proofs.Common.{◌<◌, ◌^◌, List, Result, Ok, Err, length, sym, ap, subst, arith}
 use Rattle.std.specs.Prelude.{IfOk, IfErr}
 use Rattle.std.specs.List.{AllByRecursion}

@@ -9,7 +9,7 @@ use Rattle.mdl_check.specs.Rules.{parent_at, leads_to, is_cyclic}
 use Rattle.mdl_check.proofs.Cycles.{clash, has_place, up, above_none, steps_of, leads}
 
 module _ (parents : List (Option ℕ)) where
-  -- ---- so many generations, and the relation
+  -- ---- a number of generations, and the relation
 
   generation : (a p : ℕ) → IsAncestor parents a p → (k : ℕ) × (up parents k (parent_at parents p) ≡ Some a)
   generation a p (Parent q h) = (0, h)
@@ -25,13 +25,13 @@ module _ (parents : List (Option ℕ)) where
 
   -- ---- the first time
 
-  -- those from an item on, so many generations above it and no more
+  -- those from an item on, k generations above it and no more
   abbrev from : ℕ → Option ℕ → List ℕ
   from k None = []
   from zero (Some a) = a ∷ []
   from (suc k) (Some a) = a ∷ from k (parent_at parents a)
 
-  -- one of them is the first of so many generations
+  -- one of them is in the first k generations
   found : (q k : ℕ) (o : Option ℕ) → list_any (eqb q) (from k o) ≡ true → (j : ℕ) × (j ≤ k) × (up parents j o ≡ Some q)
   found q k None h = absurd cc
   found q zero (Some a) h = (0, omega arith, ap Some (sym (eqb-true q a (last (eqb q a) h))))

@@ -4,7 +4,7 @@ use Rattle.std.specs.List.{list_any}
 use Rattle.pn_types.specs.declared.focus.CodePart.{CodePart}
 use Rattle.pn_types.specs.declared.focus.CodePart.TheVariants.{All, Module, Procedure}
 use Rattle.pn_types.specs.contracts.focus.CodePartPartialEq.TheImpl as code
-use Rattle.mdl_check.specs.Rules.{is_same_code, is_same_number}
+use Rattle.resource_tree.specs.SameNodes.{is_same_code, is_same_number}
 use Rattle.mdl_check.specs.Sights.{is_same_sight}
 use Rattle.mdl_check.specs.contracts.sight.SightPartialEq.TheImpl as it
 use Rattle.mdl_check.specs.declared.sight.Sight.{Sight}

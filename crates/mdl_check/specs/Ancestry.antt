@@ -16,7 +16,9 @@ noted (Some p) child children = set children p (slice_index_or children p [] ++ 
 
 -- each of the first n items stands among the children of its parent
 abbrev pub HaveChildren : ℕ → List (Option ℕ) → List (List ℕ) → Type 0
-HaveChildren n parents children = (child p : ℕ) → child < n → p < length children → parent_at parents child ≡ Some p → has (slice_index_or children p []) child ≡ true
+HaveChildren n parents children =
+    (child p : ℕ) → child < n → p < length children → parent_at parents child ≡ Some p
+    → has (slice_index_or children p []) child ≡ true
 
 -- no more than what is clear was dropped
 abbrev pub KeepsOthers : List Bool → List ℕ → List ℕ → Type 0
@@ -30,5 +32,6 @@ AreClear parents clear = (place : ℕ) → is_clear clear place ≡ true → is_
 pub record IsAncestry (parents : List (Option ℕ)) (children : List (List ℕ)) (clear : List Bool) : Type 0 where
   pub many : length children ≡ length parents
   pub many_clear : length clear ≡ length parents
-  pub children_stand : (child p : ℕ) → p < length children → parent_at parents child ≡ Some p → (has (slice_index_or children p []) child || is_clear clear child) ≡ true
+  pub children_stand : (child p : ℕ) → p < length children → parent_at parents child ≡ Some p
+      → (has (slice_index_or children p []) child || is_clear clear child) ≡ true
   pub clear_are : AreClear parents clear

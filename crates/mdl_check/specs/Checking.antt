@@ -98,7 +98,7 @@ checked_of all = record {
   wishes = flat_map (λ e. wish_of all e.item e.focus) all;
 }
 
--- ---- the answers
+-- ---- the results
 
 -- a faultless configuration is checked, and of a faulty one the first fault is told
 abbrev pub IsAnswer : Resources → List Item → List Item → Result Checked CheckFault → Type 0
@@ -107,12 +107,12 @@ IsAnswer t shipped items (Ok checked) =
 IsAnswer t shipped items (Err fault) =
     (es : List Entry) × AreEntries t (placed_items shipped items) es × (first_fault es ≡ Some fault)
 
--- there is one answer
+-- there is one result
 abbrev pub OneAnswer : Type 0
 OneAnswer = (t : Resources) (shipped items : List Item) (a b : Result Checked CheckFault) →
     IsAnswer t shipped items a → IsAnswer t shipped items b → a ≡ b
 
--- why a call was refused; want of memory is free
+-- why a call was refused; running out of memory is always allowed
 abbrev pub Refuses : CheckError → (CheckFault → Type 0) → Type 0
 Refuses (error.Fault fault) why = why fault
 Refuses error.NoMemory why = Unit {0}

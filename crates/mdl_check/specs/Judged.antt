@@ -1,4 +1,4 @@
--- For proofs alone: what the items are answered with.
+-- For proofs alone: what is returned for the items.
 use Rattle.std.specs.Prelude.{◌≡◌, Some, None, Result, Ok, Err, List}
 use Rattle.mdl_check.specs.Placed.{Entry}
 use Rattle.mdl_check.specs.Checking.{first_fault, checked_of, Refuses}

@@ -45,7 +45,7 @@ abbrev pub included : List Item → Item → List PlacedItem
 included shipped (Include i) = map (placed i.line) (filter (is_taken i.metrics) shipped)
 included shipped item = []
 
--- an item, and behind it those that it includes
+-- an item, and after it those that it includes
 abbrev pub with_included : List Item → Item → List PlacedItem
 with_included shipped item = placed (line_of item) item ∷ included shipped item
 

@@ -2,8 +2,6 @@
 use Rattle.std.specs.Prelude.{ℕ, zero, suc, ◌==◌, ◌&&◌, ◌||◌, not, nat_lt, nat_le, if◌then◌else◌, Bool, true, false, Option, Some, None, is_some, option_and_then, List, length, map, fold, count_by, slice_get, codes}
 use Rattle.std.specs.List.{list_any, list_all}
 use Rattle.std.specs.Str.{bytes_eq}
-use Rattle.pn_types.specs.declared.focus.CodePart.{CodePart}
-use Rattle.pn_types.specs.declared.focus.CodePart.TheVariants.{All, Module, Procedure}
 use Rattle.pn_types.specs.declared.focus.Focus.{Focus}
 use Rattle.mdl_ast.specs.declared.items.Item.{Item}
 use Rattle.mdl_ast.specs.declared.items.Item.TheVariants.{Include, Sync, Metric, Constraint, Hypothesis, Search, Phase, Wish}
@@ -12,6 +10,7 @@ use Rattle.mdl_ast.specs.declared.items.PhaseDecl.{PhaseDecl}
 use Rattle.mdl_ast.specs.declared.items.Wish.{Wish as TheWish}
 use Rattle.mdl_ast.specs.declared.metric.Constraint.{Constraint as TheConstraint}
 use Rattle.mdl_ast.specs.declared.metric.Metric.{Metric as TheMetric}
+use Rattle.resource_tree.specs.SameNodes.{is_same_code, is_same_number}
 use Rattle.mdl_check.specs.Placed.{Entry}
 use Rattle.mdl_check.specs.Names.{variable_name, hypothesis_name, phase_name, stands, constraints_in, constraint_named, metric_number, hypothesis_place}
 use Rattle.mdl_check.specs.Statements.{have}
@@ -39,18 +38,6 @@ is_on path (Some c) = bytes_eq path c.path
 abbrev pub are_two_on : List Entry → List ℕ → List (List ℕ) → Bool
 are_two_on all path names = nat_lt 1 (count_by (λ name. is_on path (constraint_named (constraints_in all) name)) names)
 
-abbrev pub is_same_number : Option ℕ → Option ℕ → Bool
-is_same_number None None = true
-is_same_number None (Some b) = false
-is_same_number (Some a) None = false
-is_same_number (Some a) (Some b) = a == b
-
-abbrev pub is_same_code : CodePart → CodePart → Bool
-is_same_code All All = true
-is_same_code (Module a) (Module b) = a == b
-is_same_code (Procedure a) (Procedure b) = a == b
-is_same_code a b = false
-
 -- both select something, and the same
 abbrev pub is_same_focus : Option Focus → Option Focus → Bool
 is_same_focus None g = false
@@ -74,7 +61,7 @@ is_phase_repeated before p = bytes_eq p.name (codes "global") || stands phase_na
 abbrev pub is_wish_repeated : List Entry → TheWish → Option Focus → Bool
 is_wish_repeated before w focus = (w.at == 0) && w.show && list_any (λ e. is_shown_by w.metric focus e.item e.focus) before
 
--- what the item names or asks for is so already
+-- an item before it has the same name, or asks for the same
 abbrev pub is_repeated : List Entry → List Entry → Item → Option Focus → Bool
 is_repeated all before (Include i) focus = list_any (λ e. is_include i.metrics e.item) before
 is_repeated all before (Sync s) focus = false
@@ -100,7 +87,9 @@ is_orphan all None = false
 is_orphan all (Some parent) = not (stands hypothesis_name parent all)
 
 abbrev pub is_metric_unknown : List Entry → TheMetric → Bool
-is_metric_unknown all m = list_any (λ name. not (is_some (constraint_named (constraints_in all) name))) m.constraints || have uses.OtherName (Some m.name) m.blocks
+is_metric_unknown all m =
+    list_any (λ name. not (is_some (constraint_named (constraints_in all) name))) m.constraints
+    || have uses.OtherName (Some m.name) m.blocks
 
 abbrev pub is_hypothesis_unknown : List Entry → TheHypothesis → Bool
 is_hypothesis_unknown all h = not (is_some (metric_number all h.metric)) || is_orphan all h.parent || not (list_all is_axis h.axes)
@@ -179,7 +168,7 @@ parents_of all = map (λ e. parent_place all e.item) all
 abbrev pub parent_at : List (Option ℕ) → ℕ → Option ℕ
 parent_at parents place = option_and_then (λ parent. parent) (slice_get parents place)
 
--- one of the first n ancestors, of which the first may stand at a place, stands at the place sought
+-- the chain of parents from an item on, which may stand at a place, comes to the place sought within n items
 abbrev pub leads_to : List (Option ℕ) → ℕ → ℕ → Option ℕ → Bool
 leads_to parents zero sought next = false
 leads_to parents (suc n) sought None = false

@@ -50,7 +50,9 @@ IsSoundConstraint c = c.replace ≡ false → OfEach (Fits false) c.blocks
 
 -- the statements of each replacement that the metric takes fit it
 abbrev pub TakesFitting : List Constraint → Metric → Type 0
-TakesFitting cs m = AllByRecursion (λ name. (c : Constraint) → constraint_named cs name ≡ Some c → c.replace ≡ true → OfEach (Fits m.timer) c.blocks) m.constraints
+TakesFitting cs m =
+    AllByRecursion (λ name. (c : Constraint) → constraint_named cs name ≡ Some c → c.replace ≡ true
+    → OfEach (Fits m.timer) c.blocks) m.constraints
 
 pub record IsSound (c : Checked) : Type 0 where
   pub metrics : AllByRecursion IsSoundMetric c.metrics

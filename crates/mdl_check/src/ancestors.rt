@@ -64,7 +64,7 @@ fn note(children: &mut Vec<Vec<usize>>, parent: Option<usize>, child: usize) -> 
     Ok(())
 }
 
-/// An empty list for each of so many places.
+/// An empty list for each of `count` places.
 fn empty_lists(alloc: Global, count: usize) -> Result<Vec<Vec<usize>>, NoMemory>
     ensures { IfOk result (λ lists. length lists.items ≡ count) }
 {
@@ -150,7 +150,7 @@ fn climb(
     }
 }
 
-/// That nothing is known of so many places.
+/// That nothing is known of `count` places.
 fn none_clear(alloc: Global, count: usize) -> Result<Vec<bool>, NoMemory>
     ensures { IfOk result (λ clear. clear.items ≡ replicate count false) }
 {

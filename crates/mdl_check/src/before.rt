@@ -95,7 +95,7 @@ pub(crate) struct Noted<'a> {
     asked: Asked,
 }
 
-// By a call of its own: what drops it need not prove the drops of all its parts.
+// A function of its own, so that what drops it need not prove the drops of all its parts.
 impl Drop for Noted<'_> {
     fn drop(self) {
         let Noted {

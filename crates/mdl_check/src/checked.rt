@@ -32,7 +32,7 @@ pub struct Checked {
     pub wishes: Seq<CheckedWish>,
 }
 
-// By a call of its own: what drops it need not prove the drops of all its parts.
+// A function of its own, so that what drops it need not prove the drops of all its parts.
 impl Drop for Checked {
     fn drop(self) {
         let Checked {

@@ -176,7 +176,7 @@ impl ByKind {
     }
 }
 
-/// What faultless items are answered with, of which there are fewer than 2^32.
+/// What is returned for faultless items, of which there are fewer than 2^32.
 pub(crate) fn checked(alloc: Global, index: &Index<'_, '_>) -> Result<Checked, CheckError>
     requires few { length index.now < 2 ^ 32 }
     requires faultless { first_fault index.now ≡ None }

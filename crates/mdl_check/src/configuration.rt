@@ -22,7 +22,7 @@ use pn_types::{NoMemory, Text};
 use resource_tree::{Tree, one_reading};
 use std::alloc::Global;
 
-/// What these items are answered with, where nothing is kept of them yet.
+/// What is returned for these items, where nothing is kept of them yet.
 fn judged_by<'a>(
     alloc: Global,
     all: &[Entry<'a>],
@@ -38,7 +38,7 @@ fn judged_by<'a>(
     checked(alloc, &index)
 }
 
-/// What these items are answered with.
+/// What is returned for these items.
 fn judged(alloc: Global, all: &[Entry<'_>]) -> Result<Checked, CheckError>
     requires { length all.now < 2 ^ 32 }
     ensures { IsJudged all.now result }
@@ -50,8 +50,12 @@ fn judged(alloc: Global, all: &[Entry<'_>]) -> Result<Checked, CheckError>
 /// Checks a configuration against the tree of a program's resources, where `include metrics` stands for the shipped
 /// items that are no hypotheses, and `include hypotheses` for the others. An included item has the line of its include.
 ///
-/// The items stand in the order of the text, those of an include behind it. The fault that is told is that of the first
-/// faulty item, and of an item the first of these:
+/// The items stand in the order of the text, those of an include after it. A name leads to the first item that has it. With those of
+/// the includes there are fewer than 2^32 items.
+///
+/// # Errors
+///
+/// Out of memory, or the fault of the first faulty item, and of an item the first of these:
 ///
 /// - `TwiceNamed`: a metric or constraint, a hypothesis, or a phase has the name of one before it, where `global` is a
 ///   phase; a second `search`; a repeated include; a metric with two constraints of one axis; a wish at tick 0 that
@@ -64,8 +68,6 @@ fn judged(alloc: Global, all: &[Entry<'_>]) -> Result<Checked, CheckError>
 ///   0; `at 0 drop`.
 /// - `CyclicParent`: a hypothesis that is its own ancestor.
 /// - `BadFocus`: a wish whose focus selects nothing in the tree.
-///
-/// A name leads to the first item that has it. With those of the includes there are fewer than 2^32 items.
 pub fn check(alloc: Global, conf: &Conf, shipped: &Conf, tree: &Tree) -> Result<Checked, CheckError>
     requires { length (placed_items shipped.now.items conf.now.items) < 2 ^ 32 }
     ensures checked { IfOk result (λ checked. IsAnswer tree.now shipped.now.items conf.now.items (Ok checked)) }
@@ -79,7 +81,7 @@ pub fn check(alloc: Global, conf: &Conf, shipped: &Conf, tree: &Tree) -> Result<
     judged(alloc, &all)
 }
 
-/// The check of a configuration has one answer.
+/// The check of a configuration has one result.
 pub fn one_answer()
     ensures { OneAnswer }
 {
@@ -119,8 +121,12 @@ fn add_prefixes(
     Ok(())
 }
 
-/// The names of the `sync` items in the order of the text, those of an include behind it. Objects whose names begin with
-/// one of these are locks and the like.
+/// Returns the names of the `sync` items in the order of the text, those of an include after it. Objects whose names begin with
+/// one of these are synchronization objects, as locks.
+///
+/// # Errors
+///
+/// `NoMemory` where memory runs out.
 pub fn prefixes(alloc: Global, conf: &Conf, shipped: &Conf) -> Result<Vec<Text>, NoMemory>
     ensures { IfOk result (λ prefixes. prefixes.items ≡ prefixes_of shipped.now.items conf.now.items) }
 {

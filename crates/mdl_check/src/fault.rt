@@ -7,7 +7,7 @@ use pn_types::NoMemory;
 pub enum CheckKind {
     /// It names what doesn't stand in the configuration, or a variable that isn't its own.
     UnknownName,
-    /// What it names or asks for is so already by an item before it.
+    /// An item before it has the same name, or asks for the same.
     TwiceNamed,
     /// What it names can't be used so, or a number is out of its range.
     WrongKind,
@@ -29,7 +29,7 @@ pub struct CheckFault {
 /// Why a configuration can't be used.
 #[derive(Clone, Copy, Debug, PartialEq, Eq, Drop)]
 pub enum CheckError {
-    /// Memory was wanting.
+    /// Memory ran out.
     NoMemory,
     /// The first faulty item.
     Fault(CheckFault),

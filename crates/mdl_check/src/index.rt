@@ -33,7 +33,8 @@ impl<'a> Model for ConstraintUse<'a> {
 
     ghost view = { λ u. u.constraint.now };
 
-    ghost invariant = { λ u. (u.as_counter ≡ have uses.AsCounter None u.constraint.now.blocks) × (u.as_timer ≡ have uses.AsTimer None u.constraint.now.blocks) };
+    ghost invariant = { λ u. (u.as_counter ≡ have uses.AsCounter None u.constraint.now.blocks)
+        × (u.as_timer ≡ have uses.AsTimer None u.constraint.now.blocks) };
 }
 
 impl<'a> ConstraintUse<'a> {
@@ -79,7 +80,7 @@ pub(crate) struct Kept<'a> {
     places: Vec<usize>,
 }
 
-// By a call of its own: what drops it need not prove the drops of all its parts.
+// A function of its own, so that what drops it need not prove the drops of all its parts.
 impl Drop for Kept<'_> {
     fn drop(self) {
         let Kept {

@@ -40,7 +40,9 @@ fn add_taken<'a>(
     include: Include,
     item: &'a Item,
 ) -> Result<(), NoMemory>
-    ensures { OnOk result (placed_items.new.items ≡ (if is_taken include.metrics item.now then placed_items.old.items ++ (placed include.line item.now ∷ []) else placed_items.old.items)) }
+    ensures { OnOk result (placed_items.new.items ≡ (if is_taken include.metrics item.now
+        then placed_items.old.items ++ (placed include.line item.now ∷ [])
+        else placed_items.old.items)) }
 {
     if is_taken(include.metrics, item) {
         placed_items.push(PlacedItem::new(include.line, item))?;
@@ -62,7 +64,7 @@ fn add_included<'a>(
     Ok(())
 }
 
-/// Adds an item, and behind it those that it includes.
+/// Adds an item, and after it those that it includes.
 fn add_item<'a>(
     placed_items: &mut Vec<PlacedItem<'a>>,
     shipped: &'a [Item],

@@ -142,7 +142,7 @@ action_reads = either_reads is_timing is_timed timed_reads changed_reads starts
     starts n (act.Start var) h = refl
     starts n (act.Stop var) h = refl
 
--- behind all conditions no `if` stands
+-- after all conditions no `if` stands
 pub action_opens : (words_ahead : List PlacedWord) → is_first is_if words_ahead ≡ false → action_at words_ahead ≡ opening_action_at words_ahead
 unfolding action_at changed_at opening_action_at opening_changed_at leaf_at
 action_opens words_ahead h = go (is_first is_timing words_ahead) refl

@@ -1,4 +1,4 @@
--- Readers of at most so many parts, and of values that hold the line of their first word.
+-- Readers of a limited number of parts, and of values that hold the line of their first word.
 use Rattle.std.proofs.Common.{◌≡◌, ℕ, zero, suc, ◌≤◌, Bool, true, false, List, [], ◌∷◌, ◌++◌, length, Ok, Err, refl, sym, ap, subst, ◌∙◌, arith, inl, inr}
 use Rattle.std.specs.List.{flat_map}
 use Rattle.std.proofs.lemmas.List.{append_assoc, append-nil}
@@ -12,7 +12,7 @@ use Rattle.mdl_parse.proofs.Readers.{Reads, Reads_, Fails, Completed, Reaches, R
 use Rattle.mdl_parse.proofs.Options.{first_again}
 use Rattle.mdl_parse.proofs.Repeats.{always}
 
--- ---- at most so many parts
+-- ---- a limited number of parts
 
 -- no more than the limit
 abbrev pub few : {A : Type 0} → ℕ → List A → Type 0

@@ -4,7 +4,8 @@ use Rattle.pn_text.specs.Words.{Word}
 use Rattle.mdl_parse.specs.WordsInText.{PlacedWord, TreeWord, IsWord}
 use Rattle.mdl_parse.specs.Steps.{Read, ◌>>=◌, leaf_at}
 use Rattle.mdl_parse.proofs.Rules.{StartsAs}
-use Rattle.mdl_parse.proofs.Readers.{Reads, pair_at, pair_tree_words, pair_ok, pair_on, pair_reads, apart_closed, apart_first, closed, any, one, leaf_reads, made_reads}
+use Rattle.mdl_parse.proofs.Readers.{Reads, pair_at, pair_tree_words, pair_ok, pair_on, pair_reads, apart_closed, apart_first, closed, any, one, leaf_reads}
+use Rattle.mdl_parse.proofs.MadeReaders.{made_reads}
 
 -- one after the other
 pub both : {A B : Type 0} {r1 : ℕ → List PlacedWord → Read A} {m1 : A → List TreeWord} {ok1 : ℕ → A → Type 0} {r2 : ℕ → List PlacedWord → Read B} {m2 : B → List TreeWord} {ok2 : ℕ → B → Type 0} {on2 : B → Word → Bool} →

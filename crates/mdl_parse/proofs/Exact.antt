@@ -1,4 +1,4 @@
--- What the readers answer is what the text means.
+-- What the readers return is what the text means.
 use Rattle.std.proofs.Common.{◌≡◌, ℕ, ◌+◌, ◌≤◌, List, [], ◌∷◌, ◌++◌, Some, None, Ok, Err, refl, sym, ap, subst, ◌∙◌, arith, inl, inr}
 use Rattle.std.specs.List.{flat_map}
 use Rattle.std.proofs.lemmas.List.{append_assoc, append-nil}
@@ -63,7 +63,7 @@ cant_follow words_ahead x after TooDeep f = (
   begins (most_conditions + 1) (f.used ++ (x ∷ [])) (f.deeper x after refl refl),
 )
 
--- ---- answers
+-- ---- results
 
 -- reading stops: that is the first fault
 pub stopped : (text : List ℕ) (why : Refusal) (left : List PlacedWord) (ending : Ending) → (tokens_of text).ending ≡ ending → items_at most_conditions (placed_words text) ≡ Err (stop why left) → Faults text (fault_in left ending why)
@@ -79,7 +79,7 @@ stopped text why [] (AtEnd last) d e =
     let none : (c : Conf) → AreOf most_conditions (placed_words text) c → ⊥ = λ c a. (let e2 = sym (read_again most_conditions most_conditions (placed_words text) c (omega arith) a) ∙ e in cc) in
     subst (λ (w : Refusal). IsFault text last.line last.col (refusal_kind w)) (sym (f.ended refl)) (AtLast last d begun none)
 
--- all is read, and no fault stands behind it
+-- all is read, and no fault stands after it
 pub conf_read : (text : List ℕ) (items : List Item) (rest : List PlacedWord) (ending : Ending) → (tokens_of text).ending ≡ ending → items_at most_conditions (placed_words text) ≡ Ok (items, rest) → None ≡ unread_in rest ending → IsConf text (record { items = items })
 conf_read text items rest ending d e u =
     let a = all_read most_conditions (placed_words text) items rest e in
@@ -89,7 +89,7 @@ conf_read text items rest ending d e u =
     go (AtEnd last) d u a = record { last = last; end = d; spelled = a }
     go (AtFault fault) d u a = absurd cc
 
--- all is read, and a fault stands behind it
+-- all is read, and a fault stands after it
 pub fault_read : (text : List ℕ) (items : List Item) (rest : List PlacedWord) (ending : Ending) (fault : ParseFault) → (tokens_of text).ending ≡ ending → items_at most_conditions (placed_words text) ≡ Ok (items, rest) → Some fault ≡ unread_in rest ending → Faults text fault
 fault_read text items rest ending fault d e u =
     let a = all_read most_conditions (placed_words text) items rest e in

@@ -11,7 +11,8 @@ use Rattle.mdl_parse.specs.Picks.{is_sign, is_arg, sign_number, when, name_of, n
 use Rattle.mdl_parse.specs.Shapes.{is_keyword}
 use Rattle.mdl_parse.specs.Readers.{keyword_at, sign_at, arg_at, start_at, name_at, number_at, quoted_at, path_at}
 use Rattle.mdl_parse.specs.Grammar.{keyword}
-use Rattle.mdl_parse.proofs.Readers.{Reads, closed, any, one as one_word, made_reads}
+use Rattle.mdl_parse.proofs.Readers.{Reads, closed, any, one as one_word}
+use Rattle.mdl_parse.proofs.MadeReaders.{made_reads}
 use Rattle.mdl_parse.proofs.Bounded.{lined_at, lined_tree_words, lined_ok, lined_on, lined_reads}
 use Rattle.mdl_parse.proofs.Combine.{bind_assoc, leaf_any}
 

@@ -1,5 +1,6 @@
 pub mod Rules
 pub mod Readers
+pub mod MadeReaders
 pub mod Options
 pub mod Repeats
 pub mod Bounded

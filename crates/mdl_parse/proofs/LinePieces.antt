@@ -19,7 +19,7 @@ abbrev pub word_pieces : Word → List Word → List Piece
 word_pieces left [] = []
 word_pieces left (w ∷ words) = (gap left w, w) ∷ word_pieces w words
 
--- words behind a gap
+-- words after a gap
 abbrev pub line_pieces : List ℕ → List Word → List Piece
 line_pieces space [] = []
 line_pieces space (w ∷ words) = (space, w) ∷ word_pieces w words
@@ -158,7 +158,7 @@ lines_follow space (line ∷ lines) white some e left =
     (white-append space (indent line.0) white (indent_white line.0)) (some-append space (indent line.0) some) parts.0
     (lines_follow (next_gap space line.0 line.1) lines (next_white space line.0 line.1 white) (next_some space line.0 line.1) parts.1) left
 
--- pieces that may stand behind any word may stand first
+-- pieces that may stand after any word may stand first
 legible_first : (rest : List Piece) → Follows rest → are_legible rest ≡ true
 legible_first [] f = refl
 legible_first (p ∷ rest) f = go (is_white p.0) (is_word p.1) (nat_lt 0 (length p.0) || stand_apart p.1 p.1) (follow p.1 rest) (f p.1)

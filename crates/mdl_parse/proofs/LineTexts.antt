@@ -13,7 +13,7 @@ use Rattle.mdl_parse.specs.Printing.{Line, indent, line_text, close_line, some_l
 pub lines_text : (a b : List Line) → flat_map line_text (a ++ b) ≡ flat_map line_text a ++ flat_map line_text b
 lines_text a b = flat_map-append line_text a b
 
--- the texts, one behind the other
+-- the texts, one after the other
 abbrev pub Behind : List ℕ → List (List ℕ) → List ℕ → Type 0
 Behind out [] all = all ≡ out
 Behind out (text ∷ texts) all = (next : List ℕ) × (next ≡ out ++ text) × Behind next texts all

@@ -75,7 +75,7 @@ references_same : (names : List (List ℕ)) → line_words (map reference_line n
 references_same [] = refl
 references_same (name ∷ names) = ap (λ (t : List Word). reference_words name ++ t) (references_same names)
 
--- the words of a metric behind its units
+-- the words of a metric after its units
 metric_tail : (references kind initially blocks : List Word) → references ++ ((kind ++ (initially ++ open_brace)) ++ (blocks ++ (close_brace ++ close_brace))) ≡ (references ++ (kind ++ initially)) ++ ((open_brace ++ (blocks ++ close_brace)) ++ close_brace)
 metric_tail references kind initially blocks = simp (append_assoc)
 

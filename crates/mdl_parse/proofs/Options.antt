@@ -20,7 +20,7 @@ abbrev pub option_on : {A : Type 0} → (Word → Bool) → Option A → Word �
 option_on first None = first
 option_on first (Some a) = never
 
--- the first word is the same with another word behind the bad one
+-- the first word is the same with another word after the bad one
 first_word_again : (words_ahead used left : List PlacedWord) (x : PlacedWord) (more other : List PlacedWord) → words_ahead ≡ used ++ left → left ≡ x ∷ more → first_word (used ++ (x ∷ other)) ≡ first_word words_ahead
 first_word_again words_ahead used left x more other e l = same used ∙ ap first_word (sym (e ∙ ap (λ (t : List PlacedWord). used ++ t) l))
   where
@@ -28,7 +28,7 @@ first_word_again words_ahead used left x more other e l = same used ∙ ap first
     same [] = refl
     same (y ∷ used) = refl
 
--- and so is the answer of a test
+-- and so is the result of a test
 pub first_again : (first : Word → Bool) (words_ahead used left : List PlacedWord) (x : PlacedWord) (more other : List PlacedWord) (b : Bool) → words_ahead ≡ used ++ left → left ≡ x ∷ more → is_first first words_ahead ≡ b → is_first first (used ++ (x ∷ other)) ≡ b
 first_again first words_ahead used left x more other b e l h = ap (passes first) (first_word_again words_ahead used left x more other e l) ∙ h
 

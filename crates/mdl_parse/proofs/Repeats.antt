@@ -56,7 +56,7 @@ module _ {A : Type 0} (first : Word → Bool) (r : ℕ → List PlacedWord → R
   many_none n [] h = refl
   many_none n (x ∷ words_ahead) h = rw h refl
 
-  -- a part, and those behind it
+  -- a part, and those after it
   pub many_more : (n : ℕ) (words_ahead : List PlacedWord) → is_first first words_ahead ≡ true → many_at first (r n) words_ahead ≡ (r n words_ahead >>= λ x. many_at first (r n) x.1 >>= λ xs. Ok (x.0 ∷ xs.0, xs.1))
   unfolding many_at
   many_more n [] h = absurd cc

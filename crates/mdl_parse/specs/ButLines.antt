@@ -15,17 +15,37 @@ abbrev pub statement_but_line : Statement → Statement
 statement_but_line s = record { line = 0; conds = s.conds; act = s.act }
 
 abbrev pub insertion_but_lines : Insertion → Insertion
-insertion_but_lines i = record { line = 0; prepend = i.prepend; kind = i.kind; constrained = i.constrained; stmts = map statement_but_line i.stmts }
+insertion_but_lines i = record {
+  line = 0;
+  prepend = i.prepend;
+  kind = i.kind;
+  constrained = i.constrained;
+  stmts = map statement_but_line i.stmts;
+}
 
 abbrev pub block_but_lines : Block → Block
 block_but_lines b = record { line = 0; set = b.set; insertions = map insertion_but_lines b.insertions }
 
 abbrev pub metric_but_lines : Metric → Metric
-metric_but_lines m =
-    record { line = 0; name = m.name; units = m.units; constraints = m.constraints; timer = m.timer; initially = m.initially; blocks = map block_but_lines m.blocks }
+metric_but_lines m = record {
+  line = 0;
+  name = m.name;
+  units = m.units;
+  constraints = m.constraints;
+  timer = m.timer;
+  initially = m.initially;
+  blocks = map block_but_lines m.blocks;
+}
 
 abbrev pub constraint_but_lines : Constraint → Constraint
-constraint_but_lines c = record { line = 0; name = c.name; path = c.path; replace = c.replace; initially = c.initially; blocks = map block_but_lines c.blocks }
+constraint_but_lines c = record {
+  line = 0;
+  name = c.name;
+  path = c.path;
+  replace = c.replace;
+  initially = c.initially;
+  blocks = map block_but_lines c.blocks;
+}
 
 abbrev pub hypothesis_but_line : Hypothesis → Hypothesis
 hypothesis_but_line h = record { line = 0; name = h.name; parent = h.parent; metric = h.metric; threshold = h.threshold; axes = h.axes }

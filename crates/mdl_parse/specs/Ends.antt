@@ -19,7 +19,7 @@ abbrev pub fault_in : List PlacedWord → Ending → Refusal → ParseFault
 fault_in [] ending why = end_fault ending why
 fault_in (placed ∷ words_ahead) ending why = record { line = placed.line; col = placed.col; kind = refusal_kind why }
 
--- the fault that stands behind all words, if there is one
+-- the fault that stands after all words, if there is one
 abbrev pub unread_in : List PlacedWord → Ending → Option ParseFault
 unread_in [] (AtEnd last) = None
 unread_in [] (AtFault fault) = Some (lex_fault fault)

@@ -1,4 +1,4 @@
--- For proofs alone: what a function of the parser answers.
+-- For proofs alone: what a function of the parser returns.
 use Rattle.std.specs.Prelude.{◌≡◌, Result, Ok, Err, List}
 use Rattle.pn_text.specs.Words.{Word, NameWord, NumberWord, QuotedWord, FocusPath, DollarFocus, DollarAll, DollarMetric, DollarValue, DollarArg, SignWord}
 use Rattle.mdl_parse.specs.declared.refusal.Stop.{Stop as Refused_or_memory}
@@ -12,12 +12,12 @@ use Rattle.mdl_parse.specs.declared.seen.SeenVar.TheVariants as var
 use Rattle.mdl_parse.specs.WordsInText.{PlacedWord}
 use Rattle.mdl_parse.specs.Steps.{Read, stop}
 
--- it stops where reading stops, unless memory is wanting
+-- it stops where reading stops, unless memory runs out
 abbrev pub Stops : {A : Type 0} → Refused_or_memory → List PlacedWord → Read A → Type 0
 Stops NoMemory rest read = Unit {0}
 Stops (Refused why) rest read = read ≡ Err (stop why rest)
 
--- it answers what was read, and leaves what is left
+-- it returns what was read, and leaves what is left
 abbrev pub Gives : {A : Type 0} → Result A Refused_or_memory → List PlacedWord → Read A → Type 0
 Gives (Ok a) rest read = read ≡ Ok (a, rest)
 Gives (Err e) rest read = Stops e rest read

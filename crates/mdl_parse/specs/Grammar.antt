@@ -56,7 +56,8 @@ right_word Value = DollarValue
 
 abbrev pub condition_words : Condition → List Word
 condition_words c =
-    keyword (codes "if") ∷ SignWord OpenParen ∷ (left_words c.left ++ (SignWord (cmp_sign c.cmp) ∷ right_word c.right ∷ SignWord CloseParen ∷ []))
+    keyword (codes "if") ∷ SignWord OpenParen
+    ∷ (left_words c.left ++ (SignWord (cmp_sign c.cmp) ∷ right_word c.right ∷ SignWord CloseParen ∷ []))
 
 abbrev pub action_words : Action → List Word
 action_words (Up var) = var_word var ∷ SignWord PlusPlus ∷ SignWord Semicolon ∷ []

@@ -30,7 +30,8 @@ abbrev pub metric_head : Metric → List Word
 metric_head m =
     keyword (codes "metric") ∷ NameWord m.name ∷ SignWord OpenBrace ∷ keyword (codes "units") ∷ QuotedWord m.units ∷ SignWord Semicolon
     ∷ (flat_map reference_words m.constraints
-    ++ (keyword (codes "base") ∷ keyword (codes "is") ∷ keyword (if m.timer then codes "timer" else codes "counter") ∷ initially_words m.initially))
+    ++ (keyword (codes "base") ∷ keyword (codes "is") ∷ keyword (if m.timer then codes "timer" else codes "counter")
+    ∷ initially_words m.initially))
 
 abbrev pub metric_tree_words : Metric → List TreeWord
 metric_tree_words m = starts m.line (metric_head m) ++ (blocks_tree_words m.blocks ++ goes (SignWord CloseBrace ∷ []))
@@ -58,7 +59,8 @@ abbrev pub hypothesis_words : Hypothesis → List Word
 hypothesis_words h =
     keyword (codes "hypothesis") ∷ NameWord h.name ∷ SignWord OpenBrace
     ∷ (parent_words h.parent
-    ++ (keyword (codes "metric") ∷ NameWord h.metric ∷ SignWord Semicolon ∷ keyword (codes "threshold") ∷ NumberWord h.threshold ∷ SignWord Semicolon
+    ++ (keyword (codes "metric") ∷ NameWord h.metric ∷ SignWord Semicolon
+    ∷ keyword (codes "threshold") ∷ NumberWord h.threshold ∷ SignWord Semicolon
     ∷ (axes_words h.axes ++ (SignWord CloseBrace ∷ []))))
 
 -- ---- the other items
@@ -72,7 +74,8 @@ sync_words s = keyword (codes "sync") ∷ NameWord s.name ∷ SignWord Semicolon
 abbrev pub search_words : SearchDecl → List Word
 search_words s =
     keyword (codes "search") ∷ SignWord OpenBrace ∷ keyword (codes "window") ∷ NumberWord s.window ∷ SignWord Semicolon
-    ∷ keyword (codes "cost") ∷ NumberWord s.cost ∷ SignWord Semicolon ∷ keyword (codes "observed") ∷ NumberWord s.observed ∷ SignWord Semicolon
+    ∷ keyword (codes "cost") ∷ NumberWord s.cost ∷ SignWord Semicolon
+    ∷ keyword (codes "observed") ∷ NumberWord s.observed ∷ SignWord Semicolon
     ∷ SignWord CloseBrace ∷ []
 
 abbrev pub phase_words : PhaseDecl → List Word

@@ -78,7 +78,18 @@ metric_at n words_ahead = do
   timer ← base_at constraints.1
   body ← body_at n timer.1
   end ← sign_at CloseBrace body.1
-  Ok (record { line = head.0.0; name = head.0.1; units = units.0; constraints = constraints.0; timer = timer.0; initially = body.0.0; blocks = body.0.1 }, end.1)
+  Ok (
+    record {
+      line = head.0.0;
+      name = head.0.1;
+      units = units.0;
+      constraints = constraints.0;
+      timer = timer.0;
+      initially = body.0.0;
+      blocks = body.0.1;
+    },
+    end.1,
+  )
 
 unfoldable pub constraint_at : ℕ → List PlacedWord → Read Constraint
 constraint_at n words_ahead = do

@@ -5,17 +5,17 @@ use Rattle.pn_text.specs.declared.place.Place.{Place}
 use Rattle.pn_text.specs.declared.token.Token.{Token}
 use Rattle.pn_text.specs.declared.token.LexFault.{LexFault}
 
--- a token that was answered, and those behind it
+-- a token that was returned, and those after it
 abbrev pub tokens_ahead : Option Token → Scan → List Token
 tokens_ahead None scan = []
 tokens_ahead (Some token) scan = token ∷ scan.tokens
 
--- where none was answered none is to come
+-- where none was returned none is to come
 abbrev pub HasEnded : Option Token → Scan → Type 0
 HasEnded None scan = scan.tokens ≡ []
 HasEnded (Some token) scan = Unit {0}
 
--- an end that was answered: its place, or the fault
+-- an end that was returned: its place, or the fault
 abbrev pub ending_of : Result Place LexFault → Ending
 ending_of (Ok last) = AtEnd last
 ending_of (Err fault) = AtFault fault

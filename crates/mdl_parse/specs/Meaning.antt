@@ -58,9 +58,10 @@ lex_kind (lex.BigNumber place) = kind.BigNumber
 -- The first fault of a text, which stands at this line and column.
 pub data IsFault (text : List ℕ) : ℕ → ℕ → SyntaxKind → Type 0 where
   -- a word can't follow those before it
-  AtWord : (before : List PlacedWord) (placed : PlacedWord) (after : List PlacedWord) (why : Refusal) → placed_words text ≡ before ++ (placed ∷ after) →
-      Begin most_conditions before → CantFollow why (before ++ (placed ∷ [])) → IsFault text placed.line placed.col (refusal_kind why)
-  -- the words have no fault, but behind them stands something that is no word
+  AtWord : (before : List PlacedWord) (placed : PlacedWord) (after : List PlacedWord) (why : Refusal)
+      → placed_words text ≡ before ++ (placed ∷ after)
+      → Begin most_conditions before → CantFollow why (before ++ (placed ∷ [])) → IsFault text placed.line placed.col (refusal_kind why)
+  -- the words have no fault, but after them stands something that is no word
   AtBytes : (fault : LexFault) → (tokens_of text).ending ≡ AtFault fault → Begin most_conditions (placed_words text) →
       IsFault text (fault_place fault).line (fault_place fault).col (lex_kind fault)
   -- the end comes too early
@@ -71,7 +72,7 @@ pub data IsFault (text : List ℕ) : ℕ → ℕ → SyntaxKind → Type 0 where
 abbrev pub Faults : List ℕ → ParseFault → Type 0
 Faults text fault = IsFault text fault.line fault.col fault.kind
 
--- why a call was refused; want of memory is free
+-- why a call was refused; running out of memory is always allowed
 abbrev pub Refuses : ParseError → (ParseFault → Type 0) → Type 0
 Refuses (error.Fault fault) why = why fault
 Refuses error.NoMemory why = Unit {0}

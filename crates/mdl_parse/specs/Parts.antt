@@ -1,4 +1,5 @@
--- For proofs alone: readers of the parts of the grammar, from the smallest up to the whole. `n` is the most conditions that a statement has.
+-- For proofs alone: readers of the parts of the grammar, from the smallest up to the whole. `n` is the most conditions that a
+-- statement has.
 use Rattle.std.specs.Prelude.{ℕ, Bool, true, false, List, ◌∷◌, Ok, codes, if◌then◌else◌}
 use Rattle.pn_text.specs.declared.token.Sign.TheVariants.{OpenBrace, CloseBrace, OpenBracket, CloseBracket, OpenParen, CloseParen, OpenCode, CloseCode, Semicolon, Comma, Assign}
 use Rattle.mdl_ast.specs.declared.action.LeftName.{LeftName}

@@ -5,7 +5,7 @@ use Rattle.pn_text.specs.declared.token.Sign.TheVariants.{Comma}
 use Rattle.mdl_ast.specs.declared.metric.Constraint.{Constraint}
 use Rattle.mdl_parse.specs.Grammar.{keyword}
 
--- a name behind the first one
+-- a name after the first one
 abbrev pub others_words : List ℕ → List Word
 others_words name = SignWord Comma ∷ NameWord name ∷ []
 

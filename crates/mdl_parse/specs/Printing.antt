@@ -33,7 +33,7 @@ abbrev pub is_closing : Word → Bool
 is_closing (SignWord sign) = closes_sign sign
 is_closing word = false
 
--- none stands behind `(` and `[`
+-- none stands after `(` and `[`
 abbrev pub opens_sign : Sign → Bool
 opens_sign OpenParen = true
 opens_sign OpenBracket = true
@@ -56,7 +56,7 @@ is_tight left right = is_closing right || is_opening left || (is_opening right &
 unfoldable pub gap : Word → Word → List ℕ
 gap left right = if is_tight left right && stand_apart left right then [] else codes " "
 
--- the words of a line that stand behind a word
+-- the words of a line that stand after a word
 abbrev pub behind_word : Word → List Word → List ℕ
 behind_word left [] = []
 behind_word left (word ∷ words) = gap left word ++ (word_text word ++ behind_word word words)
@@ -90,7 +90,9 @@ abbrev pub block_lines : ℕ → Block → List Line
 block_lines level b = (level, block_head b) ∷ (map (insertion_line (level + 1)) b.insertions ++ (close_line level ∷ []))
 
 abbrev pub base_words : Metric → List Word
-base_words m = keyword (codes "base") ∷ keyword (codes "is") ∷ keyword (if m.timer then codes "timer" else codes "counter") ∷ (initially_words m.initially ++ (SignWord OpenBrace ∷ []))
+base_words m =
+    keyword (codes "base") ∷ keyword (codes "is") ∷ keyword (if m.timer then codes "timer" else codes "counter")
+    ∷ (initially_words m.initially ++ (SignWord OpenBrace ∷ []))
 
 abbrev pub reference_line : List ℕ → Line
 reference_line name = (1, reference_words name)

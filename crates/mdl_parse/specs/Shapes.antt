@@ -1,5 +1,5 @@
--- What the grammar can give: lists of names that have to have one have one, no statement begins as another form of
--- statement does, and at most n conditions stand before what a statement does.
+-- What the grammar can give: lists that need a name aren't empty, no statement begins as one of another form does, and at
+-- most n conditions stand before what a statement does.
 use Rattle.std.specs.Prelude.{◌≡◌, ℕ, ◌≤◌, ◌||◌, Bool, false, List, [], ◌∷◌, bytes_eq, codes, length}
 use Rattle.std.specs.List.{AllByRecursion}
 use Rattle.pn_text.specs.Words.{Word, NameWord}

@@ -29,7 +29,7 @@ line_at (placed ∷ words_ahead) = placed.line
 
 -- ---- one word
 
--- what stands behind the first word
+-- what stands after the first word
 abbrev pub behind : List PlacedWord → List PlacedWord
 behind [] = []
 behind (placed ∷ words_ahead) = words_ahead
@@ -64,7 +64,7 @@ option_at first read words_ahead = if is_first first words_ahead then (do
   Ok (Some x.0, x.1))
     else Ok (None, words_ahead)
 
--- as many parts that begin with such a word as there are, at most so many
+-- as many parts that begin with such a word as there are, with a limit that is never reached
 abbrev pub many_in : {A : Type 0} → (Word → Bool) → (List PlacedWord → Read A) → ℕ → List PlacedWord → Read (List A)
 many_in first read zero words_ahead = Ok ([], words_ahead)
 many_in first read (suc n) words_ahead = if is_first first words_ahead then (do
@@ -77,7 +77,7 @@ many_in first read (suc n) words_ahead = if is_first first words_ahead then (do
 unfoldable pub many_at : {A : Type 0} → (Word → Bool) → (List PlacedWord → Read A) → List PlacedWord → Read (List A)
 many_at first read words_ahead = many_in first read (length words_ahead) words_ahead
 
--- as many parts that begin with such a word as there are; one more than so many is too deep
+-- as many parts that begin with such a word as there are; more than the limit is too deep
 unfoldable pub bounded_at : {A : Type 0} → (Word → Bool) → (List PlacedWord → Read A) → ℕ → List PlacedWord → Read (List A)
 bounded_at first read zero words_ahead = if is_first first words_ahead then Err (stop TooDeep words_ahead) else Ok ([], words_ahead)
 bounded_at first read (suc n) words_ahead = if is_first first words_ahead then (do

@@ -12,7 +12,7 @@ use std::alloc::AllocError;
 /// What kind of fault it is.
 #[derive(Clone, Copy, Debug, PartialEq, Eq, Drop)]
 pub enum SyntaxKind {
-    /// No word begins with the byte, or none that goes on as the bytes behind it do.
+    /// No word begins with the byte, or none that goes on as the bytes after it do.
     BadByte,
     /// The line or the text ends before the second quote of a string.
     OpenString,
@@ -38,7 +38,7 @@ pub struct ParseFault {
 /// Why no configuration was read.
 #[derive(Clone, Copy, Debug, PartialEq, Eq, Drop)]
 pub enum ParseError {
-    /// Memory was wanting.
+    /// Memory ran out.
     NoMemory,
     /// The first fault of the text.
     Fault(ParseFault),
@@ -81,7 +81,7 @@ pub(crate) fn lex_fault(fault: LexFault) -> ParseFault
     }
 }
 
-/// The fault where no word is left: what stands behind them is none, or the text ends too early.
+/// The fault where no word is left: what stands after them is none, or the text ends too early.
 pub(crate) fn end_fault(ending: Result<Place, LexFault>, why: Refusal) -> ParseFault
     ensures { result ≡ end_fault (ending_of ending) why }
 {

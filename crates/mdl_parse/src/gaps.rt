@@ -27,7 +27,7 @@ fn closes(word: Seen) -> bool
     }
 }
 
-/// None stands behind it.
+/// None stands after it.
 fn opens(word: Seen) -> bool
     ensures { result ≡ is_opening (word_seen word.entry) }
 {
@@ -80,7 +80,8 @@ fn runs_before(left: Seen, right: Seen) -> bool
 /// Whether no space stands between two words.
 #[tactic(auto, using(crate::proofs::Tight::close_same))]
 pub(crate) fn stand_close(left: Seen, right: Seen) -> bool
-    ensures { result ≡ (is_tight (word_seen left.entry) (word_seen right.entry) && stand_apart (word_seen left.entry) (word_seen right.entry)) }
+    ensures { result ≡ (is_tight (word_seen left.entry) (word_seen right.entry)
+        && stand_apart (word_seen left.entry) (word_seen right.entry)) }
 {
     if runs_behind(left, right) || runs_before(left, right) {
         return false;

@@ -1,6 +1,6 @@
 //! Single words of the grammar.
 //!
-//! A function that answers Refused leaves the word in view that doesn't fit.
+//! A function that returns Refused leaves the word in view that doesn't fit.
 
 ghost use Rattle.std.specs.Prelude.{◌≡◌, codes, IfOk, IfErr};
 ghost use Rattle.mdl_parse.specs.declared.refusal.Stop.TheVariants.{NoMemory};

@@ -12,11 +12,11 @@ use std::alloc::Global;
 pub(crate) struct Tokens {
     /// All of them, in order.
     pub(crate) all: Vec<Token>,
-    /// Where the text ends behind them, or the fault of what stands there.
+    /// Where the text ends after them, or the fault of what stands there.
     pub(crate) ending: Result<Place, LexFault>,
 }
 
-/// The token that a scanner answers, and None at its end or its fault.
+/// The token that a scanner returns, and None at its end or its fault.
 fn next_token(scanner: &mut Scanner) -> Option<Token>
     ensures tokens { tokens_ahead result scanner.new ≡ scanner.old.tokens }
     ensures ending { scanner.new.ending ≡ scanner.old.ending }
@@ -28,7 +28,7 @@ fn next_token(scanner: &mut Scanner) -> Option<Token>
     }
 }
 
-/// How the tokens ended, all of which the scanner has answered.
+/// How the tokens ended, all of which the scanner has returned.
 fn ending(scanner: &mut Scanner) -> Result<Place, LexFault>
     requires { scanner.old.tokens ≡ [] }
     ensures { scanner.old.ending ≡ ending_of result }

@@ -99,15 +99,16 @@ fn add_gap(out: &mut Vec<u8>, left: Seen, right: Seen) -> Result<(), NoMemory>
     add(out, b" ")
 }
 
-/// Adds the word that stands behind another.
+/// Adds the word that stands after another.
 fn add_next(alloc: Global, out: &mut Vec<u8>, left: Seen, word: Seen) -> Result<(), NoMemory>
-    ensures { OnOk result (out.new.items ≡ out.old.items ++ (gap (word_seen left.entry) (word_seen word.entry) ++ word_text (word_seen word.entry))) }
+    ensures { OnOk result (out.new.items
+        ≡ out.old.items ++ (gap (word_seen left.entry) (word_seen word.entry) ++ word_text (word_seen word.entry))) }
 {
     add_gap(out, left, word)?;
     add_word(alloc, out, word)
 }
 
-/// Adds the words that stand behind a word.
+/// Adds the words that stand after a word.
 fn add_behind(alloc: Global, out: &mut Vec<u8>, first: Seen, words: &[Seen]) -> Result<(), NoMemory>
     ensures { OnOk result (out.new.items ≡ out.old.items ++ behind_word (word_seen first.entry) (map word_seen words.now)) }
 {

@@ -40,7 +40,11 @@ fn parsed(
     }
 }
 
-/// The configuration that a text spells, or its first fault. The text is shorter than 2^32 - 1 bytes.
+/// Returns the configuration that a text spells. The text is shorter than 2^32 - 1 bytes.
+///
+/// # Errors
+///
+/// The first fault of the text, or out of memory.
 pub fn parse(alloc: Global, text: &[u8]) -> Result<Conf, ParseError>
     requires { length text.now + 1 < 2 ^ 32 }
     ensures conf { IfOk result (λ conf. IsConf text.now conf) }

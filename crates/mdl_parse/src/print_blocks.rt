@@ -14,7 +14,7 @@ use pn_text::Sign::{CloseBracket, CloseCode, Comma, OpenBrace, OpenBracket, Open
 use pn_types::{NoMemory, Text};
 use std::alloc::Global;
 
-/// Adds names, each behind a comma.
+/// Adds names, each after a comma.
 fn add_others<'a>(line: &mut Line<'a>, names: &'a [Text]) -> Result<(), NoMemory>
     ensures { OnOk result (line.new ≡ line.old ++ flat_map others_words names.now) }
 {

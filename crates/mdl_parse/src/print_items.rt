@@ -92,7 +92,8 @@ pub(crate) fn add_number(
     field: &[u8],
     number: u32,
 ) -> Result<(), NoMemory>
-    ensures { OnOk result (out.new.items ≡ out.old.items ++ line_text (1, keyword field.now ∷ NumberWord number ∷ SignWord Semicolon ∷ [])) }
+    ensures { OnOk result (out.new.items
+        ≡ out.old.items ++ line_text (1, keyword field.now ∷ NumberWord number ∷ SignWord Semicolon ∷ [])) }
 {
     add_line(
         alloc,

@@ -25,7 +25,8 @@ fn add_name<'a>(
     field: &'a [u8],
     name: &'a Text,
 ) -> Result<(), NoMemory>
-    ensures { OnOk result (out.new.items ≡ out.old.items ++ line_text (1, keyword field.now ∷ NameWord name.now ∷ SignWord Semicolon ∷ [])) }
+    ensures { OnOk result (out.new.items
+        ≡ out.old.items ++ line_text (1, keyword field.now ∷ NameWord name.now ∷ SignWord Semicolon ∷ [])) }
 {
     add_line(
         alloc,

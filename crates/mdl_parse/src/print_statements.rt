@@ -88,7 +88,9 @@ fn add_conditions<'a>(line: &mut Line<'a>, conditions: &'a [Condition]) -> Resul
 
 /// Adds the start or the stop of a timer.
 fn add_timed<'a>(line: &mut Line<'a>, text: &'static [u8], var: &'a VarName) -> Result<(), NoMemory>
-    ensures { OnOk result (line.new ≡ line.old ++ (NameWord text.now ∷ SignWord OpenParen ∷ var_word var.now ∷ SignWord CloseParen ∷ SignWord Semicolon ∷ [])) }
+    ensures { OnOk result (line.new
+        ≡ line.old ++ (NameWord text.now ∷ SignWord OpenParen ∷ var_word var.now ∷ SignWord CloseParen
+        ∷ SignWord Semicolon ∷ [])) }
 {
     line.add(&[
         Name(text),

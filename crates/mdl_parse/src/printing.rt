@@ -28,7 +28,7 @@ fn add_item(alloc: Global, out: &mut Vec<u8>, item: &Item) -> Result<(), NoMemor
     }
 }
 
-/// The items, one behind the other.
+/// The items, one after the other.
 #[tactic(auto, using(crate::proofs::LineTexts::lines_text))]
 fn items(alloc: Global, items: &[Item]) -> Result<Vec<u8>, NoMemory>
     ensures { IfOk result (λ text. text.items ≡ flat_map line_text (flat_map item_lines items.now)) }
@@ -40,8 +40,12 @@ fn items(alloc: Global, items: &[Item]) -> Result<Vec<u8>, NoMemory>
     Ok(out)
 }
 
-/// The canonical text of a configuration: one item, field, insertion or closing brace on a line, with two spaces for each
+/// Returns the canonical text of a configuration: one item, field, insertion or closing brace on a line, with two spaces for each
 /// level, and one space between words where the grammar's text doesn't leave it out.
+///
+/// # Errors
+///
+/// `NoMemory` where memory runs out.
 #[tactic(auto, unfolding(crate::specs::Printing::conf_text))]
 pub fn print(alloc: Global, conf: &Conf) -> Result<Vec<u8>, NoMemory>
     ensures { IfOk result (λ text. text.items ≡ conf_text conf.now) }

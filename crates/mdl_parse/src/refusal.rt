@@ -17,7 +17,7 @@ pub(crate) enum Refusal {
 /// Why no part of the grammar was read.
 #[derive(Drop)]
 pub(crate) enum Stop {
-    /// Memory is wanting.
+    /// Memory ran out.
     NoMemory,
     /// The word in view, or the end, can't stand here.
     Refused(Refusal),

@@ -100,7 +100,7 @@ impl<'a> Words<'a> {
         }
     }
 
-    /// Passes the conditions of a statement, of which there are at most so many.
+    /// Passes the conditions of a statement, of which there are at most `most`.
     fn conditions(&mut self, alloc: Global, most: usize) -> Result<Seq<Condition>, Stop>
         ensures { Gives result self.new (conditions_at most self.old) }
     {
@@ -115,7 +115,7 @@ impl<'a> Words<'a> {
         Ok(Seq::from_vec(conds))
     }
 
-    /// Passes a statement with at most so many conditions.
+    /// Passes a statement with at most `most` conditions.
     #[tactic(auto, unfolding(crate::specs::Parts::statement_at))]
     pub(crate) fn statement(&mut self, alloc: Global, most: usize) -> Result<Statement, Stop>
         ensures { Gives result self.new (statement_at most self.old) }

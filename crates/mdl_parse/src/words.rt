@@ -95,7 +95,7 @@ impl<'a> Words<'a> {
         }
     }
 
-    /// The fault that stands behind all words, which end so, if they are passed and there is one.
+    /// The fault that stands after all words, which end so, if they are passed and there is one.
     pub(crate) fn unread(&self, ending: Result<Place, LexFault>) -> Option<ParseFault>
         ensures { result ≡ unread_in self.now (ending_of ending) }
     {

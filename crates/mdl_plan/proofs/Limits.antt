@@ -138,7 +138,7 @@ over points s m a plan e =
       ascend = λ rise. to_increasing (map (λ x. x.at) (sites_of s points)) (ascending_sites s points (ascend_from (map (λ p. p.at) points) rise));
     })
 
--- an answer that is a plan is within its limits
+-- a result that is a plan is within its limits
 pub answer_over : (t : Resources) (f : Focus) (procs : List Proc) (points : List Point) (m : Metric) (a : Active) (r : Result Plan PlanError) → Answers r (plan_at t f procs points m (Ok a)) → IfOk r (IsPlanOver points)
 answer_over t f procs points m a (Ok plan) e = over points (scene_of (part t f) procs m a) m a plan e
 answer_over t f procs points m a (Err fault) e = tt

@@ -1,4 +1,4 @@
--- The answers that are plans of a checked configuration.
+-- The results that are plans of a checked configuration.
 use Rattle.std.proofs.Common.{◌≡◌, ℕ, ◌<◌, ◌≤◌, ◌^◌, ◌==◌, zero, suc, false, Result, Ok, Err, IfOk, List, [], ◌∷◌, length, map, get_or, sym, subst, arith}
 use Rattle.std.specs.List.{AllByRecursion, IsDistinct}
 use Rattle.std.specs.List.Sorted.{IsStrictlyIncreasing}

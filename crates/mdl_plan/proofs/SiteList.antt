@@ -28,7 +28,7 @@ module _ (terms : Terms) (pieces : List Piece) (t : ChosenPieces) where
       ∙ ap (λ (q : Point). sites_with terms pieces t (take i points ++ q ∷ [])) (sym is)
       ∙ ap (sites_with terms pieces t) (sym (take_more points i p lt))
 
-  -- the sites before a point, of the point and behind it
+  -- the sites before a point, of the point and after it
   pub sites_around : (points : List Point) (i : ℕ) (p : Point) → i < length points → get_or points i p ≡ p
       → sites_with terms pieces t (take i points) ++ (sites_with terms pieces t (p ∷ []) ++ sites_with terms pieces t (drop (i + 1) points)) ≡ sites_with terms pieces t points
   sites_around points i p lt is =

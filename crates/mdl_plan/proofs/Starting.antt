@@ -24,7 +24,7 @@ started_over Cold points plan h = record {
   ascend = h.ascend;
 }
 
--- what is answered starts as what is due does
+-- what is returned starts as what is due does
 pub started_answers : (start : Start) (r : Result Plan PlanError) (due : Result Plan PlanFault) → Answers r due → Answers (started_if start r) (started_if start due)
 started_answers start (Ok plan) due e = ap (started_if start) e
 started_answers start (Err NoMemory) due e = tt

@@ -11,6 +11,6 @@ has_some p = nat_lt 0 (length p.insertion.stmts)
 abbrev pub busy : List Piece → List Piece
 busy ps = filter has_some ps
 
--- a piece that has statements and goes there: before what is there, or behind it
+-- a piece that has statements and goes there: before what is there, or after it
 abbrev pub goes : Bool → Piece → Bool
 goes prepend p = (if prepend then is_before p else is_behind p) && has_some p

@@ -51,7 +51,8 @@ IsOver n t = (p : Point) → has_numbers t p ≡ true → p.proc_no < n
 -- The places ascend, and those of the procedure of each point at which a piece is chosen are among them.
 pub record HavePlaces (t : ChosenPieces) (by_proc : List (List ℕ)) (places : List ℕ) : Type 0 where
   pub ascend : IsStrictlyIncreasing places
-  pub each : (p : Point) (i : ℕ) → has_numbers t p ≡ true → list_any (λ j. j == i) (slice_index_or by_proc p.proc_no []) ≡ true → list_any (λ j. j == i) places ≡ true
+  pub each : (p : Point) (i : ℕ) → has_numbers t p ≡ true
+      → list_any (λ j. j == i) (slice_index_or by_proc p.proc_no []) ≡ true → list_any (λ j. j == i) places ≡ true
 
 -- the numbers of the pieces that are chosen at the point, kind by kind
 abbrev pub numbers_at : ChosenPieces → Point → List ℕ
@@ -71,12 +72,14 @@ sites_with terms pieces t points = map (site_with terms pieces t) (filter (has_n
 
 -- the procedure of a point with the statements of its entry pieces
 abbrev pub open_with : Terms → List Piece → ChosenPieces → List Proc → Point → List Open
-open_with terms pieces t procs p = open_if (flat_map (stmts_of_number terms pieces) (numbers_if p.entry t.entry p.proc_no)) (slice_get procs p.proc_no)
+open_with terms pieces t procs p =
+    open_if (flat_map (stmts_of_number terms pieces) (numbers_if p.entry t.entry p.proc_no))
+    (slice_get procs p.proc_no)
 
 abbrev pub opens_with : Terms → List Piece → ChosenPieces → List Proc → List Point → List Open
 opens_with terms pieces t procs points = flat_map (open_with terms pieces t procs) points
 
--- why these sites are none of a plan, unless memory is wanting
+-- why these sites are none of a plan, unless memory runs out
 abbrev pub Refuses : PlanError → List Site → Type 0
 Refuses error.NoMemory sites = Unit {0}
 Refuses (error.Fault (NoConstraint axis)) sites = ⊥

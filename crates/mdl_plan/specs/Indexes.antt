@@ -7,7 +7,9 @@ use Rattle.mdl_plan.specs.Scopes.{names_of}
 
 -- the place of each point stands among those of its procedure
 abbrev pub AreByProcedure : List Point → List (List ℕ) → Type 0
-AreByProcedure points places = (i : ℕ) (p : Point) → slice_get points i ≡ Some p → p.proc_no < length places → list_any (λ j. j == i) (slice_index_or places p.proc_no []) ≡ true
+AreByProcedure points places =
+    (i : ℕ) (p : Point) → slice_get points i ≡ Some p → p.proc_no < length places
+    → list_any (λ j. j == i) (slice_index_or places p.proc_no []) ≡ true
 
 -- these are the names of the procedures, and by procedure the places of the points, all of which a number of 32 bits counts
 pub record IsIndexOf (procs : List Proc) (points : List Point) (own_names by_proc : List (List ℕ)) : Type 0 where

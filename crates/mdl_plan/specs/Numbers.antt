@@ -18,7 +18,9 @@ once i l = if ends_with i l then l else l ++ i ∷ []
 -- the number is put into the lists of these procedures, and no other list changes
 pub record Marked (i : ℕ) (qs : List ℕ) (old new : List (List ℕ)) : Type 0 where
   pub len : length new ≡ length old
-  pub at : (q : ℕ) → q < length old → slice_index_or new q [] ≡ (if list_any (λ r. r == q) qs then once i (slice_index_or old q []) else slice_index_or old q [])
+  pub at : (q : ℕ) → q < length old
+      → slice_index_or new q []
+      ≡ (if list_any (λ r. r == q) qs then once i (slice_index_or old q []) else slice_index_or old q [])
 
 -- there is an empty list for each of n procedures
 pub record AreEmpty (n : ℕ) (lists : List (List ℕ)) : Type 0 where
@@ -28,7 +30,8 @@ pub record AreEmpty (n : ℕ) (lists : List (List ℕ)) : Type 0 where
 -- the number is put into the lists of the procedures that pass the test, and no other list changes
 pub record Added (procs : List Proc) (test : ℕ → Proc → Bool) (i : ℕ) (old new : List (List ℕ)) : Type 0 where
   pub len : length new ≡ length old
-  pub at : (q : ℕ) (p : Proc) → slice_get procs q ≡ Some p → q < length old → slice_index_or new q [] ≡ (if test q p then once i (slice_index_or old q []) else slice_index_or old q [])
+  pub at : (q : ℕ) (p : Proc) → slice_get procs q ≡ Some p → q < length old
+      → slice_index_or new q [] ≡ (if test q p then once i (slice_index_or old q []) else slice_index_or old q [])
 
 -- the numbers of the pieces that pass the test, of which the first has number n
 abbrev pub numbers_from : ℕ → (Piece → Bool) → List Piece → List ℕ

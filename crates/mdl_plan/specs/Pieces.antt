@@ -61,7 +61,7 @@ is_before p = p.insertion.prepend
 abbrev pub is_behind : Piece → Bool
 is_behind p = not p.insertion.prepend
 
--- before what is there come the counters' insertions and then the base's, and behind it the base's and then the counters'
+-- before what is there come the counters' insertions and then the base's, and after it the base's and then the counters'
 abbrev pub in_order : List Piece → List Piece → List Piece
 in_order counters base = filter is_before (counters ++ base) ++ filter is_behind (base ++ counters)
 

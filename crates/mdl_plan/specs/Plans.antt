@@ -126,13 +126,13 @@ plan_at t f procs points m (Ok a) =
 abbrev pub plan_of : List Constraint → Metric → Focus → Resources → List Proc → List Point → Result Plan PlanFault
 plan_of cs m f t procs points = plan_at t f procs points m (active_of cs m f)
 
--- the answer is what is due, unless memory is wanting
+-- the result is what is due, unless memory runs out
 abbrev pub Answers : Result Plan PlanError → Result Plan PlanFault → Type 0
 Answers (Ok plan) due = due ≡ Ok plan
 Answers (Err (error.Fault fault)) due = due ≡ Err fault
 Answers (Err error.NoMemory) due = Unit {0}
 
--- at most so many sites, each with at most so many statements, and each procedure with at most as many
+-- limits on how many sites a plan has, and how many statements each site and the entry of each procedure
 pub record IsLimited (plan : Plan) : Type 0 where
   pub sites : length plan.sites ≤ most_sites
   pub stmts : All (λ site. length site.stmts ≤ most_stmts) plan.sites

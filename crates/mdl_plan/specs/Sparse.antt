@@ -17,4 +17,5 @@ AreOwn numbers owners = (q r : ℕ) → slice_index numbers q ≡ r + 1 → slic
 -- To the places that were there are added those of each procedure whose list has a number.
 pub record AddsPlaces (lists by_proc : List (List ℕ)) (old new : List ℕ) : Type 0 where
   pub kept : (i : ℕ) → list_any (λ j. j == i) old ≡ true → list_any (λ j. j == i) new ≡ true
-  pub added : (q i : ℕ) → nat_lt 0 (length (slice_index_or lists q [])) ≡ true → list_any (λ j. j == i) (slice_index_or by_proc q []) ≡ true → list_any (λ j. j == i) new ≡ true
+  pub added : (q i : ℕ) → nat_lt 0 (length (slice_index_or lists q [])) ≡ true
+      → list_any (λ j. j == i) (slice_index_or by_proc q []) ≡ true → list_any (λ j. j == i) new ≡ true

@@ -91,7 +91,8 @@ fn wanted<'a>(
     is_below: bool,
     constraint: Option<&'a Constraint>,
 ) -> Result<Option<&'a Constraint>, PlanFault>
-    ensures { result_map_both (option_map (λ c. c.now)) (λ fault. fault) result ≡ wanted axis is_below (option_map (λ c. c.now) constraint.entry) }
+    ensures { result_map_both (option_map (λ c. c.now)) (λ fault. fault) result
+        ≡ wanted axis is_below (option_map (λ c. c.now) constraint.entry) }
 {
     if !is_below {
         return Ok(None);
@@ -139,7 +140,8 @@ fn add_counter<'a>(
     counters: &mut Vec<&'a Constraint>,
     constraint: Option<&'a Constraint>,
 ) -> Result<(), NoMemory>
-    ensures { OnOk result (map (λ c. c.now) counters.new.items ≡ map (λ c. c.now) counters.old.items ++ counting (option_map (λ c. c.now) constraint.entry)) }
+    ensures { OnOk result (map (λ c. c.now) counters.new.items
+        ≡ map (λ c. c.now) counters.old.items ++ counting (option_map (λ c. c.now) constraint.entry)) }
 {
     if let Some(constraint) = constraint {
         if !constraint.replace {

@@ -17,7 +17,7 @@ use std::alloc::Global;
 pub(crate) struct ChosenPieces {
     /// At entries.
     pub(crate) entry: Lists,
-    /// Behind calls.
+    /// After calls.
     pub(crate) after: Lists,
     /// At returns.
     pub(crate) ret: Lists,
@@ -25,7 +25,7 @@ pub(crate) struct ChosenPieces {
     pub(crate) call: Lists,
 }
 
-// By a call of its own: what drops it need not prove the drops of all its parts.
+// A function of its own, so that what drops it need not prove the drops of all its parts.
 impl Drop for ChosenPieces {
     fn drop(self) {
         let ChosenPieces {

@@ -16,7 +16,7 @@ pub enum PlanFault {
 /// Why no plan was made.
 #[derive(Clone, Copy, Debug, PartialEq, Eq, Drop)]
 pub enum PlanError {
-    /// Memory was wanting.
+    /// Memory ran out.
     NoMemory,
     /// There is none.
     Fault(PlanFault),

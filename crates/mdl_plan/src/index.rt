@@ -46,7 +46,7 @@ impl Model for PlanIndex {
     ghost invariant = { λ i. IsIndexOf i.procs i.points i.names i.places };
 }
 
-// By a call of its own: what drops it need not prove the drops of all its parts.
+// A function of its own, so that what drops it need not prove the drops of all its parts.
 impl Drop for PlanIndex {
     fn drop(self) {
         let PlanIndex {
@@ -70,7 +70,7 @@ fn names_of(alloc: Global, procs: &[Proc]) -> Result<PlacesByName, NoMemory>
     Ok(names)
 }
 
-/// An empty list for each of so many procedures.
+/// An empty list for each of `procs` procedures.
 fn empty_lists(alloc: Global, procs: usize) -> Result<Vec<Vec<u32>>, NoMemory>
     ensures { IfOk result (λ lists. AreEmpty procs (map (λ l. l.items) lists.items)) }
 {
@@ -91,7 +91,7 @@ fn add_place(places: &mut Vec<Vec<u32>>, proc_no: u32, place: u32) -> Result<(),
     Ok(())
 }
 
-/// By procedure the places of its points, where there are so many procedures.
+/// By procedure the places of its points, where there are `procs` procedures.
 fn places_of(alloc: Global, procs: usize, points: &[Point]) -> Result<Vec<Vec<u32>>, NoMemory>
     requires { length points.now < 2 ^ 32 }
     ensures many { IfOk result (λ places. length places.items ≡ procs) }
@@ -122,7 +122,7 @@ pub(crate) fn points_at<'p>(
 }
 
 impl PointPlaces {
-    /// The places of the points of so many procedures.
+    /// The places of the points of `procs` procedures.
     fn new(alloc: Global, procs: usize, points: &[Point]) -> Result<PointPlaces, NoMemory>
         requires { length points.now < 2 ^ 32 }
         ensures many { IfOk result (λ places. length places ≡ procs) }
@@ -144,11 +144,11 @@ impl PointPlaces {
 }
 
 impl PlanIndex {
-    /// The index of these procedures and points. The work is linear in both.
+    /// Returns the index of these procedures and points. The work is linear in both.
     ///
     /// # Errors
     ///
-    /// `NoMemory` where memory is wanting.
+    /// `NoMemory` where memory runs out.
     pub fn new(alloc: Global, procs: Seq<Proc>, points: Seq<Point>) -> Result<PlanIndex, NoMemory>
         requires procs { length procs < 2 ^ 32 }
         requires points { length points < 2 ^ 32 }

@@ -69,7 +69,8 @@ fn push_at(rows: &mut [Row], place: usize, number: usize) -> Result<(), NoMemory
 /// Adds a row of one number for a procedure.
 fn add_row(alloc: Global, rows: &mut Vec<Row>, proc_no: u32, number: usize) -> Result<(), NoMemory>
     ensures owner { OnOk result (map (λ r. r.proc_no) rows.new.items ≡ map (λ r. r.proc_no) rows.old.items ++ proc_no ∷ []) }
-    ensures added { OnOk result (map (λ r. r.numbers.items) rows.new.items ≡ map (λ r. r.numbers.items) rows.old.items ++ (number ∷ []) ∷ []) }
+    ensures added { OnOk result (map (λ r. r.numbers.items) rows.new.items
+        ≡ map (λ r. r.numbers.items) rows.old.items ++ (number ∷ []) ∷ []) }
     ensures kept { OnErr result (rows.new.items ≡ rows.old.items) }
 {
     let numbers = vec![in alloc; number]?;
@@ -101,7 +102,7 @@ fn add_places(places: &mut Vec<u32>, by_proc: &PointPlaces, rows: &[Row]) -> Res
 }
 
 impl Lists {
-    /// An empty list for each of so many procedures.
+    /// An empty list for each of `procs` procedures.
     pub(crate) fn empty(alloc: Global, procs: usize) -> Result<Lists, NoMemory>
         ensures { IfOk result (AreEmpty procs) }
     {

@@ -52,7 +52,7 @@ impl<'a> Piece<'a> {
     }
 }
 
-/// Adds a piece, if it has statements and goes there: before what is there, or behind it.
+/// Adds a piece, if it has statements and goes there: before what is there, or after it.
 fn add_piece<'a>(
     pieces: &mut Vec<Piece<'a>>,
     prepend: bool,
@@ -74,7 +74,8 @@ fn add_block<'a>(
     variable: u32,
     block: &'a Block,
 ) -> Result<(), NoMemory>
-    ensures { OnOk result (pieces.new.items ≡ pieces.old.items ++ filter (goes prepend) (map (piece variable block.now.set) block.now.insertions)) }
+    ensures { OnOk result (pieces.new.items
+        ≡ pieces.old.items ++ filter (goes prepend) (map (piece variable block.now.set) block.now.insertions)) }
 {
     for insertion in block.insertions.as_slice() {
         let piece = Piece {
@@ -109,7 +110,8 @@ fn add_counters<'a>(
     counters: &[&'a Constraint],
 ) -> Result<(), NoMemory>
     requires { length counters.now ≤ 2 }
-    ensures { OnOk result (pieces.new.items ≡ pieces.old.items ++ filter (goes prepend) (counter_pieces 1 (map (λ c. c.now) counters.now))) }
+    ensures { OnOk result (pieces.new.items
+        ≡ pieces.old.items ++ filter (goes prepend) (counter_pieces 1 (map (λ c. c.now) counters.now))) }
 {
     let mut variable = 1;
     for counter in counters {

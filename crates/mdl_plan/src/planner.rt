@@ -32,7 +32,7 @@ pub(crate) struct Planner<'a> {
     terms: Terms,
 }
 
-// By a call of its own: what drops it need not prove the drops of all its parts.
+// A function of its own, so that what drops it need not prove the drops of all its parts.
 impl Drop for Planner<'_> {
     fn drop(self) {
         let Planner {
@@ -56,7 +56,8 @@ fn add(sites: &mut Vec<Site>, at: u64, stmts: Vec<Stmt>) -> Result<(), NoMemory>
 
 /// Adds the range of a procedure with its entry statements.
 fn add_range(opens: &mut Vec<Open>, range: &Proc, stmts: Vec<Stmt>) -> Result<(), NoMemory>
-    ensures { OnOk result (opens.new.items ≡ opens.old.items ++ record { start = range.now.start; len = range.now.len; stmts = stmts.items } ∷ []) }
+    ensures { OnOk result (opens.new.items
+        ≡ opens.old.items ++ record { start = range.now.start; len = range.now.len; stmts = stmts.items } ∷ []) }
 {
     opens.push(Open {
         start: range.start,
@@ -120,7 +121,8 @@ impl<'a> Planner<'a> {
     ) -> Result<Vec<&'p Point>, NoMemory>
         requires { IsOver (length index.now.procs) self.now.chosen }
         ensures few { OnOk result (length index.now.points < 2 ^ 32) }
-        ensures points { IfOk result (λ found. filter (has_numbers self.now.chosen) (map (λ p. p.now) found.items) ≡ filter (has_numbers self.now.chosen) index.now.points) }
+        ensures points { IfOk result (λ found. filter (has_numbers self.now.chosen) (map (λ p. p.now) found.items)
+            ≡ filter (has_numbers self.now.chosen) index.now.points) }
     {
         let places = self.chosen.places(alloc, index.places())?;
         points_at(alloc, index.points(), &places)
@@ -220,7 +222,8 @@ impl<'a> Planner<'a> {
         procs: &[Proc],
         point: &Point,
     ) -> Result<(), NoMemory>
-        ensures { OnOk result (opens.new.items ≡ opens.old.items ++ open_with self.now.terms self.now.pieces.items self.now.chosen procs.now point.now) }
+        ensures { OnOk result (opens.new.items
+            ≡ opens.old.items ++ open_with self.now.terms self.now.pieces.items self.now.chosen procs.now point.now) }
     {
         let numbers = numbers_if(point.entry, &self.chosen.entry, point.proc_no);
         let mut stmts = Vec::new(alloc);

@@ -53,7 +53,7 @@ fn planned(
     })
 }
 
-/// The plan of a checked configuration's metric at a focus: its variables, and the statements that act on them at the
+/// Returns the plan of a checked configuration's metric at a focus: its variables, and the statements that act on them at the
 /// points of a program.
 ///
 /// The metric's own variable stands first, and then those of the active counter constraints. A focus below the root of
@@ -67,20 +67,24 @@ fn planned(
 /// For each procedure at whose entry at least one entry statement stands, the plan has its range and these statements, by
 /// address: they tell a warm start what an open procedure has counted and started.
 ///
-/// - `NoConstraint`: the metric has no constraint for a hierarchy below whose root the focus is; the code's goes first.
-/// - `TooManySites`: more than 4,096 points have statements.
-/// - `TooManyStmts`: a point has more than 32.
-///
-/// A plan has one to three variables, and at most 4,096 sites at addresses of the points, each with 1 to 32 statements. A
-/// procedure that is told has as many.
-/// Where what was checked was parsed or shipped, a statement has at most 18 conditions, so that the plan's mini blocks have
-/// at most 13,373,440 words together. Where besides the tree's objects lie below 2^31, as those of every image do, and the
-/// points ascend, the tool's code measures the plan: the conditions are on counters of the plan and on the arguments 0 to
-/// 7, a statement counts a counter or starts and stops a timer, and no number in it is 2^31 or above.
+/// A plan has one to three variables, and at most 4,096 sites at addresses of the points, each with 1 to 32 statements, as
+/// many as a procedure with its range has. Where what was checked was parsed or shipped, a statement has at most 18
+/// conditions, so that the plan's mini blocks have at most 13,373,440 words together. Where moreover the tree's objects lie
+/// below 2^31, as those of every image do, and the points ascend, the tool's code measures the plan: the conditions are on
+/// counters of the plan and on the arguments 0 to 7, a statement counts a counter or starts and stops a timer, and no number
+/// in it is 2^31 or above.
 ///
 /// The tree's procedures are the index's, and the points are theirs, by address. The work is n log n in the points of the
 /// procedures that the insertions select, and linear in the configuration's constraints, which are looked through for each
 /// name that the metric has of them; four lists of a number for each procedure are set to 0.
+///
+/// # Errors
+///
+/// Out of memory, or the first of these that holds:
+///
+/// - `NoConstraint`: the metric has no constraint for a hierarchy below whose root the focus is; the code's goes first.
+/// - `TooManySites`: more than 4,096 points have statements.
+/// - `TooManyStmts`: a point has more than 32.
 pub fn plan(
     alloc: Global,
     checked: &Checked,
@@ -97,7 +101,8 @@ pub fn plan(
     ensures few_conds { IsSound checked.now → IfOk result HasFewConds }
     ensures cost { IsSound checked.now → IfOk result (λ plan. predicted plan ≤ most_words) }
     // The tree of an image's objects has low ones, and the points of an image ascend.
-    ensures measurable { IsSound checked.now → HasLowObjects tree.now → IsStrictlyIncreasing (map (λ p. p.at) index.now.points) → IfOk result IsMeasurable }
+    ensures measurable { IsSound checked.now → HasLowObjects tree.now
+        → IsStrictlyIncreasing (map (λ p. p.at) index.now.points) → IfOk result IsMeasurable }
 {
     let metric = &checked.metrics.as_slice()[metric as usize];
     let active = active_at(checked.constraints.as_slice(), metric, focus)?;

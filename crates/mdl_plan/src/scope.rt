@@ -30,7 +30,7 @@ impl<'a> Model for Scope<'a> {
     ghost view = { λ s. scope (part s.tree.now s.focus.now).procs s.index.now.procs };
 }
 
-/// The numbers of all procedures, of which there are so many.
+/// The numbers of all procedures, of which there are `procs`.
 fn all_procs(alloc: Global, procs: u32) -> Result<Vec<u32>, NoMemory>
     ensures { IfOk result (λ all. (q : ℕ) → q < procs → list_any (λ r. r == q) all.items ≡ true) }
 {

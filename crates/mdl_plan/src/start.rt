@@ -6,8 +6,8 @@ ghost use Rattle.mdl_plan.specs.Starts.{started};
 use pn_types::{Plan, Seq, Start};
 use std::alloc::Global;
 
-/// The plan of an instrument that starts so: cold it knows of no open procedure, and warm it is the plan itself. No memory is
-/// taken.
+/// Returns the plan of an instrument that starts so: cold it knows of no open procedure, and warm it is the plan itself. No
+/// memory is taken.
 pub fn start_plan(alloc: Global, plan: Plan, start: Start) -> Plan
     ensures { result ≡ started start plan }
 {

@@ -115,7 +115,8 @@ impl Terms {
         object: Option<u64>,
     ) -> Result<Terms, NoMemory>
         requires { length counters.now ≤ 2 }
-        ensures { IfOk result (λ terms. terms ≡ record { guards = guards 1 (map (λ c. c.now) counters.now); value = unwrap_or object 0 % 2 ^ 32 }) }
+        ensures { IfOk result (λ terms. terms
+            ≡ record { guards = guards 1 (map (λ c. c.now) counters.now); value = unwrap_or object 0 % 2 ^ 32 }) }
     {
         let guards = guards(alloc, counters)?;
         let value = (object.unwrap_or(0) % 0x1_0000_0000) as u32;

@@ -1,4 +1,4 @@
--- When a count of faults has risen, and what that says of an answer.
+-- When a count of faults has risen, and what that says of a result.
 use Rattle.std.specs.Prelude.{ℕ, ◌+◌, ◌-◌, ◌^◌, ◌≤◌, min, Result, OnErr}
 
 -- A count after one more, which stops at its type's end.

@@ -49,7 +49,7 @@ IsWhole None bytes = ⊤
 IsWhole (Some None) bytes = ⊥
 IsWhole (Some (Some file)) bytes = bytes ≡ file
 
--- The file has more than so many bytes, where that is told.
+-- The file has more than `most` bytes, where that is told.
 abbrev pub IsLonger : Holding → ℕ → Type 0
 IsLonger None most = ⊤
 IsLonger (Some None) most = ⊥

@@ -1,3 +1,5 @@
+//! A sink that drops all that is written.
+
 ghost use Rattle.std.specs.Prelude.{◌≡◌, None, length};
 
 use crate::{Failed, Sink};

@@ -1,3 +1,5 @@
+//! Gates at which workers may be made to wait, and one that is always open.
+
 /// A place at which a worker may be made to wait before it takes a quantum.
 pub trait Gate {
     /// Is called before the call number `n`, from 0, in which this worker asks for a quantum. It may wait, and changes

@@ -1,3 +1,5 @@
+//! Files in memory whose readings can fail.
+
 ghost use Rattle.std.specs.Prelude.{◌≡◌, ◌≢◌, ◌↔◌, ◌<◌, ◌-◌, ◌++◌, List, [], ℕ, Some, None, IsErr, IfOk, OnOk, OnErr, length, min, take, drop, option_map, unwrap_or, IsSomeAnd};
 ghost use Rattle.std.specs.Io.{ReadsAtMost};
 ghost use Rattle.outside.specs.Causes.{HasCause};
@@ -76,7 +78,7 @@ impl MemFile {
     }
 }
 
-/// Files in memory, whose readings fail at the calls that they are told.
+/// Files in memory whose readings fail at chosen calls.
 ///
 /// A name that was not given holds the empty list, and its readings never fail.
 #[derive(Drop)]
@@ -85,7 +87,7 @@ pub struct MemFiles {
 }
 
 impl MemFiles {
-    /// No file is given yet. This takes no memory.
+    /// Returns files of which none is given yet. This takes no memory.
     pub fn new(alloc: Global) -> Self
         ensures { (name : List ℕ) → file_of result name ≡ None }
     {
@@ -101,7 +103,7 @@ impl MemFiles {
     ///
     /// # Errors
     ///
-    /// `AllocError` where memory is wanting; then each name has the file that it had.
+    /// `AllocError` where memory runs out; then each name has the file that it had.
     #[tactic(auto, using(std::proofs::lemmas::Map::Text::text_keys))]
     pub fn give(
         &mut self,

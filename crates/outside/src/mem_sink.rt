@@ -1,3 +1,5 @@
+//! A sink in memory whose writings can fail, or take fewer bytes than are offered.
+
 ghost use Rattle.std.specs.Prelude.{◌≡◌, ◌<◌, ◌↔◌, IfOk, IsErr, IsTrue, Some, length, min};
 ghost use Rattle.outside.specs.Causes.{HasCause};
 ghost use Rattle.outside.specs.SinkState.{RefusesNext, after_writing, new_sink, room_left};
@@ -7,7 +9,7 @@ use crate::{Failed, Sink};
 use std::alloc::{AllocError, Global};
 use std::marker::Model;
 
-/// A sink in memory that fails at the calls that it is told, and takes no more than some bytes at each call.
+/// A sink in memory that fails at chosen calls, and takes a limited number of bytes at each call.
 ///
 /// It takes its room when it is made, and a call that finds no room fails.
 #[derive(Drop)]
@@ -43,12 +45,12 @@ impl Model for MemSink {
 }
 
 impl MemSink {
-    /// An empty sink with room for `room` bytes, which takes at most `piece` bytes at each call. The calls are
+    /// Returns an empty sink with room for `room` bytes, which takes at most `piece` bytes at each call. The calls are
     /// numbered from 0, and those whose numbers stand in `fails` fail.
     ///
     /// # Errors
     ///
-    /// `AllocError` where memory for the room is wanting.
+    /// `AllocError` where memory for the room runs out.
     pub fn new(alloc: Global, room: u64, piece: u64, fails: Vec<u64>) -> Result<Self, AllocError>
         ensures { IfOk result (λ sink. sink ≡ new_sink room piece fails.items) }
     {
@@ -62,7 +64,7 @@ impl MemSink {
         })
     }
 
-    /// The bytes that it has, in the order in which they were written.
+    /// Returns the bytes that it has, in the order in which they were written.
     pub fn bytes(&self) -> &[u8]
         ensures { result.now ≡ self.now.bytes }
     {
@@ -98,7 +100,7 @@ impl Sink for MemSink {
         count_up(&mut self.calls);
         let left = self.room - self.bytes.len();
         let count = piece.len().min(self.piece.min(left));
-        // The room was taken before, so that no memory is wanting here.
+        // The room was taken before, so that there is memory here.
         if refused || self.bytes.extend_from_slice(&piece[..count]).is_err() {
             count_up(&mut self.faults);
             return Err(Failed);

@@ -1,3 +1,5 @@
+//! Reading a whole file.
+
 ghost use Rattle.std.specs.Prelude.{◌≡◌, ◌<◌, ◌≤◌, IsErrOf, IfOk, vec_len, length, []};
 ghost use Rattle.outside.specs.Causes.{Rose};
 ghost use Rattle.outside.specs.Outside.{IsWhole, IsLonger, ReadsOnly, IsCalm};
@@ -9,7 +11,7 @@ use std::alloc::{AllocError, Global};
 /// Why a file was not read whole.
 #[derive(Clone, Copy, Debug, PartialEq, Eq, Drop)]
 pub enum ReadFault {
-    /// Memory for its bytes was wanting.
+    /// There was no memory for its bytes.
     NoMemory,
 
     /// A reading failed, and the name's count of faults rose.
@@ -43,7 +45,7 @@ const PIECE: usize = 65536;
 /// # Errors
 ///
 /// `Outside` comes where a reading failed, `TooLong` where the file has more than `most` bytes, and `NoMemory` where
-/// memory for its bytes is wanting. No count of faults rises but where it answers `Outside`.
+/// memory for its bytes runs out. No count of faults rises but where it returns `Outside`.
 pub fn read_whole<F: Files>(
     alloc: Global,
     files: &mut F,

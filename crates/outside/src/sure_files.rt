@@ -1,3 +1,5 @@
+//! Files in memory whose readings never fail.
+
 ghost use Rattle.std.specs.Prelude.{◌≡◌, ◌≢◌, ◌<◌, ◌-◌, ◌++◌, List, ℕ, [], IfOk, OnOk, OnErr, length, min, take, drop};
 ghost use Rattle.outside.specs.Outside.{Gives};
 ghost use Rattle.outside.specs.SureFiles.{content_of, held_in};
@@ -16,7 +18,7 @@ pub struct SureFiles {
 }
 
 impl SureFiles {
-    /// No file is given yet. This takes no memory.
+    /// Returns files of which none is given yet. This takes no memory.
     pub fn new(alloc: Global) -> Self
         ensures { (name : List ℕ) → content_of result name ≡ [] }
     {
@@ -29,7 +31,7 @@ impl SureFiles {
     ///
     /// # Errors
     ///
-    /// `AllocError` where memory is wanting; then each name has the bytes that it had.
+    /// `AllocError` where memory runs out; then each name has the bytes that it had.
     #[tactic(auto, using(std::proofs::lemmas::Map::Text::text_keys))]
     pub fn give(&mut self, alloc: Global, name: &str, bytes: Vec<u8>) -> Result<(), AllocError>
         ensures given { OnOk result (content_of self.new name.now ≡ bytes.items) }

@@ -1,3 +1,5 @@
+//! A sink in memory whose writings never fail while there is room.
+
 ghost use Rattle.std.specs.Prelude.{◌≡◌, ◌<◌, ◌≤◌, ◌↔◌, ◌-◌, [], IfOk, IsErr, Some, length, min};
 ghost use Rattle.outside.specs.Causes.{HasCause};
 ghost use Rattle.outside.specs.SinkState.{after_sure_writing};
@@ -33,11 +35,11 @@ impl Model for SureSink {
 }
 
 impl SureSink {
-    /// An empty sink with room for `room` bytes.
+    /// Returns an empty sink with room for `room` bytes.
     ///
     /// # Errors
     ///
-    /// `AllocError` where memory for the room is wanting.
+    /// `AllocError` where memory for the room runs out.
     pub fn new(alloc: Global, room: u64) -> Result<Self, AllocError>
         ensures { IfOk result (λ sink. sink ≡ record { bytes = []; room = room; faults = 0 }) }
     {
@@ -48,7 +50,7 @@ impl SureSink {
         })
     }
 
-    /// The bytes that it has, in the order in which they were written.
+    /// Returns the bytes that it has, in the order in which they were written.
     pub fn bytes(&self) -> &[u8]
         ensures { result.now ≡ self.now.bytes }
     {
@@ -78,7 +80,7 @@ impl Sink for SureSink {
     {
         let left = self.room - self.bytes.len();
         let count = piece.len().min(left);
-        // The room was taken before, so that no memory is wanting here.
+        // The room was taken before, so that there is memory here.
         if count == 0 || self.bytes.extend_from_slice(&piece[..count]).is_err() {
             count_up(&mut self.faults);
             return Err(Failed);

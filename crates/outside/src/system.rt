@@ -28,7 +28,7 @@ impl<R: rt::Files> Model for OsFiles<R> {
 }
 
 impl<R: rt::Files + Drop> OsFiles<R> {
-    /// Files that have not failed yet. This opens none.
+    /// Returns files that have not failed yet. This opens none.
     pub fn new(rt: R) -> Self
         ensures { result ≡ 0 }
     {
@@ -69,7 +69,7 @@ impl<R: rt::Files + Drop> Files for OsFiles<R> {
     }
 }
 
-// The system's answer to a writing, with a failure or `Ok(0)` counted.
+// The result of a system's write, with a failure or `Ok(0)` counted.
 fn counted(answer: io::Result<usize>, faults: &mut u64) -> Result<usize, Failed>
     ensures same { MatchResult answer (λ n. result ≡ Ok n) (λ _. IsErr result) }
     ensures counted { faults.new ≡ count_after_writing faults.old result }
@@ -104,7 +104,7 @@ impl<R: Print> Model for StdSink<R> {
 }
 
 impl<R: Print + Drop> StdSink<R> {
-    /// A sink that has not failed yet. This writes nothing.
+    /// Returns a sink that has not failed yet. This writes nothing.
     pub fn new(rt: R) -> Self
         ensures { result ≡ 0 }
     {
@@ -149,7 +149,7 @@ impl<R: rt::Files> Model for FileSink<R> {
 }
 
 impl<R: rt::Files + Drop> FileSink<R> {
-    /// A sink that has not failed yet. This makes no file.
+    /// Returns a sink that has not failed yet. This makes no file.
     pub fn new(rt: R, name: String) -> Self
         ensures { result ≡ 0 }
     {

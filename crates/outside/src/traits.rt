@@ -1,3 +1,5 @@
+//! What files and sinks are: readings and writings that may fail, with counts of faults.
+
 ghost use Rattle.std.specs.Prelude.{◌≡◌, ◌<◌, List, ℕ, length, Option, OnOk};
 ghost use Rattle.std.specs.Io.{ReadsAtMost, WritesAtMost};
 ghost use Rattle.outside.specs.Causes.{HasCause};

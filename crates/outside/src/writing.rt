@@ -1,3 +1,5 @@
+//! Writing all bytes to a sink.
+
 ghost use Rattle.std.specs.Prelude.{◌≡◌, ◌<◌, ℕ, length, take, OnOk, OnErr};
 ghost use Rattle.std.specs.Io.KnownBytes.{append_known};
 ghost use Rattle.outside.specs.Causes.{HasCause};

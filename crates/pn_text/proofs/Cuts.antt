@@ -119,6 +119,6 @@ only_one : (xs : List ℕ) → (length xs == 0) ≡ false → only xs ≡ xs ∷
 only_one [] h = cc
 only_one (x ∷ xs) h = refl
 
--- and behind it is nothing
+-- and after it is nothing
 pub last_line : (xs : List ℕ) → (length xs == 0) ≡ false → position is_lf xs ≡ None → lines xs ≡ xs ∷ lines (drop (length xs) xs)
 last_line xs some e = rw (drop-length xs) (unended_at xs e ∙ only_one xs some)

@@ -25,13 +25,13 @@ pub behind_bytes-append : (place : Place) (xs ys : List ℕ) → behind_bytes pl
 behind_bytes-append place [] ys = refl
 behind_bytes-append place (x ∷ xs) ys = behind_bytes-append (behind_byte place x) xs ys
 
--- what is left behind a gap
+-- what is left after a gap
 behind_gap : (place : Place) (gap next : List ℕ) → list_all is_white_space gap ≡ true → blank_len false next ≡ 0 → behind_blanks (record { place = place; bytes = gap ++ next }) ≡ record { place = behind_bytes place gap; bytes = next }
 behind_gap place gap next white none =
     let len : blank_len false (gap ++ next) ≡ length gap = omega (arith, blank_len-append gap next white) in
     rw (len, take_at gap next (length gap) refl, drop_at gap next (length gap) refl) refl
 
--- what is left behind a text and a gap
+-- what is left after a text and a gap
 behind_both : (place : Place) (text gap next : List ℕ) → list_all is_white_space gap ≡ true → blank_len false next ≡ 0 → behind_blanks (behind (length text) (record { place = place; bytes = text ++ (gap ++ next) })) ≡ record { place = behind_bytes (behind_bytes place text) gap; bytes = next }
 behind_both place text gap next white none =
     rw (take_at text (gap ++ next) (length text) refl, drop_at text (gap ++ next) (length text) refl)
@@ -44,7 +44,7 @@ word_there source front more word place e at =
     let there : drop place.at source ≡ word_text word ++ more = rw (e, at) (drop_at front (word_text word ++ more) (length front) refl) in
     rw (len, there, take_at (word_text word) more (length (word_text word)) refl) (word_as-word_text word)
 
--- a word, a gap, and what is read behind them
+-- a word, a gap, and what is read after them
 word_step : (source front gap next : List ℕ) (word : Word) (place last : Place) (words : List Word) → is_word word ≡ true → stops (goes_on word) (gap ++ next) ≡ true → list_all is_white_space gap ≡ true → blank_len false next ≡ 0 → source ≡ front ++ (word_text word ++ (gap ++ next)) → place.at ≡ length front → Reads source (scan (record { place = behind_bytes (behind_bytes place (word_text word)) gap; bytes = next })) words last → Reads source (scan (record { place = place; bytes = word_text word ++ (gap ++ next) })) (word ∷ words) last
 word_step source front gap next word place last words is stop white none e at reads =
     let rest : Rest = record { place = place; bytes = word_text word ++ (gap ++ next) } in
@@ -106,7 +106,7 @@ reads_on source front tail word (piece ∷ pieces) place is h white e at =
     let all = word_step source front gap next word place last (right ∷ words_in pieces) is stop two.0 (word_no_blank right (written pieces ++ tail) two.1) whole at reads in
     rw (same, behind_bytes-append place text (gap ++ next), behind_bytes-append (behind_bytes place text) gap next) all
 
--- Words that are written legibly, and then white space, are read as those words, and the text ends behind them.
+-- Words that are written legibly, and then white space, are read as those words, and the text ends after them.
 pub legible_reads : (pieces : List (List ℕ × Word)) (tail : List ℕ) → are_legible pieces ≡ true → list_all is_white_space tail ≡ true → Reads (written pieces ++ tail) (tokens_of (written pieces ++ tail)) (words_in pieces) (behind_bytes first_place (written pieces ++ tail))
 unfolding tokens_of
 legible_reads [] tail h white =
@@ -127,7 +127,7 @@ legible_reads (piece ∷ pieces) tail h white =
     rw (same, behind_bytes-append first_place gap next)
     (subst (λ (r : Rest). Reads (gap ++ next) (scan r) (word ∷ words_in pieces) (behind_bytes middle next)) (sym there) reads)
 
--- ---- writing one list of words behind another
+-- ---- writing one list of words after another
 
 -- the word that stands last
 abbrev pub last_word : Word → List (List ℕ × Word) → Word

@@ -15,7 +15,7 @@ use Rattle.pn_text.specs.declared.token.TokenKind.TheVariants as kind
 use Rattle.pn_text.specs.declared.lexeme.Lexeme.{Lexeme}
 use Rattle.pn_text.proofs.LexemeLens.{chosen, Stands, lexeme_stands}
 
--- what is left behind a token and blanks
+-- what is left after a token and blanks
 abbrev pub after : Rest → Lexeme → Rest
 after rest found = behind_blanks (behind found.len rest)
 
@@ -24,7 +24,7 @@ pub shorter : (rest : Rest) (found : Lexeme) → Stands found rest.bytes → len
 shorter rest found h =
     omega (arith, h.some, h.inside, length-drop (blank_len false (drop found.len rest.bytes)) (drop found.len rest.bytes), length-drop found.len rest.bytes)
 
--- two ways to go on that agree behind what stands first
+-- two ways to go on that agree after what stands first
 same_on : (more less : Rest → Scan) (rest : Rest) (first : Result (Option Lexeme) LexFault) → ((found : Lexeme) → first ≡ Ok (Some found) → more (after rest found) ≡ less (after rest found)) → scan_on more rest first ≡ scan_on less rest first
 same_on more less rest (Err fault) h = refl
 same_on more less rest (Ok None) h = refl
@@ -46,7 +46,7 @@ enough (suc n) (suc m) rest h k =
     let less = shorter rest found (lexeme_stands rest.place rest.bytes found e) in
     enough n m (after rest found) (omega arith) (omega arith))
 
--- a scan is what stands first, and the scan behind it
+-- a scan is what stands first, and the scan after it
 pub scan_step : (rest : Rest) → scan rest ≡ scan_on scan rest (lexeme_at rest.place rest.bytes)
 unfolding scan
 scan_step rest =
@@ -101,7 +101,7 @@ scan_on_place rest (Ok (Some found)) e = refl
 pub place_of-scan : (rest : Rest) → place_of (scan rest) ≡ rest.place
 place_of-scan rest = rw (scan_step rest) (scan_on_place rest (lexeme_at rest.place rest.bytes) refl)
 
--- the place that was moved past a token and blanks is that of what is left behind them
+-- the place that was moved past a token and blanks is that of what is left after them
 pub moved : (text : List ℕ) (place middle last : Place) (len : ℕ) → len ≤ length (drop place.at text) → middle ≡ behind_bytes place (take len (drop place.at text)) → middle.at ≡ place.at + length (take len (drop place.at text)) → last ≡ (behind_blanks (record { place = middle; bytes = drop middle.at text })).place → drop last.at text ≡ (behind_blanks (record { place = middle; bytes = drop middle.at text })).bytes → record { place = last; bytes = drop last.at text } ≡ behind_blanks (behind len (record { place = place; bytes = drop place.at text }))
 moved text place middle last len within first at second bytes =
     let there : middle.at ≡ place.at + len = rw length-take-le at at in

@@ -14,7 +14,7 @@ use Rattle.pn_text.specs.declared.lexeme.Lexeme.{Lexeme}
 use Rattle.pn_text.proofs.LexemeLens.{Stands, lexeme_stands}
 use Rattle.pn_text.proofs.ScanSteps.{after}
 
--- a place behind bytes is that many further
+-- a place after bytes is that many further
 pub at-behind_bytes : (place : Place) (bytes : List ℕ) → (behind_bytes place bytes).at ≡ place.at + length bytes
 at-behind_bytes place [] = omega arith
 at-behind_bytes place (byte ∷ bytes) = at-behind_bytes (behind_byte place byte) bytes ∙ omega arith

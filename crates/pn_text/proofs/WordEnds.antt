@@ -19,7 +19,7 @@ use Rattle.pn_text.proofs.WordLexemes.{stops}
 white_no_slash : (byte : ℕ) → is_white_space byte ≡ true → (byte == 47) ≡ false
 white_no_slash byte h = grind arith
 
--- the blanks that stand first are a gap of white space, and those behind it
+-- the blanks that stand first are a gap of white space, and those after it
 pub blank_len-append : (gap next : List ℕ) → list_all is_white_space gap ≡ true → blank_len false (gap ++ next) ≡ length gap + blank_len false next
 blank_len-append [] next h = omega arith
 blank_len-append (byte ∷ bytes) next h =

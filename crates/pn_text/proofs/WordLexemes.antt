@@ -1,4 +1,4 @@
--- A written word is read as its own token, if it doesn't go on with what stands behind it.
+-- A written word is read as its own token, if it doesn't go on with what stands after it.
 use Rattle.std.proofs.Common.{◌≡◌, ℕ, suc, ◌+◌, ◌-◌, ◌==◌, not, nat_le, Bool, true, false, Some, Ok, List, [], ◌∷◌, ◌++◌, length, take, refl, ap, arith}
 use Rattle.std.specs.Fmt.{decimal}
 use Rattle.std.specs.List.{list_all, prefix_len}
@@ -29,7 +29,7 @@ kind_of DollarValue = kind.ValueWord
 kind_of DollarArg = kind.ArgWord
 kind_of (SignWord sign) = kind.Sign sign
 
--- nothing stands behind, or a byte that fails the test
+-- nothing stands after, or a byte that fails the test
 abbrev pub stops : (ℕ → Bool) → List ℕ → Bool
 stops goes [] = true
 stops goes (byte ∷ bytes) = not (goes byte)

@@ -6,7 +6,7 @@ use Rattle.pn_text.specs.declared.place.Place.{Place}
 abbrev pub first_place : Place
 first_place = record { at = 0; line = 1; col = 1 }
 
--- the place behind a byte: an LF begins a line
+-- the place after a byte: an LF begins a line
 abbrev pub behind_byte : Place → ℕ → Place
 behind_byte place byte = record {
   at = place.at + 1;
@@ -14,7 +14,7 @@ behind_byte place byte = record {
   col = if byte == 10 then 1 else place.col + 1;
 }
 
--- the place behind bytes
+-- the place after bytes
 abbrev pub behind_bytes : Place → List ℕ → Place
 behind_bytes place [] = place
 behind_bytes place (byte ∷ bytes) = behind_bytes (behind_byte place byte) bytes

@@ -26,11 +26,11 @@ pub record Rest : Type 0 where
   pub place : Place
   pub bytes : List ℕ
 
--- what is left behind so many bytes
+-- what is left after n bytes
 abbrev pub behind : ℕ → Rest → Rest
 behind n rest = record { place = behind_bytes rest.place (take n rest.bytes); bytes = drop n rest.bytes }
 
--- what is left behind the blanks
+-- what is left after the blanks
 abbrev pub behind_blanks : Rest → Rest
 behind_blanks rest = behind (blank_len false rest.bytes) rest
 
@@ -42,13 +42,13 @@ token_at place found = record { kind = found.kind; from = place.at; to = place.a
 abbrev pub onto : Token → Scan → Scan
 onto token scan = record { tokens = token ∷ scan.tokens; ending = scan.ending }
 
--- with what stands first, and how it goes on behind that
+-- with what stands first, and how it goes on after that
 abbrev pub scan_on : (Rest → Scan) → Rest → Result (Option Lexeme) LexFault → Scan
 scan_on more rest (Err fault) = record { tokens = []; ending = AtFault fault }
 scan_on more rest (Ok None) = record { tokens = []; ending = AtEnd rest.place }
 scan_on more rest (Ok (Some found)) = onto (token_at rest.place found) (more (behind_blanks (behind found.len rest)))
 
--- up to so many tokens of what is left, which begins with no blank
+-- up to n tokens of what is left, which begins with no blank
 abbrev pub scan_in : ℕ → Rest → Scan
 scan_in zero rest = record { tokens = []; ending = AtEnd rest.place }
 scan_in (suc n) rest = scan_on (scan_in n) rest (lexeme_at rest.place rest.bytes)
@@ -74,12 +74,12 @@ abbrev pub ending_place : Ending → Place
 ending_place (AtEnd place) = place
 ending_place (AtFault fault) = fault_place fault
 
--- what an end answers
+-- what is returned at an end
 abbrev pub at_ending : Ending → Result (Option Token) LexFault
 at_ending (AtEnd place) = Ok None
 at_ending (AtFault fault) = Err fault
 
--- what tokens that end so answer first
+-- what is returned first where the tokens end so
 abbrev pub first_in : List Token → Ending → Result (Option Token) LexFault
 first_in [] ending = at_ending ending
 first_in (token ∷ tokens) ending = Ok (Some token)
@@ -88,7 +88,7 @@ first_in (token ∷ tokens) ending = Ok (Some token)
 abbrev pub next_of : Scan → Result (Option Token) LexFault
 next_of scan = first_in scan.tokens scan.ending
 
--- what comes behind it; an end stays as it is
+-- what comes after it; an end stays as it is
 abbrev pub rest_of : Scan → Scan
 rest_of scan = record { tokens = drop 1 scan.tokens; ending = scan.ending }
 

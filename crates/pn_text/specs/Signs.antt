@@ -33,7 +33,9 @@ abbrev pub double_signs : List Sign
 double_signs = OpenCode ∷ CloseCode ∷ PlusPlus ∷ MinusMinus ∷ Equal ∷ NotEqual ∷ LessEqual ∷ GreaterEqual ∷ []
 
 abbrev pub single_signs : List Sign
-single_signs = OpenBrace ∷ CloseBrace ∷ OpenBracket ∷ CloseBracket ∷ OpenParen ∷ CloseParen ∷ Semicolon ∷ Comma ∷ Assign ∷ Less ∷ Greater ∷ []
+single_signs =
+    OpenBrace ∷ CloseBrace ∷ OpenBracket ∷ CloseBracket ∷ OpenParen ∷ CloseParen ∷ Semicolon ∷ Comma ∷ Assign ∷ Less
+    ∷ Greater ∷ []
 
 -- signs with their texts
 abbrev pub with_texts : List Sign → List (List ℕ × Sign)

@@ -27,7 +27,8 @@ number_at text = option_map (λ n. lexeme (kind.Number n) (prefix_len is_digit t
 -- a string whose first quote stands before these bytes: a second comes before an LF and the end
 unfoldable pub string_at : List ℕ → Option Lexeme
 string_at bytes =
-    if begins_with (codes "\"") (drop (prefix_len is_string_byte bytes) bytes) then Some (lexeme kind.Quoted (prefix_len is_string_byte bytes + 2))
+    if begins_with (codes "\"") (drop (prefix_len is_string_byte bytes) bytes)
+    then Some (lexeme kind.Quoted (prefix_len is_string_byte bytes + 2))
     else None
 
 -- a focus whose `/` stands before these bytes: a letter comes next

@@ -1,4 +1,4 @@
--- Words as they are written, one behind another.
+-- Words as they are written, one after another.
 use Rattle.std.specs.Prelude.{ℕ, ◌==◌, ◌&&◌, ◌||◌, nat_lt, not, Bool, true, false, List, [], ◌∷◌, ◌++◌, map, length, codes, slice_index}
 use Rattle.std.specs.Fmt.{decimal}
 use Rattle.std.specs.List.{list_all}
@@ -32,7 +32,7 @@ lengthens Less byte = byte == 61
 lengthens Greater byte = byte == 61
 lengthens sign byte = false
 
--- the word goes on with a byte that stands directly behind it
+-- the word goes on with a byte that stands directly after it
 abbrev pub goes_on : Word → ℕ → Bool
 goes_on (NameWord name) byte = is_name_byte byte
 goes_on (NumberWord n) byte = is_digit byte
@@ -61,7 +61,7 @@ stand_apart left (NumberWord n) = not (is_named left || is_number left || is_pat
 stand_apart left (SignWord sign) = not (goes_on left (slice_index (sign_text sign) 0))
 stand_apart left right = not (is_path left)
 
--- the words, each behind its gap
+-- the words, each after its gap
 abbrev pub written : List (List ℕ × Word) → List ℕ
 written [] = []
 written (piece ∷ pieces) = piece.0 ++ (word_text piece.1 ++ written pieces)

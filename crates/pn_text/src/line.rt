@@ -21,7 +21,7 @@ fn without_cr(bytes: &[u8]) -> &[u8]
     if *last == b'\r' { front } else { bytes }
 }
 
-/// The first line of the text, and the text behind it. None exactly where the text is empty. An LF ends a line, a CR
+/// Returns the first line of the text, and the text after it. None exactly where the text is empty. An LF ends a line, a CR
 /// directly before it is dropped, and a rest without LF is a line.
 pub fn next_line(text: &[u8]) -> Option<(&[u8], &[u8])>
     ensures line { MatchOption result (lines text.now ≡ []) (λ found. lines text.now ≡ found.0.now ∷ lines found.1.now) }

@@ -18,7 +18,7 @@ fn decimal(digits: &[u8]) -> Option<u64>
     Some(value)
 }
 
-/// The decimal number that the text spells. None exactly where the text isn't 1 to 10 digits, or the number is above
+/// Returns the decimal number that the text spells. None exactly where the text isn't 1 to 10 digits, or the number is above
 /// `most`. Zeros may lead.
 pub fn number(text: &[u8], most: u64) -> Option<u64>
     ensures { result ≡ number_of text.now most }

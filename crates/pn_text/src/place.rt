@@ -26,7 +26,7 @@ impl Place {
     };
 }
 
-/// The place behind a byte.
+/// The place after a byte.
 fn behind_byte(place: Place, byte: u8) -> Place
     requires at { place.at + 1 < 2 ^ 64 }
     requires line { place.line + 1 < 2 ^ 32 }
@@ -48,7 +48,7 @@ fn behind_byte(place: Place, byte: u8) -> Place
     }
 }
 
-/// The place behind the bytes.
+/// The place after the bytes.
 pub(crate) fn behind_bytes(place: Place, bytes: &[u8]) -> Place
     requires within { IsWithin place }
     requires short { place.at + length bytes.now + 1 < 2 ^ 32 }

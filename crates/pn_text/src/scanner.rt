@@ -30,7 +30,7 @@ impl<'a> Model for Scanner<'a> {
     ghost invariant = { IsReading };
 }
 
-/// The place behind the blanks that stand at a place in the text.
+/// The place after the blanks that stand at a place in the text.
 fn behind_blanks(text: &[u8], place: Place) -> Place
     requires within { IsWithin place }
     requires short { length text.now + 1 < 2 ^ 32 }
@@ -45,7 +45,7 @@ fn behind_blanks(text: &[u8], place: Place) -> Place
 }
 
 impl<'a> Scanner<'a> {
-    /// A scanner of the text, which is shorter than 2^32 - 1 bytes, so that lines and columns fit.
+    /// Returns a scanner of the text, which is shorter than 2^32 - 1 bytes, so that lines and columns fit.
     pub fn new(text: &'a [u8]) -> Scanner<'a>
         requires { length text.now + 1 < 2 ^ 32 }
         ensures tokens { result ≡ tokens_of text.now }
@@ -58,7 +58,11 @@ impl<'a> Scanner<'a> {
         }
     }
 
-    /// The next token, and None at the end of the text. A fault is the last of all: the next calls answer it again.
+    /// Returns the next token, and None at the end of the text.
+    ///
+    /// # Errors
+    ///
+    /// The fault where no token begins, after all tokens before it. The next calls return it again.
     pub fn next(&mut self) -> Result<Option<Token>, LexFault>
         ensures answer { result ≡ next_of self.old }
         ensures rest { self.new ≡ rest_of self.old }
@@ -79,7 +83,7 @@ impl<'a> Scanner<'a> {
         }))
     }
 
-    /// The place behind all that was read: where the next token begins, or the fault, or where the text ends.
+    /// Returns the place after all that was read: where the next token begins, or the fault, or where the text ends.
     pub fn place(&self) -> Place
         ensures { result ≡ place_of self.now }
     {

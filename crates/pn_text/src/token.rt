@@ -70,7 +70,7 @@ pub enum TokenKind {
     Sign(Sign),
 }
 
-/// A token of a text: the bytes from `from` up to `to`, which is behind its last byte.
+/// A token of a text: the bytes from `from` up to `to`, which is after its last byte.
 #[derive(Clone, Copy, Debug, PartialEq, Eq, Drop)]
 pub struct Token {
     /// What it is.
@@ -88,7 +88,7 @@ pub struct Token {
 /// Why a text has no further token.
 #[derive(Clone, Copy, Debug, PartialEq, Eq, Drop)]
 pub enum LexFault {
-    /// No token begins with this byte, or none that goes on as the bytes behind it do.
+    /// No token begins with this byte, or none that goes on as the bytes after it do.
     BadByte(Place),
     /// An LF or the text's end comes before the second quote of a string. This is the place of its first.
     OpenString(Place),

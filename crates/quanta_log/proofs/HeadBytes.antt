@@ -145,7 +145,7 @@ pub record IsSpelledHead (v : Version) (b : List ℕ) : Type 0 where
   pub plain : IsPlain v (settings_of v b)
   pub few : count_of b ≤ MAX_QUANTA
 
--- the bytes behind the magic up to the count
+-- the bytes after the magic up to the count
 shared_spelled : (v : Version) (b : List ℕ) → IsBytes b → head_len v ≤ length b → 40 ≤ length b → version_of b ≡ Some v
     → b ≡ magic v ++ (little_bytes 4 (number 4 b 8) ++ (little_bytes 4 (number 4 b 12) ++ (little_bytes 8 (number 8 b 16) ++ (little_bytes 8 (number 8 b 24) ++ (little_bytes 8 (number 8 b 32) ++ drop 40 b)))))
 shared_spelled v b bytes l long e =

@@ -11,7 +11,7 @@ use Rattle.outside.specs.Outside.{IsBytes}
 pub IsBytes-drop : (n : ℕ) (b : List ℕ) → IsBytes b → IsBytes (drop n b)
 IsBytes-drop n b h i = rw get_or-drop (h (n + i))
 
--- a number of so many bytes is below that power of 256
+-- a number of `size` bytes is below that power of 256
 pub number_below : (size : ℕ) (b : List ℕ) (at : ℕ) → IsBytes b → number size b at < 256 ^ size
 unfolding number
 number_below size b at h = little_from-lt 0 size (drop at b) (IsBytes-drop at b h)

@@ -19,7 +19,7 @@ abbrev pub entry_len : Version → ℕ
 entry_len One = 16
 entry_len Two = 8
 
--- the length of a log of so many entries
+-- the length of a log of `count` entries
 abbrev pub log_len : Version → ℕ → ℕ
 log_len v count = head_len v + count * entry_len v
 
@@ -38,7 +38,7 @@ pub record Field : Type 0 where
 abbrev pub field : ℕ → ℕ → ℕ → ℕ → Field
 field place size least most = record { place = place; size = size; least = least; most = most }
 
--- behind the magic: harts, bins, budget, width, count; in version 2 start and instruments too
+-- after the magic: harts, bins, budget, width, count; in version 2 start and instruments too
 abbrev pub later_fields : Version → List Field
 later_fields One = []
 later_fields Two = field 40 4 0 1 ∷ field 44 4 1 MAX_INSTRUMENTS ∷ []
@@ -61,7 +61,7 @@ entry_fields Two harts at =
     ∷ field (at + 6) 2 0 0
     ∷ []
 
--- the number in so many bytes from a place on; what is behind the end reads as 0, but is refused before it counts
+-- the number in `size` bytes from a place on; bytes past the end read as 0, but such a log is refused before that counts
 unfoldable pub number : ℕ → List ℕ → ℕ → ℕ
 number size bytes at = little_number size (drop at bytes)
 

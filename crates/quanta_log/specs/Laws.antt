@@ -20,5 +20,6 @@ IsSpelled =
 -- bytes of one version that mean the same log are the same
 abbrev pub IsOne : Type 0
 IsOne =
-    (b c : List ℕ) (v : Version) (s : Settings) (quanta : List Quantum) → IsBytes b → IsBytes c → version_of b ≡ Some v → version_of c ≡ Some v
+    (b c : List ℕ) (v : Version) (s : Settings) (quanta : List Quantum) → IsBytes b → IsBytes c
+    → version_of b ≡ Some v → version_of c ≡ Some v
     → meaning_of b ≡ Ok (s, quanta) → meaning_of c ≡ Ok (s, quanta) → b ≡ c

@@ -50,10 +50,15 @@ settings_of Two b = settings_with b (start_of (number 4 b 40)) (number 4 b 44)
 
 -- the quantum of an entry at a place
 abbrev pub quantum_at : Version → List ℕ → ℕ → Quantum
-quantum_at One b at = record { worker = number 4 b at; hart = number 4 b (at + 4); turns = number 4 b (at + 8); owns = number 4 b (at + 12) }
+quantum_at One b at = record {
+  worker = number 4 b at;
+  hart = number 4 b (at + 4);
+  turns = number 4 b (at + 8);
+  owns = number 4 b (at + 12);
+}
 quantum_at Two b at = record { worker = number 1 b at; hart = number 1 b (at + 1); turns = number 2 b (at + 2); owns = number 2 b (at + 4) }
 
--- the quanta of so many entries from a place on
+-- the quanta of n entries from a place on
 abbrev pub quanta_at : Version → List ℕ → ℕ → ℕ → List Quantum
 quanta_at v b zero at = []
 quanta_at v b (suc n) at = quantum_at v b at ∷ quanta_at v b n (at + entry_len v)
@@ -81,7 +86,7 @@ head_fault v b = first_fault (map (field_fault b) (head_fields v))
 unfoldable pub entry_fault : Version → ℕ → List ℕ → ℕ → Option LogFault
 entry_fault v harts b at = first_fault (map (field_fault b) (entry_fields v harts at))
 
--- the first fault of so many entries from a place on
+-- the first fault of n entries from a place on
 abbrev pub entries_fault : Version → ℕ → List ℕ → ℕ → ℕ → Option LogFault
 entries_fault v harts b zero at = None
 entries_fault v harts b (suc n) at = first_fault (entry_fault v harts b at ∷ entries_fault v harts b n (at + entry_len v) ∷ [])
@@ -111,11 +116,11 @@ meaning_as (Some v) b = unless_fault (log_fault v b) (settings_of v b, quanta_at
 unfoldable pub meaning_of : List ℕ → Result (Settings × List Quantum) LogFault
 meaning_of b = meaning_as (version_of b) b
 
--- why a call was refused; want of memory is free
+-- why a call was refused; running out of memory is always allowed
 abbrev pub Refuses : LogError → (LogFault → Type 0) → Type 0
 Refuses (error.Fault fault) why = why fault
 Refuses error.NoMemory why = ⊤
 
--- the answer is what bytes mean, unless memory is wanting
+-- the result is what bytes mean, unless memory runs out
 abbrev pub Means : Result (Settings × Vec Quantum) LogError → Result (Settings × List Quantum) LogFault → Type 0
 Means result meaning = MatchResult result (λ log. meaning ≡ Ok (log.0, log.1.items)) (λ e. Refuses e (λ fault. meaning ≡ Err fault))

@@ -16,9 +16,11 @@ abbrev pub start_number : Start → ℕ
 start_number Cold = 0
 start_number Warm = 1
 
--- behind the magic: harts, bins, budget, width, count; in version 2 start and instruments too
+-- after the magic: harts, bins, budget, width, count; in version 2 start and instruments too
 abbrev pub shared_head : Settings → ℕ → List ℕ
-shared_head s count = little_bytes 4 s.harts ++ (little_bytes 4 s.bins ++ (little_bytes 8 s.budget ++ (little_bytes 8 s.width ++ little_bytes 8 count)))
+shared_head s count =
+    little_bytes 4 s.harts ++ (little_bytes 4 s.bins
+    ++ (little_bytes 8 s.budget ++ (little_bytes 8 s.width ++ little_bytes 8 count)))
 
 abbrev pub later_head : Version → Settings → List ℕ
 later_head One s = []
@@ -38,7 +40,7 @@ spelled v s quanta = head v s (length quanta) ++ flat_map (entry v) quanta
 
 -- ---- what has a log
 
--- the numbers of a quantum, of so many harts
+-- the numbers of a quantum, in a log of that many harts
 pub record IsQuantum (harts : ℕ) (q : Quantum) : Type 0 where
   pub worker : q.worker < MAX_WORKERS
   pub hart : q.hart < harts

@@ -95,7 +95,11 @@ fn quantum_at(version: Version, bytes: &[u8], at: usize) -> Quantum
     }
 }
 
-/// The quanta of all entries, or the first fault of one.
+/// Returns the quanta of all entries.
+///
+/// # Errors
+///
+/// The first fault of an entry, or out of memory.
 pub fn quanta_of(alloc: Global, version: Version, bytes: &[u8]) -> Result<Vec<Quantum>, LogError>
     requires harts { 1 ≤ harts_of bytes.now }
     requires whole { log_len version (count_of bytes.now) ≤ length bytes.now }

@@ -1,3 +1,5 @@
+//! Why bytes are no log, and why a log was not read.
+
 use std::alloc::{AllocError, AllocFailed};
 
 /// Why bytes are no log. Places are in bytes from the front.
@@ -16,7 +18,7 @@ pub enum LogFault {
 /// Why a log was not read.
 #[derive(Clone, Copy, Debug, PartialEq, Eq, Drop)]
 pub enum LogError {
-    /// Memory was wanting.
+    /// Memory ran out.
     NoMemory,
     /// The first fault of the bytes.
     Fault(LogFault),

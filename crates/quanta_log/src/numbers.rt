@@ -5,7 +5,7 @@ ghost use Rattle.quanta_log.specs.Fields.{number, is_within};
 
 use byteorder::{ByteOrder, LittleEndian};
 
-/// The byte at a place.
+/// Returns the byte at a place.
 #[tactic(auto, unfolding(crate::specs::Fields::number))]
 pub fn byte(bytes: &[u8], at: usize) -> u8
     requires { at < length bytes.now }
@@ -14,7 +14,7 @@ pub fn byte(bytes: &[u8], at: usize) -> u8
     bytes[at]
 }
 
-/// The number in two bytes from a place on.
+/// Returns the number in two bytes from a place on.
 #[tactic(auto, unfolding(crate::specs::Fields::number))]
 pub fn half(bytes: &[u8], at: usize) -> u16
     requires { at + 2 ≤ length bytes.now }
@@ -23,7 +23,7 @@ pub fn half(bytes: &[u8], at: usize) -> u16
     LittleEndian::read_u16(&bytes[at..])
 }
 
-/// The number in four bytes from a place on.
+/// Returns the number in four bytes from a place on.
 #[tactic(auto, unfolding(crate::specs::Fields::number))]
 pub fn word(bytes: &[u8], at: usize) -> u32
     requires { at + 4 ≤ length bytes.now }
@@ -32,7 +32,7 @@ pub fn word(bytes: &[u8], at: usize) -> u32
     LittleEndian::read_u32(&bytes[at..])
 }
 
-/// The number in eight bytes from a place on.
+/// Returns the number in eight bytes from a place on.
 #[tactic(auto, unfolding(crate::specs::Fields::number))]
 pub fn doubleword(bytes: &[u8], at: usize) -> u64
     requires { at + 8 ≤ length bytes.now }
@@ -41,7 +41,7 @@ pub fn doubleword(bytes: &[u8], at: usize) -> u64
     LittleEndian::read_u64(&bytes[at..])
 }
 
-/// Whether a number lies in a range.
+/// Returns whether a number lies in a range.
 pub fn is_within(least: u64, most: u64, number: u64) -> bool
     ensures { result ≡ is_within least most number }
 {

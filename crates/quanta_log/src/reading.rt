@@ -108,8 +108,12 @@ fn settings_of(version: Version, bytes: &[u8]) -> Settings
     }
 }
 
-/// The settings and quanta of a log of either version, or the first fault of the bytes: how they begin, whether the head
-/// is whole, its fields, whether the entries are whole, their fields, and whether there are bytes behind them.
+/// Returns the settings and quanta of a log of either version.
+///
+/// # Errors
+///
+/// Out of memory, or the first fault of the bytes: of how they begin, whether the head is whole, its fields, whether the
+/// entries are whole, their fields, and whether there are bytes after them.
 #[tactic(auto, unfolding(crate::specs::Meaning::meaning_of, crate::specs::Meaning::log_fault))]
 pub fn read(alloc: Global, bytes: &[u8]) -> Result<(Settings, Vec<Quantum>), LogError>
     ensures meaning { Means result (meaning_of bytes.now) }

@@ -1,3 +1,5 @@
+//! The versions of the form that logs have, and their lengths.
+
 ghost use Rattle.std.specs.Prelude.{◌≡◌, ◌≤◌};
 ghost use Rattle.quanta_log.specs.Fields.{magic, head_len, entry_len, log_len, most_harts};
 
@@ -43,7 +45,7 @@ impl Version {
         }
     }
 
-    /// The length in bytes of a log of so many entries.
+    /// The length in bytes of a log of `count` entries.
     pub(crate) fn log_len(self, count: u64) -> u64
         requires { count ≤ MAX_QUANTA }
         ensures { result ≡ log_len self count }

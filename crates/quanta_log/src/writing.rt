@@ -19,7 +19,7 @@ fn start_number(start: Start) -> u32
     }
 }
 
-/// The head of a log of so many entries.
+/// The head of a log of `count` entries.
 #[tactic(auto, unfolding(crate::specs::Spelling::head))]
 fn head_of(settings: &Settings, count: u64) -> [u8; 48]
     ensures { result ≡ head Version.Two settings.now count }
@@ -61,7 +61,11 @@ fn push_entries(out: &mut Vec<u8>, quanta: &[Quantum]) -> Result<(), NoMemory>
     Ok(())
 }
 
-/// The log of settings and quanta, in version 2.
+/// Returns the log of settings and quanta, in version 2.
+///
+/// # Errors
+///
+/// `NoMemory` where memory runs out.
 #[tactic(auto, using(crate::proofs::EntryBytes::of_most_harts), unfolding(crate::specs::Spelling::spelled))]
 pub fn write(alloc: Global, settings: &Settings, quanta: &[Quantum]) -> Result<Vec<u8>, NoMemory>
     requires { CanSpell Version.Two settings.now quanta.now }

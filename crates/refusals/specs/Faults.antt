@@ -75,7 +75,8 @@ fault_line Usage = codes "paradyn: usage\n"
 fault_line (FileFault name) = codes "paradyn: cannot read " ++ name ++ codes "\n"
 fault_line (BadProgram fault) = codes "paradyn: bad program: " ++ program_text fault ++ codes "\n"
 fault_line (BadConf fault) = codes "paradyn: bad configuration: " ++ conf_text fault ++ codes "\n"
-fault_line (BadPick metric focus cause) = codes "paradyn: cannot measure " ++ (pick_text metric focus ++ (codes ": " ++ (cause_text cause ++ codes "\n")))
+fault_line (BadPick metric focus cause) =
+    codes "paradyn: cannot measure " ++ (pick_text metric focus ++ (codes ": " ++ (cause_text cause ++ codes "\n")))
 fault_line (BadLog place cause) = codes "paradyn: bad log at " ++ decimal place ++ codes ": " ++ log_text cause ++ codes "\n"
 fault_line (TooManyBlocks count) = codes "paradyn: too many blocks " ++ decimal count ++ codes "\n"
 fault_line (BadDirectives fault) = codes "paradyn: bad directives: " ++ conf_text fault ++ codes "\n"

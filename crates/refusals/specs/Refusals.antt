@@ -17,12 +17,12 @@ after next (Err fault) b = b ≡ Err fault
 abbrev pub Then : {A B : Type 0} → Step A → (A → Step B) → Step B
 Then {A} first next b = (a : Result A Fault) × first a × after next a b
 
--- why a call was refused; want of memory is free
+-- why a call was refused; running out of memory is always allowed
 abbrev pub Refuses : Refusal → (Fault → Type 0) → Type 0
 Refuses (refusal.Fault fault) why = why fault
 Refuses refusal.NoMemory why = ⊤
 
--- what a call answered is what a step may come to
+-- what a call returned is what a step may come to
 abbrev pub Comes : {A : Type 0} → Result A Refusal → Step A → Type 0
 Comes (Ok a) step = step (Ok a)
 Comes (Err e) step = Refuses e (λ fault. step (Err fault))

@@ -35,7 +35,7 @@ pub enum ConfKind {
 }
 
 impl ConfKind {
-    /// The kind as the line of its fault says it.
+    /// Returns the kind as the line of its fault says it.
     pub fn text(self) -> &'static [u8]
         ensures { result.now ≡ kind_text self }
     {
@@ -66,7 +66,7 @@ pub struct ConfFault {
     pub kind: ConfKind,
 }
 
-/// A fault of form.
+/// Returns a fault of form.
 pub fn syntax_kind(kind: SyntaxKind) -> ConfKind
     ensures { result ≡ syntax_kind kind }
 {
@@ -79,7 +79,7 @@ pub fn syntax_kind(kind: SyntaxKind) -> ConfKind
     }
 }
 
-/// A fault that the check finds.
+/// Returns a fault that the check finds.
 pub fn check_kind(kind: CheckKind) -> ConfKind
     ensures { result ≡ check_kind kind }
 {
@@ -92,7 +92,7 @@ pub fn check_kind(kind: CheckKind) -> ConfKind
     }
 }
 
-/// A fault of directives.
+/// Returns a fault of directives.
 pub fn directive_kind(kind: DirectiveKind) -> ConfKind
     ensures { result ≡ directive_kind kind }
 {

@@ -1,3 +1,5 @@
+//! Why a command is refused.
+
 ghost use Rattle.std.specs.Prelude.{◌≡◌};
 ghost use Rattle.refusals.specs.Faults.{fault_status};
 
@@ -21,7 +23,7 @@ pub enum Fault {
     BadPick(Text, Text, PickCause),
     /// The log is faulty at this place, in bytes from its front.
     BadLog(u64, LogCause),
-    /// So many basic blocks have a first word that can be moved, and a hart has not as many slots.
+    /// This many basic blocks have a first word that can be moved, and a hart has fewer slots.
     TooManyBlocks(u32),
     /// The directives are faulty.
     BadDirectives(ConfFault),
@@ -30,7 +32,7 @@ pub enum Fault {
 }
 
 impl Fault {
-    /// The status of the program.
+    /// Returns the status of the program.
     pub fn status(&self) -> u8
         ensures { result ≡ fault_status self.now }
     {

@@ -1,3 +1,5 @@
+//! The line of each fault.
+
 ghost use Rattle.std.specs.Prelude.{◌≡◌, ◌++◌, OnOk, IfOk};
 ghost use Rattle.refusals.specs.Faults.{conf_text, pick_text, fault_line};
 
@@ -107,7 +109,11 @@ fn too_many_blocks(alloc: Global, count: u32) -> Result<Vec<u8>, NoMemory>
     Ok(line)
 }
 
-/// The line of a fault.
+/// Returns the line of a fault.
+///
+/// # Errors
+///
+/// `NoMemory` where memory runs out.
 pub fn faults_text(alloc: Global, fault: &Fault) -> Result<Vec<u8>, NoMemory>
     ensures { IfOk result (λ text. text.items ≡ fault_line fault.now) }
 {

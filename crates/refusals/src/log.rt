@@ -15,7 +15,7 @@ pub enum LogCause {
     Short,
     /// A number outside its range.
     BadField,
-    /// Bytes behind its last quantum.
+    /// Bytes after its last quantum.
     Trailing,
     /// It has more bytes than any log can have.
     TooLong,

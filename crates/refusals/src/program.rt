@@ -1,3 +1,5 @@
+//! Why a program is refused, and the words for it.
+
 ghost use Rattle.std.specs.Prelude.{◌≡◌, ◌++◌, OnOk};
 ghost use Rattle.std.specs.Fmt.{decimal};
 ghost use Rattle.pn_types.specs.Texts.{address};

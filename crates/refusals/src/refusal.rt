@@ -1,3 +1,5 @@
+//! A fault, or out of memory.
+
 ghost use Rattle.std.specs.Prelude.{◌≡◌};
 ghost use Rattle.refusals.specs.Logs.{log_fault_at};
 
@@ -9,7 +11,7 @@ use quanta_log::LogFault;
 /// Why a step was refused.
 #[derive(Drop)]
 pub enum Refusal {
-    /// Memory was wanting.
+    /// Memory ran out.
     NoMemory,
     /// The first fault.
     Fault(Fault),
@@ -26,7 +28,7 @@ impl From<NoMemory> for Refusal {
     }
 }
 
-/// The refusal of bytes that are no log.
+/// Returns the refusal of bytes that are no log.
 pub fn bad_log(fault: LogFault) -> Refusal
     ensures { result ≡ Refusal.Fault (log_fault_at fault) }
 {

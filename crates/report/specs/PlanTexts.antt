@@ -21,9 +21,11 @@ abbrev pub left_text : List Var → Left → List ℕ
 left_text vars (Counter v) = var_name vars v
 left_text vars (Argument n) = codes "$arg[" ++ (decimal n ++ codes "]")
 
--- a condition, and the space behind it
+-- a condition, and the space after it
 abbrev pub cond_text : List Var → Cond → List ℕ
-cond_text vars c = codes "if (" ++ (left_text vars c.left ++ (codes " " ++ (cmp_text c.cmp ++ (codes " " ++ (decimal c.right ++ codes ") ")))))
+cond_text vars c =
+    codes "if (" ++ (left_text vars c.left
+    ++ (codes " " ++ (cmp_text c.cmp ++ (codes " " ++ (decimal c.right ++ codes ") ")))))
 
 abbrev pub act_text : List Var → Act → List ℕ
 act_text vars (Up v) = var_name vars v ++ codes "++;"
@@ -44,11 +46,15 @@ abbrev pub site_lines : List Var → Site → List ℕ
 site_lines vars site = flat_map (stmt_line vars site.at) site.stmts
 
 abbrev pub var_line : Var → List ℕ
-var_line var = codes "variable " ++ (var.name ++ ((if var.timer then codes " timer" else codes " counter") ++ (codes " initially " ++ (decimal var.initially ++ codes "\n"))))
+var_line var =
+    codes "variable " ++ (var.name
+    ++ ((if var.timer then codes " timer" else codes " counter")
+    ++ (codes " initially " ++ (decimal var.initially ++ codes "\n"))))
 
 abbrev pub plan_head : List ℕ → List ℕ → ℕ → List ℕ
 plan_head metric focus words = codes "plan " ++ (metric ++ (codes " " ++ (focus ++ (codes " words " ++ (decimal words ++ codes "\n")))))
 
 -- the plan of a metric at a focus, with its predicted cost in words
 abbrev pub plan_text : List ℕ → List ℕ → ℕ → Plan → List ℕ
-plan_text metric focus words plan = plan_head metric focus words ++ (flat_map var_line plan.vars ++ flat_map (site_lines plan.vars) plan.sites)
+plan_text metric focus words plan =
+    plan_head metric focus words ++ (flat_map var_line plan.vars ++ flat_map (site_lines plan.vars) plan.sites)

@@ -18,7 +18,7 @@ proc_path (Some proc) = proc.module ++ codes "/" ++ proc.name
 abbrev pub text_if : Bool → List ℕ → List ℕ
 text_if wanted text = if wanted then text else []
 
--- the words of the kinds that hold, each behind a space
+-- the words of the kinds that hold, each after a space
 abbrev pub kind_words : Point → List ℕ
 kind_words point =
     text_if point.entry (codes " entry") ++ text_if point.after (codes " after") ++ text_if point.ret (codes " return")

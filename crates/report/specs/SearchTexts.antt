@@ -58,7 +58,8 @@ origin_text i p = codes "node " ++ (decimal i ++ (codes " phase " ++ (p.phase ++
 -- where a node comes from, its hypothesis at its focus, and what came of it
 abbrev pub node_line : ℕ → ℕ → NodePart → List ℕ
 node_line window i p =
-    origin_text i p ++ (codes " " ++ (pair_text p.hypothesis p.focus ++ (codes " " ++ (state_text window p.node p.node.state ++ codes "\n"))))
+    origin_text i p ++ (codes " "
+    ++ (pair_text p.hypothesis p.focus ++ (codes " " ++ (state_text window p.node p.node.state ++ codes "\n"))))
 
 -- the lines of nodes that are numbered from i on
 abbrev pub node_lines : ℕ → ℕ → List NodePart → List ℕ

@@ -30,7 +30,9 @@ histogram_line s =
 -- a bin: its number, its interval and its value
 abbrev pub bin_line : ℕ → Bin → List ℕ
 bin_line n b =
-    codes "bin " ++ (decimal n ++ (codes " from " ++ (decimal b.from ++ (codes " to " ++ (decimal b.to ++ (codes " value " ++ (decimal b.sum ++ codes "\n")))))))
+    codes "bin " ++ (decimal n ++ (codes " from "
+    ++ (decimal b.from ++ (codes " to "
+    ++ (decimal b.to ++ (codes " value " ++ (decimal b.sum ++ codes "\n")))))))
 
 -- the lines of bins that are numbered from n on
 abbrev pub bin_lines : ℕ → List Bin → List ℕ

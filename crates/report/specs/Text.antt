@@ -29,7 +29,7 @@ hart_lines n (part ∷ parts) = hart_line n part ++ hart_lines (n + 1) parts
 abbrev pub output_lines : List ℕ → List ℕ
 output_lines output = codes "output " ++ decimal (length output) ++ codes "\n" ++ output ++ codes "\n"
 
--- The report of a run, behind the name of the format; lines on the search stand only where there was one.
+-- The report of a run, after the name of the format; lines on the search stand only where there was one.
 abbrev pub report_text : ReportParts → ℕ → List ℕ
 report_text parts skipped =
     codes "paradyn report 1\n" ++ counts_line parts skipped ++ hart_lines 0 parts.harts ++ output_lines parts.output

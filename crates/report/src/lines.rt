@@ -1,3 +1,5 @@
+//! The text of a report.
+
 ghost use Rattle.std.specs.Prelude.{◌≡◌, ◌++◌, ◌≤◌, ◌<◌, ◌^◌, length, OnOk, IfOk, sum_by};
 ghost use Rattle.report.specs.Text.{counts_line, hart_line, hart_lines, output_lines, report_text};
 
@@ -53,7 +55,7 @@ fn add_hart(alloc: Global, out: &mut Vec<u8>, number: u32, part: &HartPart) -> R
 ///
 /// # Errors
 ///
-/// `NoMemory` where memory is wanting.
+/// `NoMemory` where memory runs out.
 pub fn add_harts(alloc: Global, out: &mut Vec<u8>, parts: &[HartPart]) -> Result<(), NoMemory>
     requires { length parts.now < 2 ^ 32 }
     ensures { OnOk result (out.new.items ≡ out.old.items ++ hart_lines 0 parts.now) }
@@ -64,7 +66,7 @@ pub fn add_harts(alloc: Global, out: &mut Vec<u8>, parts: &[HartPart]) -> Result
     Ok(())
 }
 
-/// The program's output behind its length, and a line's end.
+/// The program's output after its length, and a line's end.
 fn add_output(alloc: Global, out: &mut Vec<u8>, output: &[u8]) -> Result<(), NoMemory>
     ensures { OnOk result (out.new.items ≡ out.old.items ++ output_lines output.now) }
 {
@@ -75,8 +77,12 @@ fn add_output(alloc: Global, out: &mut Vec<u8>, output: &[u8]) -> Result<(), NoM
     out.extend_from_slice(b"\n")
 }
 
-/// The text of a report. The number `skipped` is that of the function symbols that are no procedures. The harts' ticks
-/// together are below 2^64.
+/// Returns the text of a report. The number `skipped` is that of the function symbols that are no procedures. The harts'
+/// ticks together are below 2^64.
+///
+/// # Errors
+///
+/// `NoMemory` where memory runs out.
 pub fn report(alloc: Global, parts: &ReportParts, skipped: u32) -> Result<Vec<u8>, NoMemory>
     requires harts { length parts.now.harts < 2 ^ 32 }
     requires ticks { sum_by (λ part. part.ticks) parts.now.harts < 2 ^ 64 }

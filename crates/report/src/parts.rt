@@ -1,3 +1,5 @@
+//! The parts of a report.
+
 use fold_hist::Bin;
 use pn_types::{PickCause, Seq, StopText, Text};
 use w3_search::Node;

@@ -1,3 +1,5 @@
+//! The text of a plan.
+
 ghost use Rattle.std.specs.Prelude.{◌≡◌, ◌++◌, if◌then◌else◌, codes, flat_map, OnOk, IfOk};
 ghost use Rattle.std.specs.Fmt.{decimal};
 ghost use Rattle.report.specs.PlanTexts.{var_name, left_text, cond_text, act_text, stmt_line, site_lines, var_line, plan_head, plan_text};
@@ -90,7 +92,7 @@ fn add_left(alloc: Global, out: &mut Vec<u8>, vars: &[Var], left: Left) -> Resul
     }
 }
 
-/// A condition, and the space behind it.
+/// A condition, and the space after it.
 fn add_cond(alloc: Global, out: &mut Vec<u8>, vars: &[Var], cond: &Cond) -> Result<(), NoMemory>
     ensures { OnOk result (out.new.items ≡ out.old.items ++ cond_text vars.now cond.now) }
 {
@@ -193,12 +195,16 @@ fn add_sites(alloc: Global, out: &mut Vec<u8>, vars: &[Var], sites: &[Site]) -> 
     Ok(())
 }
 
-/// The text of the plan of a metric at a focus: a line `plan METRIC FOCUS words N`, where N is its predicted cost in
+/// Returns the text of the plan of a metric at a focus: a line `plan METRIC FOCUS words N`, where N is its predicted cost in
 /// words; then for each variable a line `variable NAME timer initially N` or `variable NAME counter initially N`; and
 /// then for each statement, in the order of the sites, a line `at 0xADDRESS STATEMENT`. A statement has the form that it
 /// has in a configuration, as `if (in_proc != 0) start(sync_wait);`: its conditions, the outermost first, each with its
 /// number in decimal, and what it does. Variables have their names in the plan. Where a variable's number is none of the
 /// plan's, nothing stands in place of its name.
+///
+/// # Errors
+///
+/// `NoMemory` where memory runs out.
 pub fn plan_text(
     alloc: Global,
     metric: &[u8],

@@ -1,3 +1,5 @@
+//! The text of points.
+
 ghost use Rattle.std.specs.Prelude.{◌≡◌, ◌++◌, slice_get, OnOk, IfOk};
 ghost use Rattle.report.specs.Points.{points_head, proc_path, text_if, kind_words, point_line, point_lines, points_text};
 
@@ -82,10 +84,14 @@ fn add_points(
     Ok(())
 }
 
-/// The text of points: a line `points N skipped K`, and then for each point, in their order, a line with its address,
+/// Returns the text of points: a line `points N skipped K`, and then for each point, in their order, a line with its address,
 /// its procedure as `MODULE/NAME`, and the words of its kinds out of `entry`, `after`, `return` and `call`. The number
 /// `skipped` is that of the function symbols that are no procedures. Where a point's procedure is not among `procs`,
 /// nothing stands in its line in place of `MODULE/NAME`.
+///
+/// # Errors
+///
+/// `NoMemory` where memory runs out.
 pub fn points_text(
     alloc: Global,
     procs: &[Proc],

@@ -1,3 +1,5 @@
+//! The lines of a search in a report.
+
 ghost use Rattle.std.specs.Prelude.{◌≡◌, ◌++◌, if◌then◌else◌, codes, OnOk};
 ghost use Rattle.pn_types.specs.Texts.{cause_text};
 ghost use Rattle.report.specs.SearchTexts.{node_line, node_lines, origin_text, parent_text, pick_of, search_head, search_lines, state_text, verdict_text, waiting_text};
@@ -150,7 +152,11 @@ fn add_nodes(
     Ok(())
 }
 
-/// The lines of the search.
+/// Appends the lines of the search.
+///
+/// # Errors
+///
+/// `NoMemory` where memory runs out.
 pub fn add_search(alloc: Global, out: &mut Vec<u8>, part: &SearchPart) -> Result<(), NoMemory>
     ensures { OnOk result (out.new.items ≡ out.old.items ++ search_lines part.now) }
 {

@@ -1,3 +1,5 @@
+//! The lines of wishes that were refused, and of histograms.
+
 ghost use Rattle.std.specs.Prelude.{◌≡◌, ◌++◌, ◌<◌, ◌^◌, if◌then◌else◌, codes, flat_map, length, OnOk};
 ghost use Rattle.std.specs.List.{All};
 ghost use Rattle.report.specs.ShownTexts.{bin_line, bin_lines, from_text, histogram_line, pair_text, refused_line, shown_lines};
@@ -7,7 +9,11 @@ use fold_hist::Bin;
 use pn_types::{NoMemory, Text};
 use std::alloc::Global;
 
-/// The name of a metric or of a hypothesis, at a focus.
+/// Appends the name of a metric or of a hypothesis, at a focus.
+///
+/// # Errors
+///
+/// `NoMemory` where memory runs out.
 pub fn add_pair(out: &mut Vec<u8>, name: &Text, focus: &Text) -> Result<(), NoMemory>
     ensures { OnOk result (out.new.items ≡ out.old.items ++ pair_text name.now focus.now) }
 {
@@ -40,7 +46,11 @@ fn add_refused(alloc: Global, out: &mut Vec<u8>, part: &RefusedPart) -> Result<(
     out.extend_from_slice(rest.as_bytes())
 }
 
-/// The lines of the wishes that were refused.
+/// Appends the lines of the wishes that were refused.
+///
+/// # Errors
+///
+/// `NoMemory` where memory runs out.
 pub fn add_all_refused(
     alloc: Global,
     out: &mut Vec<u8>,
@@ -112,7 +122,11 @@ fn add_shown(alloc: Global, out: &mut Vec<u8>, part: &ShownPart) -> Result<(), N
     add_bins(alloc, out, part.bins.as_slice())
 }
 
-/// The lines of all histograms.
+/// Appends the lines of all histograms.
+///
+/// # Errors
+///
+/// `NoMemory` where memory runs out.
 pub fn add_all_shown(alloc: Global, out: &mut Vec<u8>, parts: &[ShownPart]) -> Result<(), NoMemory>
     ensures { OnOk result (out.new.items ≡ out.old.items ++ flat_map shown_lines parts.now) }
 {

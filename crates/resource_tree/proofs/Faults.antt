@@ -9,7 +9,7 @@ use Rattle.resource_tree.proofs.FormStates.{state, after_none, after_append, Who
 use Rattle.resource_tree.proofs.Reached.{reached}
 use Rattle.resource_tree.proofs.ReachedEnds.{ended, goes_on}
 
--- behind a focus text is a state in which it can end
+-- after a focus text is a state in which it can end
 whole_text : (text : List ℕ) → IsFocusText text → Whole (after_all (state every_axis Start) text)
 whole_text text f = subst (λ (v : List ℕ). Whole (after_all (state every_axis Start) v)) (sym f.spelled) (parts_whole f.parts f.are_parts)
 
@@ -23,7 +23,7 @@ stopped text rest h f =
     (after_append (state every_axis Start) text rest ∙ ap (λ (s : Option FormState). after_all s rest) h ∙ after_none rest)
     (whole_text (text ++ rest) f)
 
--- the state behind one more byte of a text
+-- the state after one more byte of a text
 pub one_more : (text : List ℕ) (n b : ℕ) (s : FormState) → n < length text → b ≡ get_or text n 0 → after_all (state every_axis Start) (take n text) ≡ Some s
     → after_all (state every_axis Start) (take (n + 1) text) ≡ after s b
 one_more text n b s lt e h =

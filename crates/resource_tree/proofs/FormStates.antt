@@ -1,4 +1,4 @@
--- There is a state behind each beginning of a focus text.
+-- There is a state after each beginning of a focus text.
 use Rattle.std.proofs.Common.{◌≡◌, ℕ, suc, ◌+◌, ◌-◌, ◌<◌, ◌≤◌, ◌&&◌, nat_lt, nat_le, Bool, true, false, List, [], ◌∷◌, ◌++◌, length, Option, Some, None, refl, sym, ap, ◌∙◌, subst, arith, rules}
 use Rattle.std.specs.List.{list_all}
 use Rattle.pn_types.specs.GoodNames.{is_name_byte, is_good_name}
@@ -101,7 +101,7 @@ good_len name h =
     let q = both (nat_le 1 (length name)) (nat_le (length name) 200) p.0 in
     (le_true 1 (length name) q.0, le_true (length name) 200 q.1, p.1)
 
--- one name behind a `/`
+-- one name after a `/`
 name_stop : (axes : Axes) (levels : ℕ) (name : List ℕ) (s : Option FormState) → Stops s axes (levels + 1) → is_good_name name ≡ true → Stops (after_all s (0x2f ∷ name)) axes levels
 name_stop axes levels name s st good =
     let g = good_len name good in
@@ -188,7 +188,7 @@ more_whole axes (p ∷ ps) levels s st h =
     ∙ after_append (state axes Start) (part_text p) (more_text ps) in
     subst Whole (sym e) rest
 
--- behind each focus text there is a state in which it can end
+-- after each focus text there is a state in which it can end
 pub parts_whole : (ps : List Part) → AreParts ps → Whole (after_all (state every_axis Start) (parts_text ps))
 parts_whole [] h = absurd (omega (arith, h.0))
 parts_whole (p ∷ ps) h =

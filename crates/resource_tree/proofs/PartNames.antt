@@ -1,4 +1,4 @@
--- The names of a part out of the text behind its hierarchy.
+-- The names of a part out of the text after its hierarchy.
 use Rattle.std.proofs.Common.{◌≡◌, ℕ, ◌≤◌, ◌==◌, ◌&&◌, ◌||◌, not, nat_le, Bool, true, false, List, [], ◌∷◌, ◌++◌, length, position, bytes_eq, Some, refl, sym, ap, ◌∙◌, arith}
 use Rattle.std.proofs.lemmas.List.{append-nil}
 use Rattle.std.specs.List.{list_all, list_any}
@@ -46,7 +46,7 @@ tail_is x y a b h = cc
 apart : (b : Bool) → b ≡ true → b ≡ false → ⊥
 apart b h g = cc
 
--- what stands before and behind the only `/`
+-- what stands before and after the only `/`
 only_slash : (a b c d : List ℕ) → list_any slash a ≡ false → list_any slash b ≡ false → a ++ 0x2f ∷ b ≡ c ++ 0x2f ∷ d → (a ≡ c) × (b ≡ d)
 only_slash [] b [] d h g e = (refl, cc)
 only_slash [] b (y ∷ c) d h g e =

@@ -78,7 +78,7 @@ no_comma a h = position_from-zero is_comma a ∙ none_from 0 a h
 comma_at : (a b : List ℕ) → list_any is_comma a ≡ false → position is_comma (a ++ 0x2c ∷ b) ≡ Some (length a)
 comma_at a b h = let k : 0 + length a ≡ length a = omega arith in position_from-zero is_comma (a ++ 0x2c ∷ b) ∙ first_from 0 a b h ∙ ap Some k
 
--- a part and the parts behind it
+-- a part and the parts after it
 pub record Splits (text part : List ℕ) (at : Option ℕ) (ps : List Part) : Type 0 where
   pub last : at ≡ None → (text ≡ part) × (ps ≡ [])
   pub more : (end : ℕ) → at ≡ Some end → (take end text ≡ part) × (0 < length ps) × (drop (end + 1) text ≡ parts_text ps)
@@ -122,7 +122,7 @@ splits p (q ∷ qs) text good e =
           );
     }
 
--- what is left of the parts, where the answer is that of all of them
+-- what is left of the parts, where the result is that of all of them
 pub record Remains (t : Resources) (n : ℕ) (f : Focus) (rest : List ℕ) (answer : Result Focus FocusFault) : Type 0 where
   pub parts : List Part
   pub some : 0 < length parts

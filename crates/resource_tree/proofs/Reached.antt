@@ -16,11 +16,11 @@ use Rattle.resource_tree.specs.declared.form.Stage.{Stage}
 use Rattle.resource_tree.specs.declared.form.Stage.TheVariants.{Start, Slash, Hierarchy, End, Name}
 use Rattle.resource_tree.proofs.FormStates.{state, both, after_none}
 
--- behind it any parts of these hierarchies make a focus text
+-- after it any parts of these hierarchies make a focus text
 pub record Leads (axes : Axes) (w : List ℕ) : Type 0 where
   pub ends : (ps : List Part) → 0 < length ps → are_parts_of axes ps ≡ true → IsFocusText (w ++ parts_text ps)
 
--- behind it so many names, and then parts of these hierarchies, make a focus text
+-- after it names, as many as the levels allow, and then parts of these hierarchies, make a focus text
 pub record Closes (axes : Axes) (levels : ℕ) (w : List ℕ) : Type 0 where
   pub ends : (names : List (List ℕ)) (ps : List Part) → list_all is_good_name names ≡ true → length names ≤ levels → are_parts_of axes ps ≡ true → IsFocusText (w ++ (below_text names ++ more_text ps))
 
@@ -72,7 +72,7 @@ all_more : (name : List ℕ) (b : ℕ) → list_all is_name_byte name ≡ true �
 all_more [] b h g = rw g refl
 all_more (x ∷ xs) b h g = let p = both (is_name_byte x) (list_all is_name_byte xs) h in rw p.0 (all_more xs b p.1 g)
 
--- behind a name with at least one byte
+-- after a name with at least one byte
 pub name_closes : (axes : Axes) (levels len : ℕ) (w : List ℕ) → InName axes levels len w → 1 ≤ len → Closes axes levels w
 name_closes axes levels len w r one = record {
   ends = λ names ps good fit parts.
@@ -125,7 +125,7 @@ name_behind axes levels b w t r h = by (b == 0x2f) (nat_lt 0 levels) (b == 0x2c)
     by false some true false p q u v g = cc
     by false some false any p q u v g = cc
 
--- the letter behind a hierarchy's `/`
+-- the letter after a hierarchy's `/`
 pub record Lettered (axes : Axes) (b : ℕ) (axis : Axis) : Type 0 where
   pub some : has axes axis ≡ true
   pub front : 0x2f ∷ b ∷ [] ≡ take 2 (axis_name axis)
@@ -266,6 +266,6 @@ along (b ∷ bs) s t w r h = by (after s b) refl (λ u g q. along bs u t (w ++ b
     by None q rest g = let n = after_none bs in cc
     by (Some u) q rest g = subst (λ (v : List ℕ). ReachedState t v) (append_assoc w (b ∷ []) bs) (rest u g q)
 
--- a state behind a whole text
+-- a state after a whole text
 pub reached : (text : List ℕ) (t : FormState) → after_all (state every_axis Start) text ≡ Some t → ReachedState t text
 reached text t h = along text (record { left = every_axis; stage = Start }) t [] (first_reached, refl) h

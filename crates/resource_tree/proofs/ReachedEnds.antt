@@ -1,4 +1,4 @@
--- Behind each state a text ends or goes on, so that what stands before it is the beginning of a focus text.
+-- After each state a text ends or goes on, so that what stands before it is the beginning of a focus text.
 use Rattle.std.proofs.Common.{◌≡◌, ℕ, suc, nat_le, Bool, true, false, List, [], ◌∷◌, ◌++◌, take, drop, refl, sym, ap, ◌∙◌, subst, arith, append_assoc, append-nil, zero}
 use Rattle.std.proofs.lemmas.List.{take-append-drop}
 use borrow.Author.Tests.{ltb-true}

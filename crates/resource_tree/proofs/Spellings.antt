@@ -46,7 +46,7 @@ more_stops : (ps : List Part) → stops is_comma (more_text ps) ≡ true
 more_stops [] = refl
 more_stops (p ∷ ps) = refl
 
--- names behind a hierarchy
+-- names after a hierarchy
 one_below : (ns ms : List (List ℕ)) → list_all is_good_name ns ≡ true → list_all is_good_name ms ≡ true → below_text ns ≡ below_text ms → ns ≡ ms
 one_below [] [] g h e = refl
 one_below [] (m ∷ ms) g h e = cc
@@ -99,7 +99,7 @@ one_part p q g h e =
     let same : p ≡ one = ap (λ (x : Axis). record { axis = x; names = p.names }) axis in
     same ∙ ap (λ (l : List (List ℕ)). record { axis = q.axis; names = l }) names
 
--- parts behind others
+-- parts after others
 one_more : (ps qs : List Part) → list_all is_part ps ≡ true → list_all is_part qs ≡ true → more_text ps ≡ more_text qs → ps ≡ qs
 one_more [] [] g h e = refl
 one_more [] (q ∷ qs) g h e = cc

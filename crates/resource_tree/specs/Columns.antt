@@ -3,7 +3,7 @@ use Rattle.std.specs.Prelude.{ℕ, ◌≡◌, ◌<◌, ◌+◌, ◌^◌, List, [
 use Rattle.resource_tree.specs.Foci.{path_of}
 use Rattle.resource_tree.specs.Resources.{CodeNodes, ObjectNode, ProcNode, modules_of}
 
--- procedures of these modules with these paths: behind a module and a `/` stands the name
+-- procedures of these modules with these paths: after a module and a `/` stands the name
 abbrev pub procs_at : List (List ℕ) → List (List ℕ) → List ProcNode
 procs_at [] paths = []
 procs_at (m ∷ ms) [] = []

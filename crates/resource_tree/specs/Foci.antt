@@ -126,12 +126,12 @@ pub record IsFocusOf (t : Resources) (f : Focus) : Type 0 where
 abbrev pub path_of : ProcNode → List ℕ
 path_of p = p.«module» ++ (codes "/" ++ p.name)
 
--- a name or a path behind a `/`
+-- a name or a path after a `/`
 abbrev pub named_text : Option (List ℕ) → List ℕ
 named_text None = []
 named_text (Some name) = codes "/" ++ name
 
--- the text of a node behind its hierarchy
+-- the text of a node after its hierarchy
 abbrev pub code_text : CodeNodes → CodePart → List ℕ
 code_text c All = []
 code_text c (Module m) = named_text (option_map (λ n. n.name) (slice_get c.modules m))
@@ -146,7 +146,8 @@ object_text os object = named_text (option_and_then (λ k. option_map (λ o. o.n
 -- the canonical text of a focus: all three parts
 abbrev pub canonical : Resources → Focus → List ℕ
 canonical t f =
-    codes "/Code" ++ code_text t.code f.code ++ codes ",/Machine" ++ hart_text f.hart ++ codes ",/SyncObject" ++ object_text t.objects f.object
+    codes "/Code" ++ code_text t.code f.code ++ codes ",/Machine" ++ hart_text f.hart ++ codes ",/SyncObject"
+    ++ object_text t.objects f.object
 
 -- the numbers of the procedures of a module
 abbrev pub procs_of_module : CodeNodes → ℕ → List ℕ

@@ -52,12 +52,12 @@ are_parts_of axes (p ∷ ps) = has axes p.axis && is_part p && are_parts_of (wit
 abbrev pub AreParts : List Part → Type 0
 AreParts parts = (0 < length parts) × (are_parts_of every_axis parts ≡ true)
 
--- names, each behind a `/`
+-- names, each after a `/`
 abbrev pub below_text : List (List ℕ) → List ℕ
 below_text [] = []
 below_text (name ∷ names) = codes "/" ++ (name ++ below_text names)
 
--- a part: the hierarchy, and the names below it, each behind a `/`
+-- a part: the hierarchy, and the names below it, each after a `/`
 abbrev pub part_text : Part → List ℕ
 part_text p = axis_name p.axis ++ below_text p.names
 
@@ -65,7 +65,7 @@ part_text p = axis_name p.axis ++ below_text p.names
 abbrev pub is_comma : ℕ → Bool
 is_comma b = b == 0x2c
 
--- parts behind others, each behind a comma
+-- parts after others, each after a comma
 abbrev pub more_text : List Part → List ℕ
 more_text [] = []
 more_text (p ∷ ps) = codes "," ++ (part_text p ++ more_text ps)

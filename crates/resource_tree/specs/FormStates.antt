@@ -14,7 +14,7 @@ use Rattle.resource_tree.specs.declared.form.Stage.TheVariants.{Start, Slash, Hi
 abbrev pub is_any : Axes → Bool
 is_any axes = axes.code || axes.machine || axes.sync_object
 
--- the hierarchy of these whose name has this byte behind its `/`
+-- the hierarchy of these whose name has this byte after its `/`
 abbrev pub lettered : Axes → ℕ → Option Axis
 lettered axes b =
     if (b == 0x43) && axes.code then Some Code
@@ -22,13 +22,13 @@ lettered axes b =
     else if (b == 0x53) && axes.sync_object then Some SyncObject
     else None
 
--- behind the first k bytes of a hierarchy's name
+-- after the first k bytes of a hierarchy's name
 abbrev pub in_hierarchy : Axes → Axis → ℕ → FormState
 in_hierarchy axes axis k =
     if k == length (axis_name axis) then record { left = without axes axis; stage = End (depth axis) }
     else record { left = axes; stage = Hierarchy axis k }
 
--- behind a whole hierarchy or name, with so many names that can follow: a `/` before a name, or a comma before a part
+-- after a whole hierarchy or name, below which `levels` names can stand: a `/` before a name, or a comma before a part
 abbrev pub behind_name : Axes → ℕ → ℕ → Option FormState
 behind_name axes levels b =
     if (b == 0x2f) && nat_lt 0 levels then Some (record { left = axes; stage = Name (levels - 1) 0 })
@@ -40,7 +40,7 @@ abbrev pub is_byte : Option ℕ → ℕ → Bool
 is_byte None b = false
 is_byte (Some x) b = x == b
 
--- behind one more byte, from each stage
+-- after one more byte, from each stage
 abbrev pub after_at : Axes → Stage → ℕ → Option FormState
 after_at axes Start b = if b == 0x2f then Some (record { left = axes; stage = Slash }) else None
 after_at axes Slash b = option_map (λ axis. record { left = axes; stage = Hierarchy axis 2 }) (lettered axes b)
@@ -51,11 +51,11 @@ after_at axes (Name levels len) b =
     else if nat_lt 0 len then behind_name axes levels b
     else None
 
--- behind one more byte; none where no focus text has it there
+-- after one more byte; none where no focus text has it there
 abbrev pub after : FormState → ℕ → Option FormState
 after s b = after_at s.left s.stage b
 
--- behind some bytes
+-- after some bytes
 abbrev pub after_all : Option FormState → List ℕ → Option FormState
 after_all s [] = s
 after_all s (b ∷ bs) = after_all (option_and_then (λ t. after t b) s) bs

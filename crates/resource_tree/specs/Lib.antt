@@ -4,3 +4,4 @@ pub mod Resources
 pub mod Foci
 pub mod FocusTexts
 pub mod FormStates
+pub mod SameNodes

@@ -17,10 +17,12 @@ pub record AreGoodNames (names : List (List ℕ)) : Type 0 where
 pub record IsNamed (t : Resources) : Type 0 where
   pub modules : AreGoodNames (map (λ m. m.name) t.code.modules)
   pub procs : (k : ℕ) (p : ProcNode) → slice_get t.code.procs k ≡ Some p → (is_good_name p.«module» ≡ true) × (is_good_name p.name ≡ true)
-  pub procs_apart : (j k : ℕ) (p q : ProcNode) → slice_get t.code.procs j ≡ Some p → slice_get t.code.procs k ≡ Some q → p.«module» ≡ q.«module» → p.name ≡ q.name → j ≡ k
+  pub procs_apart : (j k : ℕ) (p q : ProcNode) → slice_get t.code.procs j ≡ Some p → slice_get t.code.procs k ≡ Some q
+      → p.«module» ≡ q.«module» → p.name ≡ q.name → j ≡ k
   pub objects : AreGoodNames (map (λ o. o.name) t.objects)
 
 -- procedures with good names in modules with good names, no two of which have one module and name
 pub record AreNamed (procs : List Proc) : Type 0 where
   pub good : (k : ℕ) (p : Proc) → slice_get procs k ≡ Some p → (is_good_name p.«module» ≡ true) × (is_good_name p.name ≡ true)
-  pub apart : (j k : ℕ) (p q : Proc) → slice_get procs j ≡ Some p → slice_get procs k ≡ Some q → p.«module» ≡ q.«module» → p.name ≡ q.name → j ≡ k
+  pub apart : (j k : ℕ) (p q : Proc) → slice_get procs j ≡ Some p → slice_get procs k ≡ Some q
+      → p.«module» ≡ q.«module» → p.name ≡ q.name → j ≡ k

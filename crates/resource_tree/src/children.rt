@@ -91,7 +91,7 @@ fn object_count(objects: u32, node: Option<u32>) -> u32
 }
 
 impl Tree {
-    /// How many children the focus has on an axis.
+    /// Returns how many children the focus has on an axis.
     pub fn child_count(&self, focus: &Focus, axis: Axis) -> u32
         ensures { result ≡ length (children self.now focus.now axis) }
     {
@@ -102,7 +102,7 @@ impl Tree {
         }
     }
 
-    /// The focus's child of this number, from 0, on an axis, in the order of the tree. None exactly where the number
+    /// Returns the focus's child of this number, from 0, on an axis, in the order of the tree. None exactly where the number
     /// isn't below that of the children.
     pub fn child(&self, focus: &Focus, axis: Axis, number: u32) -> Option<Focus>
         ensures child { result ≡ slice_get (children self.now focus.now axis) number }

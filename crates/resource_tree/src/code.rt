@@ -31,7 +31,7 @@ impl Model for CodeTree {
     ghost invariant = { λ c. AreColumns c.modules c.paths };
 }
 
-// By a call of its own: what drops it need not prove the drops of all its parts.
+// A function of its own, so that what drops it need not prove the drops of all its parts.
 impl Drop for CodeTree {
     fn drop(self) {
         let CodeTree {

@@ -1,3 +1,5 @@
+//! Why a text is no focus.
+
 /// Why a text is no focus of a tree.
 #[derive(Clone, Copy, Debug, PartialEq, Eq, Drop)]
 pub enum FocusFault {

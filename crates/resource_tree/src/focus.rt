@@ -17,7 +17,7 @@ use pn_types::{Axis, CodePart, Focus, HartNo, MAX_HARTS};
 /// The greatest number of parts of a focus text.
 const MOST_PARTS: u32 = 3;
 
-/// A part's hierarchy, and the text behind it.
+/// A part's hierarchy, and the text after it.
 fn split_part(part: &[u8]) -> Option<(Axis, &[u8])>
     ensures { (p : Part) → part.now ≡ part_text p → MatchOption result ⊥ (λ r. (r.0 ≡ p.axis) × (r.1.now ≡ below_text p.names)) }
 {
@@ -31,9 +31,10 @@ fn split_part(part: &[u8]) -> Option<(Axis, &[u8])>
     Some((Axis::SyncObject, below))
 }
 
-/// The node of the code that names select, which are given each behind a `/`.
+/// The node of the code that names select, which are given each after a `/`.
 fn code_node(code: &CodeTree, below: &[u8]) -> Option<CodePart>
-    ensures { (names : List (List ℕ)) → length names ≤ 2 → list_all is_good_name names ≡ true → below.now ≡ below_text names → result ≡ code_named code.now names }
+    ensures { (names : List (List ℕ)) → length names ≤ 2 → list_all is_good_name names ≡ true
+        → below.now ≡ below_text names → result ≡ code_named code.now names }
 {
     let Some((_, path)) = below.split_first() else {
         return Some(CodePart::All);
@@ -74,10 +75,11 @@ fn first_comma(text: &[u8]) -> Option<usize>
     text.iter().position(|byte| *byte == b',')
 }
 
-/// The first part of a text, and the text behind its comma, where it has one.
+/// The first part of a text, and the text after its comma, where it has one.
 fn split_comma(text: &[u8]) -> (&[u8], Option<&[u8]>)
     ensures part { (p : Part) → (ps : List Part) → is_part p ≡ true → text.now ≡ parts_text (p ∷ ps) → result.0.now ≡ part_text p }
-    ensures rest { (p : Part) → (ps : List Part) → is_part p ≡ true → text.now ≡ parts_text (p ∷ ps) → MatchOption result.1 (ps ≡ []) (λ rest. (0 < length ps) × (rest.now ≡ parts_text ps)) }
+    ensures rest { (p : Part) → (ps : List Part) → is_part p ≡ true → text.now ≡ parts_text (p ∷ ps)
+        → MatchOption result.1 (ps ≡ []) (λ rest. (0 < length ps) × (rest.now ≡ parts_text ps)) }
 {
     match first_comma(text) {
         Some(end) => (&text[..end], Some(&text[end + 1..])),
@@ -124,8 +126,12 @@ impl Tree {
         Ok(focus)
     }
 
-    /// The focus of a text: one to three parts joined by commas, each hierarchy at most once, in any order, where an
-    /// omitted one is selected as a whole. `Form` comes before `NoSuchNode`.
+    /// Returns the focus of a text: one to three parts joined by commas, each hierarchy at most once, in any order, where an
+    /// omitted one is selected as a whole.
+    ///
+    /// # Errors
+    ///
+    /// `Form` where the text isn't one of a focus, else `NoSuchNode` where a name isn't in the tree.
     pub fn focus(&self, text: &[u8]) -> Result<Focus, FocusFault>
         ensures reading { IsReading self.now text.now result }
         ensures in_tree { IfOk result (IsFocusOf self.now) }
@@ -136,7 +142,7 @@ impl Tree {
         self.named(text)
     }
 
-    /// The focus that a text selects. None exactly where the text hasn't the form of a focus, or names no node.
+    /// Returns the focus that a text selects. None exactly where the text hasn't the form of a focus, or names no node.
     pub fn selected(&self, text: &[u8]) -> Option<Focus>
         ensures selects { Selects self.now text.now result }
         ensures in_tree { IfSome result (IsFocusOf self.now) }

@@ -25,15 +25,15 @@ enum Stage {
     Start,
     /// The `/` of a hierarchy.
     Slash,
-    /// So many bytes of a hierarchy, but not all.
+    /// The first bytes of a hierarchy, this many, but not all.
     Hierarchy(Axis, usize),
-    /// A whole hierarchy, below which so many names can stand.
+    /// A whole hierarchy, and how many names can stand below it.
     End(u32),
-    /// A `/` and so many bytes of a name, below which so many further ones can stand.
+    /// A `/`, below which this many further names can stand, and this many bytes of a name.
     Name(u32, usize),
 }
 
-/// The state behind the first bytes of a focus text.
+/// The state after the first bytes of a focus text.
 #[derive(Clone, Copy, Drop)]
 struct FormState {
     /// The hierarchies that can still come.
@@ -41,7 +41,7 @@ struct FormState {
     stage: Stage,
 }
 
-/// The state behind the first bytes of a hierarchy, `len` of them.
+/// The state after the first bytes of a hierarchy, `len` of them.
 fn in_hierarchy(left: Axes, axis: Axis, len: usize) -> FormState
     ensures { result ≡ in_hierarchy left axis len }
 {
@@ -57,7 +57,7 @@ fn in_hierarchy(left: Axes, axis: Axis, len: usize) -> FormState
     }
 }
 
-/// The state behind a byte that follows a whole hierarchy or name, below which `levels` names can stand.
+/// The state after a byte that follows a whole hierarchy or name, below which `levels` names can stand.
 fn behind_name(left: Axes, levels: u32, byte: u8) -> Option<FormState>
     ensures { result ≡ behind_name left levels byte }
 {
@@ -84,7 +84,7 @@ fn is_byte(text: &[u8], place: usize, byte: u8) -> bool
 }
 
 impl FormState {
-    /// The state behind one more byte. None where no focus text goes on with it.
+    /// The state after one more byte. None where no focus text goes on with it.
     fn after(self, byte: u8) -> Option<FormState>
         ensures { result ≡ after self byte }
     {

@@ -20,7 +20,7 @@ fn is_hart(name: &[u8], number: u32) -> bool
     name == [b'h', b'a', b'r', b't', tens, ones].as_slice()
 }
 
-/// The hart of this name, out of so many harts.
+/// The hart of this name, out of `harts` harts.
 pub(crate) fn hart_named(name: &[u8], harts: u32) -> Option<HartNo>
     requires { harts ≤ MAX_HARTS }
     ensures { result ≡ position (bytes_eq name.now) (hart_names harts) }
@@ -33,7 +33,7 @@ pub(crate) fn hart_named(name: &[u8], harts: u32) -> Option<HartNo>
     None
 }
 
-/// Adds a hart's name behind a `/`.
+/// Adds a hart's name after a `/`.
 pub(crate) fn add_hart(
     alloc: Global,
     text: &mut Vec<u8>,

@@ -74,7 +74,7 @@ impl Axes {
         self.code || self.machine || self.sync_object
     }
 
-    /// The one of these whose name has the byte behind its `/`.
+    /// The one of these whose name has the byte after its `/`.
     pub(crate) fn lettered(self, byte: u8) -> Option<Axis>
         ensures { result ≡ lettered self byte }
     {

@@ -28,7 +28,7 @@ impl Model for Objects {
     ghost invariant = { λ o. AreEven o.names o.addresses.items };
 }
 
-// By a call of its own: what drops it need not prove the drops of all its parts.
+// A function of its own, so that what drops it need not prove the drops of all its parts.
 impl Drop for Objects {
     fn drop(self) {
         let Objects {

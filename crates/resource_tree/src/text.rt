@@ -12,7 +12,7 @@ use crate::tree::Tree;
 use pn_types::{CodePart, Focus, MAX_HARTS, NoMemory, Text};
 use std::alloc::Global;
 
-/// Adds a name behind a `/`, where there is one.
+/// Adds a name after a `/`, where there is one.
 fn add_named(text: &mut Vec<u8>, name: Option<&[u8]>) -> Result<(), NoMemory>
     ensures { OnOk result (text.new.items ≡ text.old.items ++ named_text (option_map (λ name. name.now) name.entry)) }
 {
@@ -23,7 +23,7 @@ fn add_named(text: &mut Vec<u8>, name: Option<&[u8]>) -> Result<(), NoMemory>
     Ok(())
 }
 
-/// Adds what a node of the code has behind its hierarchy.
+/// Adds what a node of the code has after its hierarchy.
 fn add_code(text: &mut Vec<u8>, code: &CodeTree, node: CodePart) -> Result<(), NoMemory>
     ensures { OnOk result (text.new.items ≡ text.old.items ++ code_text code.now node) }
 {
@@ -34,7 +34,7 @@ fn add_code(text: &mut Vec<u8>, code: &CodeTree, node: CodePart) -> Result<(), N
     }
 }
 
-/// Adds what a node of the objects has behind its hierarchy.
+/// Adds what a node of the objects has after its hierarchy.
 fn add_object(text: &mut Vec<u8>, objects: &Objects, node: Option<u32>) -> Result<(), NoMemory>
     ensures { OnOk result (text.new.items ≡ text.old.items ++ object_text objects.now node) }
 {
@@ -60,9 +60,13 @@ impl Tree {
         Ok(text)
     }
 
-    /// The canonical text of a focus: its parts in the order `/Code`, `/Machine`, `/SyncObject`. Of a focus of the tree it
+    /// Returns the canonical text of a focus: its parts in the order `/Code`, `/Machine`, `/SyncObject`. Of a focus of the tree it
     /// is read as that focus, where the names of modules and procedures are good and no two procedures have the same
     /// module and name.
+    ///
+    /// # Errors
+    ///
+    /// `NoMemory` where memory runs out.
     pub fn focus_text(&self, alloc: Global, focus: &Focus) -> Result<Text, NoMemory>
         ensures text { IfOk result (λ text. text ≡ canonical self.now focus.now) }
         ensures read { IsNamed self.now → IsFocusOf self.now focus.now → IfOk result (λ text. IsTextOf self.now text focus.now) }

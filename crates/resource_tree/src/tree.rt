@@ -30,7 +30,7 @@ impl Model for Tree {
     ghost invariant = { λ t. IsBounded (record { code = t.code; objects = t.objects; harts = t.harts }) };
 }
 
-// By a call of its own: what drops it need not prove the drops of all its parts.
+// A function of its own, so that what drops it need not prove the drops of all its parts.
 impl Drop for Tree {
     fn drop(self) {
         let Tree {
@@ -42,9 +42,13 @@ impl Drop for Tree {
 }
 
 impl Tree {
-    /// The tree of these procedures, object symbols and harts. Modules stand in the order of their first procedures,
+    /// Returns the tree of these procedures, object symbols and harts. Modules stand in the order of their first procedures,
     /// and the procedures of each in the order given. The objects are those symbols that have a good name which begins
     /// with one of the prefixes, in the order given, the first of each name.
+    ///
+    /// # Errors
+    ///
+    /// `NoMemory` where memory runs out.
     pub fn build(
         alloc: Global,
         procs: &[Proc],
@@ -58,7 +62,8 @@ impl Tree {
         ensures tree { IfOk result (λ tree. tree ≡ tree_of procs.now objects.now harts prefixes.now) }
         ensures named { AreNamed procs.now → IfOk result IsNamed }
         // Objects lie where their symbols do, so below what these are below.
-        ensures low { (n : ℕ) → AllByRecursion (λ s. s.at < n) objects.now → IfOk result (λ tree. AllByRecursion (λ o. o.at < n) tree.objects) }
+        ensures low { (n : ℕ) → AllByRecursion (λ s. s.at < n) objects.now
+            → IfOk result (λ tree. AllByRecursion (λ o. o.at < n) tree.objects) }
     {
         Ok(Tree {
             code: CodeTree::of(alloc, procs)?,
@@ -67,7 +72,11 @@ impl Tree {
         })
     }
 
-    /// An equal tree.
+    /// Returns an equal tree.
+    ///
+    /// # Errors
+    ///
+    /// `NoMemory` where memory runs out.
     pub fn copy(&self, alloc: Global) -> Result<Tree, NoMemory>
         ensures { IfOk result (λ copy. copy ≡ self.now) }
     {
@@ -78,7 +87,7 @@ impl Tree {
         })
     }
 
-    /// The first hart that the focus selects, and how many it selects.
+    /// Returns the first hart that the focus selects, and how many it selects.
     pub fn harts(&self, focus: &Focus) -> (u32, u32)
         ensures { result ≡ harts_of self.now.harts focus.now.hart }
     {
@@ -88,7 +97,11 @@ impl Tree {
         }
     }
 
-    /// The numbers of the procedures that the focus selects, in the order of the tree.
+    /// Returns the numbers of the procedures that the focus selects, in the order of the tree.
+    ///
+    /// # Errors
+    ///
+    /// `NoMemory` where memory runs out.
     pub fn procs(&self, alloc: Global, focus: &Focus) -> Result<Vec<u32>, NoMemory>
         ensures { IfOk result (λ procs. procs.items ≡ (part self.now focus.now).procs) }
     {
@@ -102,7 +115,7 @@ impl Tree {
         }
     }
 
-    /// The address of the object that the focus selects. None exactly where it selects none.
+    /// Returns the address of the object that the focus selects. None exactly where it selects none.
     pub fn object_at(&self, focus: &Focus) -> Option<u64>
         ensures { result ≡ (part self.now focus.now).object }
     {

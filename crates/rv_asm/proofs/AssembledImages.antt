@@ -182,7 +182,7 @@ closed_is : (d whole : Draft) (o : Option ℕ) → closed_by d o ≡ Ok whole �
 closed_is d whole None e = ok_is d whole e
 closed_is d whole (Some line) e = absurd (cc)
 
--- what an assembled image is, whose text has so many bytes
+-- what holds of the image of a text of `len` bytes
 pub record IsAssembled (len : ℕ) (image : Image) : Type 0 where
   pub sound : len < 2 ^ 31 → IsImage image
   pub unscratched : scratch_in (words_of (text_of image)) image.text_at ≡ None

@@ -31,7 +31,7 @@ use Rattle.rv_asm.proofs.Lengths.{ok_step, ok_is}
 abbrev pub IsCleanWord : ℕ → Type 0
 IsCleanWord w = (w < 2 ^ 32) × (has_scratch w ≡ false)
 
--- such words, one behind the other
+-- such words, one after the other
 pub record IsClean (bytes : List ℕ) : Type 0 where
   pub words : List ℕ
   pub are : bytes ≡ flat_map word_bytes words
@@ -70,7 +70,7 @@ clean_none bytes a is =
 pub clean_whole : (bytes : List ℕ) → IsClean bytes → length bytes % 4 ≡ 0
 clean_whole bytes is = let len = ap (λ bs. length bs) is.are in omega (arith, len, length-words is.words)
 
--- ---- one behind the other
+-- ---- one after the other
 
 clean_append : (x y : List ℕ) → IsClean x → IsClean y → IsClean (x ++ y)
 clean_append x y p q = record {

@@ -67,7 +67,7 @@ pub record IsTight (d : Draft) : Type 0 where
   pub short : length d.module ≤ 200
   pub named : AreNamed d.declarations
 
--- a line of so many bytes leads from one draft to another
+-- a line of `len` bytes leads from one draft to another
 record Leads (len : ℕ) (d e : Draft) : Type 0 where
   count : length e.declarations ≤ length d.declarations + 1
   room : declarations_room e ≤ declarations_room d + 127 * (len + 1)

@@ -74,7 +74,7 @@ pushed : {X : Type 0} (f : X → List ℕ) (before : List X) (name : X) (more : 
 pushed f [] name more = refl
 pushed f (x ∷ xs) name more = ap (λ (ns : List (List ℕ)). f x ∷ ns) (pushed f xs name more)
 
--- the labels so far and those behind stay the same
+-- the labels so far and those after stay the same
 pub label_pushed : {X : Type 0} (f : X → List ℕ) (before after : List X) (name : X) (rest behind text : List ℕ) → after ≡ before ++ (name ∷ []) → Some (f name, behind) ≡ label_at rest → (map f before ++ (labels_of rest).0, (labels_of rest).1) ≡ labels_of text → (map f after ++ (labels_of behind).0, (labels_of behind).1) ≡ labels_of text
 label_pushed f before after name rest behind text e h i =
     ap (λ ns. (map f ns ++ (labels_of behind).0, (labels_of behind).1)) e

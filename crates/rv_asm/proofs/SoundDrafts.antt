@@ -23,7 +23,7 @@ use Rattle.rv_asm.proofs.Lengths.{ok_step, ok_is, passes_by, line_judged}
 use Rattle.rv_asm.proofs.FormNames.{all_append, named_all}
 use Rattle.rv_asm.proofs.CleanCode.{IsOfText}
 
--- an address in the text is that of a word; the data begins behind all text
+-- an address in the text is that of a word; the data begins after all text
 abbrev pub IsLabel : ℕ → Type 0
 IsLabel at = (at % 4 ≡ 0) ⊎ (data_start ≤ at)
 

@@ -85,7 +85,7 @@ segment at bytes = record { at = at; bytes = bytes; size = length bytes }
 abbrev pub segments_of : List ℕ → List ℕ → List Segment
 segments_of text bytes = segment text_start text ∷ (if length bytes == 0 then [] else segment data_start bytes ∷ [])
 
--- the label `_start` in the text, else the text's start; the data of a program begins behind its text
+-- the label `_start` in the text, else the text's start; the data of a program begins after its text
 abbrev pub entry_at : Option ℕ → ℕ
 entry_at None = text_start
 entry_at (Some at) = if nat_lt at data_start then at else text_start

@@ -12,11 +12,11 @@ abbrev pub is_name_byte : ℕ → Bool
 is_name_byte byte =
     (nat_le 97 byte && nat_le byte 122) || (nat_le 65 byte && nat_le byte 90) || is_digit byte || (byte == 95) || (byte == 46)
 
--- what stands behind the blanks
+-- what stands after the blanks
 unfoldable pub skip_blanks : List ℕ → List ℕ
 skip_blanks text = drop (prefix_len is_blank text) text
 
--- the bytes of names that stand first, and what stands behind them
+-- the bytes of names that stand first, and what stands after them
 unfoldable pub word_of : List ℕ → List ℕ
 word_of text = take (prefix_len is_name_byte text) text
 

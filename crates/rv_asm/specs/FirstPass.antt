@@ -56,23 +56,22 @@ data_start = 0x1000000
 
 -- before the first line
 abbrev pub blank_draft : Draft
-blank_draft =
-    record {
-      section = section.Text;
-      opened = None;
-      «module» = program_module;
-      labels = [];
-      declarations = [];
-      ends = [];
-      text_part = [];
-      data_part = [];
-    }
+blank_draft = record {
+  section = section.Text;
+  opened = None;
+  «module» = program_module;
+  labels = [];
+  declarations = [];
+  ends = [];
+  text_part = [];
+  data_part = [];
+}
 
 -- how many bytes statements have, each at its address
 abbrev pub len_all : List Placed → ℕ
 len_all part = sum_by (λ p. len_of p.at p.statement p.text) part
 
--- where a section ends: behind its start by the lengths of what stands in it
+-- where a section ends: after its start by the lengths of what stands in it
 abbrev pub text_end : Draft → ℕ
 text_end d = text_start + len_all d.text_part
 
@@ -125,12 +124,15 @@ good_module name = if is_good_name name then name else program_module
 -- the statement stands at the end of its section
 abbrev pub placed_after : ℕ → Draft → Statement → List ℕ → Draft
 placed_after n d statement text =
-    if in_text d.section then record d { text_part = d.text_part ++ (record { line = n; at = text_end d; statement = statement; text = text } ∷ []) }
+    if in_text d.section
+    then record d { text_part = d.text_part ++ (record { line = n; at = text_end d; statement = statement; text = text } ∷ []) }
     else record d { data_part = d.data_part ++ (record { line = n; at = data_end d; statement = statement; text = text } ∷ []) }
 
 -- a declaration more
 abbrev pub declaring : Draft → List ℕ → DeclarationKind → ℕ → Draft
-declaring d name what at = record d { declarations = d.declarations ++ (record { name = name; kind = what; at = at; «module» = d.module } ∷ []) }
+declaring d name what at = record d {
+  declarations = d.declarations ++ (record { name = name; kind = what; at = at; «module» = d.module } ∷ []);
+}
 
 -- the open procedure ends
 abbrev pub ended : Draft → Draft

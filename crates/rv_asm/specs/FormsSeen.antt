@@ -1,4 +1,4 @@
--- For proofs alone: what the code's forms make of the text behind a name.
+-- For proofs alone: what the code's forms make of the text after a name.
 use Rattle.std.specs.Prelude.{ℕ, Option, List}
 use Rattle.rv_word.specs.declared.instr.ImmOp.TheVariants as imm
 use Rattle.rv_word.specs.declared.instr.Instr.TheVariants as instr

@@ -19,7 +19,9 @@ below base digit = if nat_lt digit base then Some digit else None
 -- the number whose first digits give n, and whose others are these bytes
 abbrev pub digits_from : ℕ → ℕ → List ℕ → Option ℕ
 digits_from base n [] = Some n
-digits_from base n (byte ∷ bytes) = option_and_then (λ digit. digits_from base (n * base + digit) bytes) (option_and_then (below base) (digit_of byte))
+digits_from base n (byte ∷ bytes) =
+    option_and_then (λ digit. digits_from base (n * base + digit) bytes)
+    (option_and_then (below base) (digit_of byte))
 
 -- a number has a digit at least
 abbrev pub digits_of : ℕ → List ℕ → Option ℕ
@@ -30,7 +32,7 @@ digits_of base (byte ∷ bytes) = digits_from base 0 (byte ∷ bytes)
 abbrev pub kept : ℕ → ℕ
 kept n = min n (2 ^ 64)
 
--- the size of a number without its sign: decimal, or hexadecimal behind `0x`
+-- the size of a number without its sign: decimal, or hexadecimal after `0x`
 unfoldable pub size_of : List ℕ → Option ℕ
 size_of word = option_map kept (if bytes_eq (take 2 word) (codes "0x") then digits_of 16 (drop 2 word) else digits_of 10 word)
 

@@ -1,4 +1,4 @@
--- The operands of a statement, behind which nothing stands.
+-- The operands of a statement, after which nothing stands.
 use Rattle.std.specs.Prelude.{ℕ, if◌then◌else◌, Option, Some, None, List}
 use Rattle.rv_asm.specs.Tokens.{◌>>=◌, register_at, number_at, name_at, pointer_at, string_at, sign_at, ends}
 use Rattle.rv_asm.specs.declared.number.Number.{Number}

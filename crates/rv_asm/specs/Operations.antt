@@ -22,7 +22,9 @@ use Rattle.rv_word.specs.declared.instr.AtomicWidth.TheVariants as width
 -- on two registers
 abbrev pub base_ops : List (List ℕ × RegOp)
 base_ops =
-    (codes "add", reg.Add) ∷ (codes "sub", reg.Sub) ∷ (codes "sll", reg.Sll) ∷ (codes "slt", reg.Slt) ∷ (codes "sltu", reg.Sltu) ∷ (codes "xor", reg.Xor) ∷ (codes "srl", reg.Srl) ∷ (codes "sra", reg.Sra) ∷ (codes "or", reg.Or) ∷ (codes "and", reg.And) ∷ []
+    (codes "add", reg.Add) ∷ (codes "sub", reg.Sub) ∷ (codes "sll", reg.Sll) ∷ (codes "slt", reg.Slt)
+    ∷ (codes "sltu", reg.Sltu) ∷ (codes "xor", reg.Xor) ∷ (codes "srl", reg.Srl) ∷ (codes "sra", reg.Sra)
+    ∷ (codes "or", reg.Or) ∷ (codes "and", reg.And) ∷ []
 
 -- a product of two registers
 abbrev pub product_ops : List (List ℕ × RegOp)
@@ -41,12 +43,15 @@ register_ops = base_ops ++ product_ops ++ quotient_ops
 -- on the low halves of two registers
 abbrev pub register_ops_32 : List (List ℕ × RegOp32)
 register_ops_32 =
-    (codes "addw", reg32.Addw) ∷ (codes "subw", reg32.Subw) ∷ (codes "sllw", reg32.Sllw) ∷ (codes "srlw", reg32.Srlw) ∷ (codes "sraw", reg32.Sraw) ∷ (codes "mulw", reg32.Mulw) ∷ (codes "divw", reg32.Divw) ∷ (codes "divuw", reg32.Divuw) ∷ (codes "remw", reg32.Remw) ∷ (codes "remuw", reg32.Remuw) ∷ []
+    (codes "addw", reg32.Addw) ∷ (codes "subw", reg32.Subw) ∷ (codes "sllw", reg32.Sllw) ∷ (codes "srlw", reg32.Srlw)
+    ∷ (codes "sraw", reg32.Sraw) ∷ (codes "mulw", reg32.Mulw) ∷ (codes "divw", reg32.Divw)
+    ∷ (codes "divuw", reg32.Divuw) ∷ (codes "remw", reg32.Remw) ∷ (codes "remuw", reg32.Remuw) ∷ []
 
 -- on a register and a number
 abbrev pub immediate_ops : List (List ℕ × ImmOp)
 immediate_ops =
-    (codes "addi", imm.Addi) ∷ (codes "slti", imm.Slti) ∷ (codes "sltiu", imm.Sltiu) ∷ (codes "xori", imm.Xori) ∷ (codes "ori", imm.Ori) ∷ (codes "andi", imm.Andi) ∷ []
+    (codes "addi", imm.Addi) ∷ (codes "slti", imm.Slti) ∷ (codes "sltiu", imm.Sltiu) ∷ (codes "xori", imm.Xori)
+    ∷ (codes "ori", imm.Ori) ∷ (codes "andi", imm.Andi) ∷ []
 
 -- a shift by a number
 abbrev pub shift_ops : List (List ℕ × ShiftOp)
@@ -61,7 +66,8 @@ shift_ops_32 =
 -- a load
 abbrev pub load_ops : List (List ℕ × LoadOp)
 load_ops =
-    (codes "lb", load.Lb) ∷ (codes "lh", load.Lh) ∷ (codes "lw", load.Lw) ∷ (codes "ld", load.Ld) ∷ (codes "lbu", load.Lbu) ∷ (codes "lhu", load.Lhu) ∷ (codes "lwu", load.Lwu) ∷ []
+    (codes "lb", load.Lb) ∷ (codes "lh", load.Lh) ∷ (codes "lw", load.Lw) ∷ (codes "ld", load.Ld)
+    ∷ (codes "lbu", load.Lbu) ∷ (codes "lhu", load.Lhu) ∷ (codes "lwu", load.Lwu) ∷ []
 
 -- a store
 abbrev pub store_ops : List (List ℕ × StoreOp)
@@ -71,17 +77,20 @@ store_ops =
 -- a branch
 abbrev pub branch_ops : List (List ℕ × BranchOp)
 branch_ops =
-    (codes "beq", branch.Beq) ∷ (codes "bne", branch.Bne) ∷ (codes "blt", branch.Blt) ∷ (codes "bge", branch.Bge) ∷ (codes "bltu", branch.Bltu) ∷ (codes "bgeu", branch.Bgeu) ∷ []
+    (codes "beq", branch.Beq) ∷ (codes "bne", branch.Bne) ∷ (codes "blt", branch.Blt) ∷ (codes "bge", branch.Bge)
+    ∷ (codes "bltu", branch.Bltu) ∷ (codes "bgeu", branch.Bgeu) ∷ []
 
 -- a branch on a register and zero
 abbrev pub zero_branch_ops : List (List ℕ × BranchOp)
 zero_branch_ops =
     (codes "beqz", branch.Beq) ∷ (codes "bnez", branch.Bne) ∷ []
 
--- an AMO, behind `amo`
+-- an AMO, after `amo`
 abbrev pub atomic_ops : List (List ℕ × AmoOp)
 atomic_ops =
-    (codes "swap", amo.Swap) ∷ (codes "add", amo.Add) ∷ (codes "xor", amo.Xor) ∷ (codes "and", amo.And) ∷ (codes "or", amo.Or) ∷ (codes "min", amo.Min) ∷ (codes "max", amo.Max) ∷ (codes "minu", amo.Minu) ∷ (codes "maxu", amo.Maxu) ∷ []
+    (codes "swap", amo.Swap) ∷ (codes "add", amo.Add) ∷ (codes "xor", amo.Xor) ∷ (codes "and", amo.And)
+    ∷ (codes "or", amo.Or) ∷ (codes "min", amo.Min) ∷ (codes "max", amo.Max) ∷ (codes "minu", amo.Minu)
+    ∷ (codes "maxu", amo.Maxu) ∷ []
 
 -- an AMO, before its width
 abbrev pub amo_ops : List (List ℕ × AmoOp)

@@ -10,7 +10,7 @@ use Rattle.rv_asm.specs.declared.statement.Statement.TheVariants as the
 
 -- ---- comments
 
--- what holds behind a byte: in a string a `\` takes the next byte with it
+-- what holds after a byte: in a string a `\` takes the next byte with it
 abbrev pub quoting_after : Quoting → ℕ → Quoting
 quoting_after Outside byte = if byte == 34 then Quoted else Outside
 quoting_after Quoted byte = if byte == 34 then Outside else if byte == 92 then Escaped else Quoted
@@ -29,7 +29,7 @@ code_len quoting (byte ∷ bytes) = if starts_comment quoting byte then 0 else c
 
 -- ---- labels
 
--- a name and a colon directly behind it, and what stands behind them and blanks
+-- a name and a colon directly after it, and what stands after them and blanks
 unfoldable pub label_at : List ℕ → Option (List ℕ × List ℕ)
 label_at text = do
   rest ← after_sign 58 (behind_word text)
@@ -39,12 +39,12 @@ abbrev pub more_labels : (List ℕ → List (List ℕ) × List ℕ) → List ℕ
 more_labels others text None = ([], text)
 more_labels others text (Some label) = (label.0 ∷ (others label.1).0, (others label.1).1)
 
--- up to so many labels, and what stands behind them
+-- up to n labels, and what stands after them
 abbrev pub labels_in : ℕ → List ℕ → List (List ℕ) × List ℕ
 labels_in zero text = ([], text)
 labels_in (suc n) text = more_labels (labels_in n) text (label_at text)
 
--- the labels, of which there are fewer than bytes, and what stands behind them
+-- the labels, of which there are fewer than bytes, and what stands after them
 unfoldable pub labels_of : List ℕ → List (List ℕ) × List ℕ
 labels_of text = labels_in (length text) text
 
@@ -55,7 +55,7 @@ abbrev pub is_parted : List ℕ → Bool
 is_parted [] = true
 is_parted (byte ∷ bytes) = is_blank byte
 
--- what stands behind the labels
+-- what stands after the labels
 unfoldable pub statement_at : List ℕ → Option (Statement × List ℕ)
 statement_at text =
     if length text == 0 then Some (the.Empty, [])

@@ -78,7 +78,8 @@ distance at target = if nat_lt target at then 2 ^ 64 - (at - target) else target
 -- a jump or branch to the address of a name
 abbrev pub jump_bytes : ℕ → ℕ → Instr → Option ℕ → Result (List ℕ) AsmFault
 jump_bytes line at i None = Err (UnknownName line)
-jump_bytes line at i (Some target) = if reaches i at target then Ok (instr_bytes (with_number i (distance at target))) else Err (OutOfReach line)
+jump_bytes line at i (Some target) =
+    if reaches i at target then Ok (instr_bytes (with_number i (distance at target))) else Err (OutOfReach line)
 
 -- `la` of the address of a name
 abbrev pub address_bytes : ℕ → ℕ → Option ℕ → Result (List ℕ) AsmFault

@@ -15,7 +15,7 @@ use Rattle.rv_asm.specs.declared.statement.Statement.TheVariants as the
 
 -- ---- tables
 
--- a mnemonic, and what is made of the text behind it, if this has the shape of its operands
+-- a mnemonic, and what is made of the text after it, if this has the shape of its operands
 abbrev pub Form : Type 0 → Type 0
 Form A = List ℕ × (List ℕ → Option A)
 
@@ -33,7 +33,7 @@ abbrev pub joined : {A : Type 0} → List (List (Form A)) → List (Form A)
 joined [] = []
 joined (group ∷ groups) = group ++ joined groups
 
--- what the row of this name makes of the text behind the name
+-- what the row of this name makes of the text after the name
 abbrev pub made_by : {A : Type 0} → List (Form A) → List ℕ → List ℕ → Option A
 made_by forms name text = option_and_then (λ form. form text) (named name forms)
 
@@ -42,7 +42,8 @@ made_by forms name text = option_and_then (λ form. form text) (named name forms
 -- what no operands follow
 abbrev pub fixed : List (List ℕ × Statement)
 fixed =
-    (codes "ebreak", the.Instruction instr.Ebreak) ∷ (codes "fence", the.Instruction (instr.Fence 0 0 0x0ff)) ∷ (codes "ecall", the.Instruction instr.Ecall)
+    (codes "ebreak", the.Instruction instr.Ebreak) ∷ (codes "fence", the.Instruction (instr.Fence 0 0 0x0ff))
+    ∷ (codes "ecall", the.Instruction instr.Ecall)
     ∷ (codes "nop", the.Instruction (instr.OpImm imm.Addi 0 0 0)) ∷ (codes "ret", the.Instruction (instr.Jalr 0 1 0))
     ∷ (codes ".text", the.Text) ∷ (codes ".data", the.Data) ∷ (codes ".end", the.End) ∷ []
 
@@ -57,13 +58,15 @@ accesses size =
     ∷ (codes "sc", registers_pointer ⇒ λ r. the.Instruction (instr.Sc size r.0 r.2 r.1 0))
     ∷ amos size
 
--- an atomic access has its width behind its name
+-- an atomic access has its width after its name
 abbrev pub atomics : List (Form Statement)
 atomics = flat_map (λ size. map (λ form. (form.0 ++ size.0, form.1)) (accesses size.1)) atomic_widths
 
 -- the width of a value
 abbrev pub value_widths : List (List ℕ × ValueWidth)
-value_widths = (codes ".dword", width.Doubleword) ∷ (codes ".byte", width.Byte) ∷ (codes ".half", width.Half) ∷ (codes ".word", width.Word) ∷ []
+value_widths =
+    (codes ".dword", width.Doubleword) ∷ (codes ".byte", width.Byte) ∷ (codes ".half", width.Half)
+    ∷ (codes ".word", width.Word) ∷ []
 
 -- what has a row of its own; `mv rd, rs` is `addi rd, rs, 0`, and `jr rs` is `jalr zero, 0(rs)`
 abbrev pub singles : List (Form Statement)
@@ -104,7 +107,8 @@ Found = Statement × List ℕ
 -- what a name alone follows
 abbrev pub before_name : List (List ℕ × Statement)
 before_name =
-    (codes ".module", the.Module) ∷ (codes "j", the.Jump (instr.Jal 0 0)) ∷ (codes "call", the.Jump (instr.Jal 1 0)) ∷ (codes ".proc", the.Procedure) ∷ []
+    (codes ".module", the.Module) ∷ (codes "j", the.Jump (instr.Jal 0 0)) ∷ (codes "call", the.Jump (instr.Jal 1 0))
+    ∷ (codes ".proc", the.Procedure) ∷ []
 
 -- what has a row of its own
 abbrev pub named_singles : List (Form Found)
@@ -130,6 +134,6 @@ named_forms =
 abbrev pub forms : List (Form Found)
 forms = each (joined plain_forms) (λ form. form ⇒ λ statement. (statement, [])) ++ joined named_forms
 
--- a statement by its name and what stands behind the name
+-- a statement by its name and what stands after the name
 unfoldable pub operation : List ℕ → List ℕ → Option Found
 operation name text = made_by forms name text

@@ -1,4 +1,4 @@
--- The parts of a statement. Blanks may stand before each; what stands behind one comes with it.
+-- The parts of a statement. Blanks may stand before each; what stands after one comes with it.
 use Rattle.std.specs.Prelude.{ℕ, ◌+◌, ◌==◌, ◌||◌, Bool, true, false, if◌then◌else◌, Option, Some, None, List, [], ◌∷◌, take, drop, length}
 use Rattle.std.specs.Option.{option_and_then, option_map}
 use Rattle.rv_asm.specs.Bytes.{skip_blanks, word_of, behind_word, is_name}
@@ -32,7 +32,7 @@ register_at text = do
 unfoldable pub name_at : List ℕ → Option (List ℕ × List ℕ)
 name_at text = if is_name (word_of (skip_blanks text)) then Some (word_of (skip_blanks text), behind_word (skip_blanks text)) else None
 
--- the size of a number, directly behind its sign
+-- the size of a number, directly after its sign
 abbrev pub sized_at : Bool → List ℕ → Option (Number × List ℕ)
 sized_at negative text = do
   size ← size_of (word_of text)

@@ -49,8 +49,12 @@ fn completed(alloc: Global, draft: &Draft) -> Result<Image, AsmError>
     sized(alloc, draft, bytes)
 }
 
-/// The program that the text stands for, or why it is none: the fault of the first line that is faulty in itself, else
-/// that of the first that leads nowhere or too far, else what is wrong with the whole.
+/// Returns the program that the text stands for.
+///
+/// # Errors
+///
+/// Out of memory, or why the text is no program: the fault of the first line that is faulty in itself, else that of the first that
+/// leads nowhere or too far, else what is wrong with the whole.
 #[tactic(auto, unfolding(crate::specs::Assembly::assembled))]
 pub fn assemble(alloc: Global, text: &[u8]) -> Result<Image, AsmError>
     requires { length text.now < 2 ^ 31 }

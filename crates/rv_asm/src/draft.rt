@@ -22,7 +22,7 @@ pub(crate) const DATA_START: u64 = 0x100_0000;
 pub(crate) enum DeclarationKind {
     /// A procedure.
     Procedure,
-    /// An object of so many bytes.
+    /// An object, with its length in bytes.
     Object(u128),
 }
 
@@ -83,7 +83,7 @@ impl<'a> Model for Draft<'a> {
     ghost invariant = { λ d. AreEnds d.text_end d.data_end (map placed_seen d.text_part.items) (map placed_seen d.data_part.items) };
 }
 
-// By a call of its own: what drops it need not prove the drops of all its parts.
+// A function of its own, so that what drops it need not prove the drops of all its parts.
 impl Drop for Draft<'_> {
     fn drop(self) {
         let Draft {

@@ -28,7 +28,7 @@ pub enum AsmFault {
 /// Why a text was not assembled.
 #[derive(Clone, Copy, PartialEq, Eq, Drop)]
 pub enum AsmError {
-    /// Memory was wanting.
+    /// Memory ran out.
     NoMemory,
     /// The first fault of the text.
     Fault(AsmFault),

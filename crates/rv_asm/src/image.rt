@@ -21,7 +21,7 @@ fn add_value(out: &mut Vec<u8>, width: ValueWidth, value: u64) -> Result<(), All
     out.extend_from_slice(&bytes[..width.len()])
 }
 
-/// Adds so many zeros.
+/// Adds `count` zeros.
 fn add_zeros(out: &mut Vec<u8>, count: u128) -> Result<(), AllocError>
     ensures { OnOk result (out.new.items ≡ out.old.items ++ replicate count 0) }
 {
@@ -202,7 +202,8 @@ fn add_symbol(
     ends: &[u128],
     own: bool,
 ) -> Result<(), AllocError>
-    ensures { OnOk result (symbols.new.items ≡ symbols.old.items ++ belonging own (symbol_of (declaration_seen declaration.now) ends.now ∷ [])) }
+    ensures { OnOk result (symbols.new.items
+        ≡ symbols.old.items ++ belonging own (symbol_of (declaration_seen declaration.now) ends.now ∷ [])) }
 {
     if belongs(own, declaration.module) {
         symbols.push(symbol(alloc, declaration, ends)?)?;
@@ -218,7 +219,8 @@ fn add_belonging(
     ends: &[u128],
     own: bool,
 ) -> Result<(), AllocError>
-    ensures { OnOk result (symbols.new.items ≡ symbols.old.items ++ belonging own (symbols_from ends.now (map declaration_seen declarations.now))) }
+    ensures { OnOk result (symbols.new.items
+        ≡ symbols.old.items ++ belonging own (symbols_from ends.now (map declaration_seen declarations.now))) }
 {
     let mut left = ends;
     for declaration in declarations {

@@ -18,7 +18,7 @@ enum Quoting {
     Outside,
     /// In a string.
     Quoted,
-    /// In a string, behind a backslash.
+    /// In a string, after a backslash.
     Escaped,
 }
 
@@ -31,7 +31,7 @@ pub(crate) struct ParsedLine<'a> {
 }
 
 impl Quoting {
-    /// What holds behind the byte.
+    /// What holds after the byte.
     fn after(self, byte: u8) -> Quoting
         ensures { result ≡ quoting_after self byte }
     {
@@ -84,7 +84,7 @@ fn body(line: &[u8]) -> &[u8]
     skip_blanks(&line[..code_len(line)])
 }
 
-/// A label, and what stands behind it.
+/// A label, and what stands after it.
 #[tactic(auto, unfolding(crate::specs::Parsing::label_at))]
 fn label(text: &[u8]) -> Option<(&[u8], &[u8])>
     ensures label { option_map (λ found. (found.0.now, found.1.now)) result ≡ label_at text.now }
@@ -99,7 +99,7 @@ fn label(text: &[u8]) -> Option<(&[u8], &[u8])>
     }
 }
 
-/// The labels, and what stands behind them.
+/// The labels, and what stands after them.
 fn labels<'a>(alloc: Global, text: &'a [u8]) -> Result<(Vec<&'a [u8]>, &'a [u8]), AllocError>
     ensures { IfOk result (λ found. (map (λ label. label.now) found.0.items, found.1.now) ≡ labels_of text.now) }
 {
@@ -122,7 +122,7 @@ fn is_parted(text: &[u8]) -> bool
     }
 }
 
-/// The statement behind the labels, with the name or the string that it has. None where it has no form.
+/// The statement after the labels, with the name or the string that it has. None where it has no form.
 #[tactic(auto, unfolding(crate::specs::Parsing::statement_at))]
 fn statement(text: &[u8]) -> Option<(Statement, &[u8])>
     ensures { option_map (λ found. (found.0, found.1.now)) result ≡ statement_at text.now }

@@ -61,7 +61,8 @@ const NAMED_FORMS: [(&[u8], NamedForm); 16] = [
 
 /// A branch.
 fn branch_statement<'a>(op: BranchOp, text: &'a [u8]) -> Option<(Statement, &'a [u8])>
-    ensures { option_map {U = Found} (λ found. (found.0, found.1.now)) result ≡ (registers_name ⇒ λ r. (the.Jump (instr.Branch op r.0 r.1 0), r.2)) text.now }
+    ensures { option_map {U = Found} (λ found. (found.0, found.1.now)) result
+        ≡ (registers_name ⇒ λ r. (the.Jump (instr.Branch op r.0 r.1 0), r.2)) text.now }
 {
     let (rs1, rs2, target) = registers_name(text)?;
     let instr = Instr::Branch {
@@ -75,7 +76,8 @@ fn branch_statement<'a>(op: BranchOp, text: &'a [u8]) -> Option<(Statement, &'a 
 
 /// A branch on a register and zero.
 fn zero_branch_statement<'a>(op: BranchOp, text: &'a [u8]) -> Option<(Statement, &'a [u8])>
-    ensures { option_map {U = Found} (λ found. (found.0, found.1.now)) result ≡ (register_name ⇒ λ r. (the.Jump (instr.Branch op r.0 0 0), r.1)) text.now }
+    ensures { option_map {U = Found} (λ found. (found.0, found.1.now)) result
+        ≡ (register_name ⇒ λ r. (the.Jump (instr.Branch op r.0 0 0), r.1)) text.now }
 {
     let (rs1, target) = register_name(text)?;
     let instr = Instr::Branch {
@@ -97,7 +99,8 @@ fn name_statement<'a>(statement: Statement, text: &'a [u8]) -> Option<(Statement
 
 /// `jal rd, NAME`
 fn jal_statement<'a>(text: &'a [u8]) -> Option<(Statement, &'a [u8])>
-    ensures { option_map {U = Found} (λ found. (found.0, found.1.now)) result ≡ (register_name ⇒ λ r. (the.Jump (instr.Jal r.0 0), r.1)) text.now }
+    ensures { option_map {U = Found} (λ found. (found.0, found.1.now)) result
+        ≡ (register_name ⇒ λ r. (the.Jump (instr.Jal r.0 0), r.1)) text.now }
 {
     let (rd, target) = register_name(text)?;
     Some((Statement::Jump(Instr::Jal { rd, offset: 0 }), target))
@@ -150,7 +153,7 @@ fn named_statement<'a>(name: &[u8], text: &'a [u8]) -> Option<(Statement, &'a [u
     of_form(form, text)
 }
 
-/// A statement by its name and what stands behind it, with the name or the string that it has, else with nothing.
+/// A statement by its name and what stands after it, with the name or the string that it has, else with nothing.
 /// None where it has no form.
 pub(crate) fn operation<'a>(name: &[u8], text: &'a [u8]) -> Option<(Statement, &'a [u8])>
     ensures { option_map {U = Found} (λ found. (found.0, found.1.now)) result ≡ operation name.now text.now }

@@ -42,7 +42,7 @@ fn digits(base: u128, text: &[u8]) -> Option<u128>
     Some(size)
 }
 
-/// The size of the number without its sign: decimal, or hexadecimal behind `0x`.
+/// The size of the number without its sign: decimal, or hexadecimal after `0x`.
 #[tactic(auto, unfolding(crate::specs::Numbers::size_of))]
 pub(crate) fn size(word: &[u8]) -> Option<u128>
     ensures { result ≡ size_of word.now }

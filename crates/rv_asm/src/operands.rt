@@ -1,4 +1,4 @@
-//! The operands of a statement, behind which nothing stands.
+//! The operands of a statement, after which nothing stands.
 
 ghost use Rattle.std.specs.Prelude.{◌≡◌};
 ghost use Rattle.std.specs.Option.{option_map};

@@ -64,7 +64,7 @@ fn of_form(form: PlainForm, text: &[u8]) -> Option<Statement>
     }
 }
 
-/// A statement without a name or a string, by its name and what stands behind it. None where it has no form.
+/// A statement without a name or a string, by its name and what stands after it. None where it has no form.
 pub(crate) fn plain_statement(name: &[u8], text: &[u8]) -> Option<Statement>
     ensures { result ≡ made_by (joined plain_forms) name.now text.now }
 {

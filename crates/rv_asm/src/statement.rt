@@ -16,7 +16,7 @@ pub(crate) enum ValueWidth {
     Doubleword,
 }
 
-/// What stands behind the labels of a line. A name or a string that it has stands beside it.
+/// What stands after the labels of a line. A name or a string that it has stands beside it.
 #[derive(Clone, Copy)]
 pub(crate) enum Statement {
     /// Nothing.

@@ -37,7 +37,7 @@ fn name_bytes(text: &[u8]) -> usize
     text.iter().take_while(|byte| is_name_byte(**byte)).count()
 }
 
-/// What stands behind the blanks.
+/// What stands after the blanks.
 #[tactic(auto, unfolding(crate::specs::Bytes::skip_blanks))]
 pub(crate) fn skip_blanks(text: &[u8]) -> &[u8]
     ensures rest { result.now ≡ skip_blanks text.now }
@@ -46,7 +46,7 @@ pub(crate) fn skip_blanks(text: &[u8]) -> &[u8]
     &text[blanks(text)..]
 }
 
-/// The bytes of names that stand first, and what stands behind them.
+/// The bytes of names that stand first, and what stands after them.
 #[tactic(auto, unfolding(crate::specs::Bytes::word_of, crate::specs::Bytes::behind_word))]
 pub(crate) fn word(text: &[u8]) -> (&[u8], &[u8])
     ensures word { result.0.now ≡ word_of text.now }
@@ -74,7 +74,7 @@ pub(crate) fn is_end(text: &[u8]) -> bool
     skip_blanks(text).is_empty()
 }
 
-/// What stands behind the sign, and None where another byte stands there.
+/// What stands after the sign, and None where another byte stands there.
 #[tactic(auto, unfolding(crate::specs::Tokens::sign_at))]
 pub(crate) fn sign(sign: u8, text: &[u8]) -> Option<&[u8]>
     ensures { option_map (λ rest. rest.now) result ≡ sign_at sign text.now }
@@ -106,7 +106,7 @@ pub(crate) fn name(text: &[u8]) -> Option<(&[u8], &[u8])>
     }
 }
 
-/// The size of a number directly behind its sign.
+/// The size of a number directly after its sign.
 fn sized(negative: bool, text: &[u8]) -> Option<(Number, &[u8])>
     ensures { option_map (λ found. (found.0, found.1.now)) result ≡ sized_at negative text.now }
 {

@@ -1,5 +1,5 @@
 //! A row is words between single spaces. Its answer is what they ask of `paradyn`: the command with the values that it has, or
-//! `usage`; and behind it the name of the log, where they give one.
+//! `usage`; and after it the name of the log, where they give one.
 
 use crate::starts::start_text;
 use command_words::{
@@ -135,6 +135,10 @@ fn request_text(alloc: Global, words: &[String]) -> Result<String, NoMemory> {
 }
 
 /// Prints what a row asks for.
+///
+/// # Errors
+///
+/// Where the output can't be written, or memory runs out.
 pub fn answer(rt: &impl Print, alloc: Global, row: &str) -> io::Result<()> {
     let words = words(alloc, row)?;
     let request = request_text(alloc, &words)?;

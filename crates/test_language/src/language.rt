@@ -1,4 +1,4 @@
-//! Each row is printed before its answer. It is the name of a call, and behind single spaces its values and the text that it is
+//! Each row is printed before its answer. It is the name of a call, and after single spaces its values and the text that it is
 //! given, in which `%` and two hexadecimal digits are a byte.
 //!
 //! - `number LIMIT TEXT`: the number that the text spells. `lines TEXT`: its lines.
@@ -8,7 +8,7 @@
 //! - `focus TREE TEXT`: the focus of a text in the tree of a program, and what it selects; `written TREE TEXT`: its
 //!   canonical text, and the focus of that. `child TREE AXIS NUMBER TEXT`: the child of a focus. The trees are `three` (of
 //!   three modules) and `one` (of one procedure).
-//! - `names COUNT`: of how many of so many procedures the path is found, and they are found among their module's children.
+//! - `names COUNT`: in a program of COUNT procedures, how many have a path that is found, and stand among their module's children.
 //! - `check TEXT`: the check of a configuration beside a small shipped one. `prefixes TEXT`: its prefixes.
 //! - `plan METRIC`, `plan METRIC OBJECT`: the plan of a shipped metric for all objects or one.
 
@@ -23,6 +23,10 @@ use std::alloc::Global;
 use std::io;
 
 /// Prints a row and the answer of its call.
+///
+/// # Errors
+///
+/// Where the output can't be written, or memory runs out.
 pub fn answer(rt: &impl Print, alloc: Global, row: &str) -> io::Result<()> {
     let (call, rest) = texts::split(row);
     println!(rt; "{row}")?;

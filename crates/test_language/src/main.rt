@@ -1,4 +1,4 @@
-//! Answers the lines of the standard input. A line is a word that names a table, and behind a space a row of it:
+//! Prints answers to the lines of the standard input. A line is a word that names a table, and after a space a row of it:
 //!
 //! - `language`: calls on numbers, tokens, configurations, foci, checks and plans ([`language`]);
 //! - `command`: what words ask of `paradyn` ([`commands`]);

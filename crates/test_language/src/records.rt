@@ -111,6 +111,10 @@ fn answer_text(alloc: Global, row: &str) -> Result<String, NoMemory> {
 }
 
 /// Prints the answer to a row.
+///
+/// # Errors
+///
+/// Where the output can't be written, or memory runs out.
 pub fn answer(rt: &impl Print, alloc: Global, row: &str) -> io::Result<()> {
     let text = answer_text(alloc, row)?;
     println!(rt; "{text}")

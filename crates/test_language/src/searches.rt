@@ -1,7 +1,7 @@
 //! Takes searches through tables of steps, of which each step is printed before its answer. A row of the standard input is the name
 //! of such a table: `tests`, `small`, `phases` or `full`.
 //!
-//! What is answered to a step of a search is the state behind it: the nodes that wait, those whose instruments are to be
+//! What is returned to a step of a search is the state after it: the nodes that wait, those whose instruments are to be
 //! dropped, and what came of each node, with how many samples it has. Where there are more than 16 nodes, it is how many
 //! wait, and of how many the test ended in each way. A step that can't be taken is `no step`.
 
@@ -16,7 +16,7 @@ use std::alloc::Global;
 use std::io;
 use w3_search::Search;
 
-/// Takes a step of the search, and prints the state behind it.
+/// Takes a step of the search, and prints the state after it.
 fn print_step(rt: &impl Print, search: &mut Search, row: &Row) -> io::Result<()> {
     if steps::take(search, row) {
         printing::print_state(rt, search)
@@ -59,6 +59,10 @@ fn print_rows(rt: &impl Print, alloc: Global, rows: &[Row]) -> io::Result<()> {
 }
 
 /// Prints the steps of the table of this name, each with its answer.
+///
+/// # Errors
+///
+/// Where the output can't be written, or memory runs out.
 pub fn answer(rt: &impl Print, alloc: Global, name: &str) -> io::Result<()> {
     match name {
         "tests" => print_rows(rt, alloc, &TESTS),

@@ -2,7 +2,7 @@
 
 use pn_types::Start;
 
-/// The word for a start.
+/// Returns the word for a start.
 pub fn start_text(start: Start) -> &'static str {
     match start {
         Start::Cold => "cold",

@@ -9,7 +9,8 @@ use Rattle.w3_axes.specs.Refining.{axes_named, refinements, roots}
 abbrev pub AreUnder : {K V : Type 0} → (K → List ℕ) → (V → List ℕ) → List Hypothesis → List (K × V) → Type 0
 AreUnder now items hs under = (name : List ℕ) → numbers_under now items name under ≡ refinements hs name
 
-pub record IsLinked {K V : Type 0} (now : K → List ℕ) (items : V → List ℕ) (hs : List Hypothesis) (tops : List ℕ) (under : List (K × V)) (axes : List AxisSet) : Type 0 where
+pub record IsLinked {K V : Type 0} (now : K → List ℕ) (items : V → List ℕ) (hs : List Hypothesis) (tops : List ℕ)
+    (under : List (K × V)) (axes : List AxisSet) : Type 0 where
   pub few : length hs < 2 ^ 32
   pub at_the_top : tops ≡ roots hs
   pub below : AreUnder now items hs under

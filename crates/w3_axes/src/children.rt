@@ -52,8 +52,8 @@ fn refinement(hypotheses: &[Hypothesis], name: &[u8], place: usize) -> Option<u3
     None
 }
 
-/// Child number i, from 0, of hypothesis number h at a focus: first the hypotheses whose parent it is, at that focus and in
-/// their order; then the hypothesis itself at each focus just below, for each of its axes in the order Code, Machine,
+/// Returns child number i, from 0, of hypothesis number h at a focus: first the hypotheses whose parent it is, at that focus and
+/// in their order; then the hypothesis itself at each focus just below, for each of its axes in the order Code, Machine,
 /// SyncObject, in the order of the tree. None exactly where there are no more.
 #[tactic(auto, unfolding(crate::specs::Refining::children))]
 pub fn child_node(

@@ -37,7 +37,7 @@ impl Model for Hypotheses {
     ghost invariant = { λ h. IsLinked (λ key. key.items) (λ own. own.items) h.list.items h.roots.items h.under.entries h.axes.items };
 }
 
-// By a call of its own: what drops it need not prove the drops of all its parts.
+// A function of its own, so that what drops it need not prove the drops of all its parts.
 impl Drop for Hypotheses {
     fn drop(self) {
         let Hypotheses {
@@ -82,7 +82,10 @@ fn add_under(
     hypothesis: &Hypothesis,
     number: u32,
 ) -> Result<(), NoMemory>
-    ensures { OnOk result ((name : List ℕ) → numbers_under (λ key. key.items) (λ own. own.items) name under.new.entries ≡ with_number (is_under name hypothesis.now) number (numbers_under (λ key. key.items) (λ own. own.items) name under.old.entries)) }
+    ensures { OnOk result ((name : List ℕ)
+        → numbers_under (λ key. key.items) (λ own. own.items) name under.new.entries
+        ≡ with_number (is_under name hypothesis.now) number
+        (numbers_under (λ key. key.items) (λ own. own.items) name under.old.entries)) }
 {
     if let Some(parent) = &hypothesis.parent {
         add_number(alloc, under, parent.bytes(), number)?;
@@ -114,7 +117,11 @@ fn axes(alloc: Global, hypotheses: &[Hypothesis]) -> Result<Vec<AxisSet>, NoMemo
 }
 
 impl Hypotheses {
-    /// Copies of these hypotheses, with their links.
+    /// Returns copies of these hypotheses, with their links.
+    ///
+    /// # Errors
+    ///
+    /// `NoMemory` where memory runs out.
     pub fn new(alloc: Global, hypotheses: &[Hypothesis]) -> Result<Hypotheses, NoMemory>
         requires { length hypotheses.now < 2 ^ 32 }
         ensures { IfOk result (λ all. all ≡ hypotheses.now) }
@@ -127,14 +134,14 @@ impl Hypotheses {
         })
     }
 
-    /// The numbers of the hypotheses without a parent.
+    /// Returns the numbers of the hypotheses without a parent.
     pub fn roots(&self) -> &[u32]
         ensures { result.now ≡ roots self.now }
     {
         self.roots.as_slice()
     }
 
-    /// The threshold of a hypothesis. It is 0 where there is no such hypothesis.
+    /// Returns the threshold of a hypothesis. It is 0 where there is no such hypothesis.
     pub fn threshold(&self, h: u32) -> u32
         ensures { result ≡ threshold_of self.now h }
     {
@@ -154,7 +161,7 @@ impl Hypotheses {
         }
     }
 
-    /// Child number i, from 0, of hypothesis number h at a focus, as [`crate::child_node`] gives it, found at once. None
+    /// Returns child number i, from 0, of hypothesis number h at a focus, as [`crate::child_node`] does, but found at once. None
     /// exactly where there are no more.
     #[tactic(auto, unfolding(crate::specs::Refining::children))]
     pub fn child(&self, h: u32, focus: &Focus, i: usize, tree: &Tree) -> Option<(u32, Focus)>
@@ -169,7 +176,7 @@ impl Hypotheses {
         Some((h, axes.finer(tree, focus, i - under.len())?))
     }
 
-    /// How many children hypothesis number h has at a focus.
+    /// Returns how many children hypothesis number h has at a focus.
     #[tactic(auto, using(crate::proofs::Counting::count_children), unfolding(crate::specs::Refining::children))]
     pub fn child_count(&self, h: u32, focus: &Focus, tree: &Tree) -> usize
         ensures { result ≡ length (children self.now tree.now h focus.now) }

@@ -1,7 +1,9 @@
+//! The test of a hypothesis.
+
 ghost use Rattle.std.specs.Prelude.{◌≡◌, ◌↔◌, IsTrue};
 ghost use Rattle.w3_axes.specs.Testing.{Holds, holds};
 
-/// Whether a hypothesis is true of what was seen: there were ticks, and the value per 1,000 ticks isn't below the
+/// Returns whether a hypothesis is true of what was seen: there were ticks, and the value per 1,000 ticks isn't below the
 /// threshold.
 #[tactic(auto, unfolding(crate::specs::Testing::holds))]
 pub fn holds(value: u64, ticks: u64, threshold: u32) -> bool

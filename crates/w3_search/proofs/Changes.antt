@@ -133,7 +133,7 @@ active_open Rejected e = cc
 active_open (Barred c) e = cc
 active_open (Unfinished m) e = cc
 
--- a node that is open behind a sample has fewer than the window asks for
+-- a node that is open after a sample has fewer than the window asks for
 pub few_sampled : (hs : List Hypothesis) (window t : ℕ) (s : NodeSample) (ns : List Node) → AreFew window ns → AreFew window (with_sample hs window t s ns)
 few_sampled hs window t s ns few =
     open_kept (λ (n : Node). n.seen < window) (λ n. cond (may_take s n) (judged hs window (sampled t s n)) n) (λ n before.

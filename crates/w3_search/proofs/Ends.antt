@@ -13,7 +13,7 @@ use Rattle.w3_search.proofs.Changes.{active_open, length_changed}
 use Rattle.w3_search.proofs.Numbering.{numbers_map}
 
 module _ (p : Node → Bool) (f : Node → Node) where
-  -- behind one more node
+  -- after one more node
   each_behind : (k : ℕ) (ns xs : List Node) (x : Node) → changed_each f (numbers_from p (k + 1) ns) (x ∷ xs) ≡ x ∷ changed_each f (numbers_from p k ns) xs
   each_behind k [] xs x = refl
   each_behind k (n ∷ ns) xs x = by (p n) (each_behind (k + 1) ns (changed f k xs) x) (each_behind (k + 1) ns xs x)

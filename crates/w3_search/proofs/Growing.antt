@@ -13,7 +13,8 @@ use Rattle.w3_search.specs.declared.node.Node.{Node}
 use Rattle.w3_search.specs.declared.node.NodeState.{NodeState}
 use Rattle.w3_search.specs.declared.node.NodeState.TheVariants.{Confirmed}
 use Rattle.w3_search.specs.declared.place.NodePlace.{NodePlace}
-use Rattle.w3_search.specs.Nodes.{is_free, is_same_code, is_same_number, is_same_place, is_confirmed, new_node, place, place_of, stands, with_node, most_nodes}
+use Rattle.resource_tree.specs.SameNodes.{is_same_code, is_same_number}
+use Rattle.w3_search.specs.Nodes.{is_free, is_same_place, is_confirmed, new_node, place, place_of, stands, with_node, most_nodes}
 use Rattle.w3_search.specs.Steps.{Rules, with_children, with_family, with_family_of, with_families, with_roots}
 use Rattle.w3_search.specs.History.{In, Lineage, lineage_of, IsRoot, IsChild}
 use Rattle.w3_search.proofs.Changes.{free_parts, got}

@@ -45,11 +45,13 @@ pub record IsHistory (v : SearchData) : Type 0 where
   pub begun : (i : ℕ) (n : Node) → slice_get v.nodes i ≡ Some n → n.phase ≤ v.present
   pub origin : (i : ℕ) (n : Node) → slice_get v.nodes i ≡ Some n → IsRoot v.rules (lineage_of n) ⊎ IsChild v.rules v.nodes i (lineage_of n)
   pub apart : (i j : ℕ) (m n : Node) → slice_get v.nodes i ≡ Some m → slice_get v.nodes j ≡ Some n → place_of m ≡ place_of n → i ≡ j
-  pub roots : length v.nodes < most_nodes → (q h : ℕ) → q ≤ v.present → In h (roots v.rules.hypotheses) → stands (place q h foci.root) v.nodes ≡ true
+  pub roots : length v.nodes < most_nodes → (q h : ℕ) → q ≤ v.present → In h (roots v.rules.hypotheses)
+      → stands (place q h foci.root) v.nodes ≡ true
   pub families : length v.nodes < most_nodes → (i : ℕ) (n : Node) → slice_get v.nodes i ≡ Some n → n.state ≡ Confirmed
-      → (h : ℕ) (f : Focus) → In (h, f) (children v.rules.hypotheses v.rules.tree n.hypothesis n.focus) → stands (place n.phase h f) v.nodes ≡ true
+      → (h : ℕ) (f : Focus) → In (h, f) (children v.rules.hypotheses v.rules.tree n.hypothesis n.focus)
+      → stands (place n.phase h f) v.nodes ≡ true
 
--- each node that waits or is under test is so
+-- this holds of each node that waits or is under test
 abbrev pub AllOpen : (Node → Type 0) → List Node → Type 0
 AllOpen P [] = Unit {0}
 AllOpen P (n ∷ ns) = (is_open n.state ≡ true → P n) × AllOpen P ns

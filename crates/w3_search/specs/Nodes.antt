@@ -3,8 +3,8 @@ use Rattle.std.specs.Prelude.{ℕ, zero, suc, ◌+◌, ◌%◌, ◌^◌, ◌==�
 use Rattle.std.specs.List.{list_any}
 use Rattle.std.specs.Option.{option_map_or}
 use Rattle.pn_types.specs.declared.focus.Focus.{Focus}
-use Rattle.pn_types.specs.declared.focus.CodePart.{CodePart}
-use Rattle.pn_types.specs.declared.focus.CodePart.TheVariants.{All, Module, Procedure}
+use Rattle.resource_tree.specs.SameNodes.{is_same_code}
+pub use Rattle.resource_tree.specs.SameNodes.{is_same_number}
 use Rattle.w3_search.specs.declared.node.Node.{Node}
 use Rattle.w3_search.specs.declared.node.NodeSample.{NodeSample}
 use Rattle.w3_search.specs.declared.node.NodeState.{NodeState}
@@ -34,25 +34,16 @@ is_open state = false
 -- ---- places
 
 abbrev pub place : ℕ → ℕ → Focus → NodePlace
-place phase hypothesis focus = record { phase = phase; hypothesis = hypothesis; code = focus.code; hart = focus.hart; object = focus.object }
+place phase hypothesis focus =
+    record { phase = phase; hypothesis = hypothesis; code = focus.code; hart = focus.hart; object = focus.object }
 
 abbrev pub place_of : Node → NodePlace
 place_of n = place n.phase n.hypothesis n.focus
 
--- two numbers that are one, or none twice
-abbrev pub is_same_number : Option ℕ → Option ℕ → Bool
-is_same_number None None = true
-is_same_number (Some a) (Some b) = a == b
-is_same_number a b = false
-
-abbrev pub is_same_code : CodePart → CodePart → Bool
-is_same_code All All = true
-is_same_code (Module a) (Module b) = a == b
-is_same_code (Procedure a) (Procedure b) = a == b
-is_same_code a b = false
-
 abbrev pub is_same_place : NodePlace → NodePlace → Bool
-is_same_place a b = (a.phase == b.phase) && ((a.hypothesis == b.hypothesis) && (is_same_code a.code b.code && (is_same_number a.hart b.hart && is_same_number a.object b.object)))
+is_same_place a b =
+    (a.phase == b.phase) && ((a.hypothesis == b.hypothesis) && (is_same_code a.code b.code
+    && (is_same_number a.hart b.hart && is_same_number a.object b.object)))
 
 -- a node stands at this place
 abbrev pub stands : NodePlace → List Node → Bool
@@ -62,7 +53,18 @@ stands p ns = list_any (λ n. is_same_place p (place_of n)) ns
 
 -- a node that waits
 abbrev pub new_node : ℕ → Option ℕ → ℕ → Focus → Node
-new_node phase parent hypothesis focus = record { phase = phase; parent = parent; hypothesis = hypothesis; focus = focus; state = Waiting; seen = 0; from = 0; to = 0; value = 0; ticks = 0 }
+new_node phase parent hypothesis focus = record {
+  phase = phase;
+  parent = parent;
+  hypothesis = hypothesis;
+  focus = focus;
+  state = Waiting;
+  seen = 0;
+  from = 0;
+  to = 0;
+  value = 0;
+  ticks = 0;
+}
 
 -- the greatest number of nodes
 abbrev pub most_nodes : ℕ

@@ -14,7 +14,7 @@ use Rattle.w3_search.specs.declared.node.NodeState.{NodeState}
 use Rattle.w3_search.specs.declared.node.NodeState.TheVariants.{Confirmed, Rejected, Waiting}
 use Rattle.w3_search.specs.Nodes.{active_of, changed, finished, in_state, is_active, is_active_at, is_confirmed, numbers_from, sampled, unfinished, with_node}
 
--- what a search goes by: the hypotheses, its window, the phases behind the first, and the tree of the foci
+-- what a search goes by: the hypotheses, its window, the phases after the first, and the tree of the foci
 pub record Rules : Type 0 where
   pub hypotheses : List Hypothesis
   pub decl : SearchDecl
@@ -32,7 +32,11 @@ pub record SearchData : Type 0 where
 
 -- the node with its verdict, where it has as many samples as the window asks for
 abbrev pub judged : List Hypothesis → ℕ → Node → Node
-judged hs window n = record n { state = if n.seen == window then (if holds n.value n.ticks (threshold_of hs n.hypothesis) then Confirmed else Rejected) else n.state }
+judged hs window n = record n {
+  state = if n.seen == window
+      then (if holds n.value n.ticks (threshold_of hs n.hypothesis) then Confirmed else Rejected)
+      else n.state;
+}
 
 -- a node takes a sample where it is under test, and its ticks stay in 64 bits
 abbrev pub may_take : NodeSample → Node → Bool
@@ -60,7 +64,8 @@ with_children phase i (k ∷ ks) ns = with_children phase i ks (with_node phase 
 -- the children of node i, if it is confirmed
 abbrev pub with_family_of : List Hypothesis → Resources → ℕ → Option Node → List Node → List Node
 with_family_of hs tree i None ns = ns
-with_family_of hs tree i (Some n) ns = if is_confirmed n.state then with_children n.phase i (children hs tree n.hypothesis n.focus) ns else ns
+with_family_of hs tree i (Some n) ns =
+    if is_confirmed n.state then with_children n.phase i (children hs tree n.hypothesis n.focus) ns else ns
 
 unfoldable pub with_family : List Hypothesis → Resources → ℕ → List Node → List Node
 with_family hs tree i ns = with_family_of hs tree i (slice_get ns i) ns

@@ -1,2 +1,4 @@
+//! The limits of a search.
+
 /// The most nodes that a search has.
 pub const MAX_NODES: usize = 4096;

@@ -20,7 +20,7 @@ pub enum NodeState {
     Rejected,
     /// It can't be tested.
     Barred(BarCause),
-    /// Its phase or the search ended before its window did, after so many samples.
+    /// Its phase or the search ended before its window did. It had this many samples.
     Unfinished(u32),
 }
 
@@ -127,7 +127,9 @@ impl Node {
     /// Takes a sample, which ends at t, with the verdict that it brings, if it may.
     pub(crate) fn take(&mut self, hypotheses: &Hypotheses, window: u32, t: u64, sample: &NodeSample)
         requires few { is_open self.old.state ≡ true → self.old.seen < window }
-        ensures { self.new ≡ (if may_take sample.now self.old then judged hypotheses.now window (sampled t sample.now self.old) else self.old) }
+        ensures { self.new ≡ (if may_take sample.now self.old
+            then judged hypotheses.now window (sampled t sample.now self.old)
+            else self.old) }
     {
         if self.may_take(sample) {
             self.add_sample(t, sample);

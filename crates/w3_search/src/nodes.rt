@@ -41,10 +41,11 @@ impl Model for Nodes {
 
     ghost view = { λ n. n.list.items };
 
-    ghost invariant = { λ n. IsIndexed n.list.items n.index n.waiting.items n.active.items × HasRoom n.list n.waiting n.active n.next_active };
+    ghost invariant = { λ n. IsIndexed n.list.items n.index n.waiting.items n.active.items
+        × HasRoom n.list n.waiting n.active n.next_active };
 }
 
-// By a call of its own: what drops it need not prove the drops of all its parts.
+// A function of its own, so that what drops it need not prove the drops of all its parts.
 impl Drop for Nodes {
     fn drop(self) {
         let Nodes {
@@ -71,7 +72,7 @@ fn take_place(index: &mut IndexSet<NodePlace>, place: NodePlace) -> bool
     ensures keys { index.new.keys ≡ (if result then index.old.keys ++ place ∷ [] else index.old.keys) }
     ensures room { spare index.old ≤ spare index.new + 1 }
 {
-    index.insert(place).unwrap_or(false)
+    index.insert(place).unwrap()
 }
 
 /// Whether a node may be made at a place.
@@ -129,8 +130,8 @@ impl Nodes {
             return;
         }
         push_if(&mut self.waiting, true, self.list.len() as u32);
-        let _there_is_room = push_node(&mut self.list, phase, parent, hypothesis, focus);
-        let _it_is_new = take_place(&mut self.index, place);
+        push_node(&mut self.list, phase, parent, hypothesis, focus);
+        take_place(&mut self.index, place);
     }
 
     /// Gives nodes their samples, which end at t, and the verdicts that these bring, and lists the nodes that are under

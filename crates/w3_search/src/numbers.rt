@@ -13,17 +13,17 @@ pub(crate) fn push_if(numbers: &mut Vec<u32>, wanted: bool, number: u32)
     ensures capacity { vec_capacity numbers.old ≤ vec_capacity numbers.new }
 {
     if wanted {
-        let _there_is_room = numbers.push(number);
+        numbers.push(number).unwrap();
     }
 }
 
-/// Puts numbers behind others.
+/// Puts numbers after others.
 pub(crate) fn push_all(numbers: &mut Vec<u32>, others: &[u32])
     requires room { vec_len numbers.old + length others.now ≤ vec_capacity numbers.old }
     ensures items { numbers.new.items ≡ numbers.old.items ++ others.now }
     ensures capacity { vec_capacity numbers.old ≤ vec_capacity numbers.new }
 {
-    let _there_is_room = numbers.extend_from_slice(others);
+    numbers.extend_from_slice(others).unwrap();
 }
 
 /// Where a number goes in an ascending list.
@@ -46,13 +46,14 @@ pub(crate) fn put_in(numbers: &mut Vec<u32>, number: u32)
     ensures capacity { vec_capacity numbers.old ≤ vec_capacity numbers.new }
 {
     let place = place_for(numbers, number);
-    let _there_is_room = numbers.insert(place, number);
+    numbers.insert(place, number).unwrap();
 }
 
 /// Where a number stands.
 fn place_of(numbers: &[u32], number: u32) -> Option<usize>
     ensures within { IfSome result (λ place. place < length numbers.now) }
-    ensures place { MatchOption result (numbers.now ≡ without number numbers.now) (λ place. remove numbers.now place ≡ without number numbers.now) }
+    ensures place { MatchOption result (numbers.now ≡ without number numbers.now)
+        (λ place. remove numbers.now place ≡ without number numbers.now) }
 {
     for (place, other) in numbers.iter().enumerate() {
         if *other == number {
@@ -68,7 +69,7 @@ pub(crate) fn take_out(numbers: &mut Vec<u32>, number: u32)
     ensures capacity { vec_capacity numbers.old ≤ vec_capacity numbers.new }
 {
     if let Some(place) = place_of(numbers, number) {
-        let _number = numbers.remove(place);
+        numbers.remove(place);
     }
 }
 

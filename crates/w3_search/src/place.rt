@@ -1,3 +1,5 @@
+//! The place of a node in a search: its phase, hypothesis and focus, as the key of an index.
+
 ghost use Rattle.std.specs.Prelude.{◌≡◌};
 ghost use Rattle.w3_search.specs.Nodes.{place};
 

@@ -32,8 +32,12 @@ impl Model for Search {
 }
 
 impl Search {
-    /// A search by these hypotheses, this declaration and these phases, over the foci of this tree. It keeps copies of them.
+    /// Returns a search by these hypotheses, this declaration and these phases, over the foci of this tree. It keeps copies of them.
     /// It has the roots of the first phase, and takes all its room now: no other call takes memory.
+    ///
+    /// # Errors
+    ///
+    /// `NoMemory` where memory runs out.
     pub fn new(
         alloc: Global,
         hypotheses: &[Hypothesis],
@@ -44,16 +48,17 @@ impl Search {
         requires hypotheses { length hypotheses.now < 2 ^ 32 }
         requires window { 1 ≤ decl.now.window }
         requires phases { length phases.now < 2 ^ 32 }
-        ensures { IfOk result (λ s. s ≡ spec.new_search (record { hypotheses = hypotheses.now; decl = decl.now; phases = phases.now; tree = tree.now })) }
+        ensures { IfOk result (λ s. s ≡ spec.new_search
+            (record { hypotheses = hypotheses.now; decl = decl.now; phases = phases.now; tree = tree.now })) }
     {
         let mut state = State::new(alloc, hypotheses, decl, phases, tree)?;
         state.add_roots();
         Ok(Search { state })
     }
 
-    /// A due work at tick t with these samples. One of a node that isn't under test, or of a number that no node has, is
-    /// passed over, and so is one with which the node's ticks would pass 64 bits. It gives the number of instruments that
-    /// are to be dropped.
+    /// Does the due work of tick `t` with these samples, and returns how many instruments are to be dropped. A sample of a node
+    /// that isn't under test, or of a number that no node has, is passed over, and so is one with which the node's ticks
+    /// would pass 64 bits.
     pub fn on_sample(&mut self, t: u64, samples: &[NodeSample]) -> u32
         ensures state { self.new ≡ spec.search_step t samples.now self.old }
         ensures drops { result ≡ length self.new.drops }
@@ -62,15 +67,15 @@ impl Search {
         self.state.drops().len() as u32
     }
 
-    /// The nodes that the last due work ended while they were under test, whose instruments are to be dropped: those with a
-    /// verdict first, then those that a phase ended, each by number.
+    /// Returns the nodes that the last due work ended while they were under test, whose instruments are to be dropped:
+    /// those with a verdict first, then those that a phase ended, each by number.
     pub fn drops(&self) -> &[u32]
         ensures { result.now ≡ self.now.drops }
     {
         self.state.drops()
     }
 
-    /// The numbers of the nodes that wait, which are of the present phase.
+    /// Returns the numbers of the nodes that wait, which are of the present phase.
     pub fn waiting(&self) -> &[u32]
         ensures waiting { result.now ≡ waiting_of self.now.nodes }
         ensures here { AreHere self.now.present self.now.nodes }
@@ -101,7 +106,7 @@ impl Search {
         self.state.end();
     }
 
-    /// The nodes in the order in which they were made, which are a history of the search whatever was called before.
+    /// Returns the nodes in the order in which they were made, which are a history of the search whatever was called before.
     pub fn nodes(&self) -> &[Node]
         ensures nodes { result.now ≡ self.now.nodes }
         ensures history { IsHistory self.now }

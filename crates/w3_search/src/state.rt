@@ -43,12 +43,17 @@ impl Model for State {
 
     ghost Value = { SearchData };
 
-    ghost view = { λ s. record { rules = record { hypotheses = s.hypotheses; decl = s.decl; phases = s.phases.items; tree = s.tree }; nodes = s.nodes; present = s.present; drops = s.drops.items } };
+    ghost view = { λ s. record {
+      rules = record { hypotheses = s.hypotheses; decl = s.decl; phases = s.phases.items; tree = s.tree };
+      nodes = s.nodes;
+      present = s.present;
+      drops = s.drops.items;
+    } };
 
     ghost invariant = { λ s. IsState s.decl.window s.phases.items s.nodes s.present s.drops };
 }
 
-// By a call of its own: what drops it need not prove the drops of all its parts.
+// A function of its own, so that what drops it need not prove the drops of all its parts.
 impl Drop for State {
     fn drop(self) {
         let State {
@@ -141,7 +146,12 @@ impl State {
         requires hypotheses { length hypotheses.now < 2 ^ 32 }
         requires window { 1 ≤ decl.now.window }
         requires phases { length phases.now < 2 ^ 32 }
-        ensures { IfOk result (λ s. s ≡ record { rules = record { hypotheses = hypotheses.now; decl = decl.now; phases = phases.now; tree = tree.now }; nodes = []; present = 0; drops = [] }) }
+        ensures { IfOk result (λ s. s ≡ record {
+          rules = record { hypotheses = hypotheses.now; decl = decl.now; phases = phases.now; tree = tree.now };
+          nodes = [];
+          present = 0;
+          drops = [];
+        }) }
     {
         Ok(State {
             hypotheses: Hypotheses::new(alloc, hypotheses)?,

@@ -8,7 +8,7 @@ ghost use Rattle.w3_search.specs.History.{AreFew};
 ghost use Rattle.w3_search.specs.Index.{changed_each};
 
 use crate::node::{Node, NodeSample, NodeState};
-use pn_types::{Focus, NoMemory};
+use pn_types::Focus;
 use w3_axes::Hypotheses;
 
 /// Gives a node a sample, which ends at t, and the verdict that it brings, if there is such a node and it takes it.
@@ -70,14 +70,14 @@ pub(crate) fn end_open(nodes: &mut [Node], waiting: &[u32], active: &[u32])
     end_each(nodes, active);
 }
 
-/// Puts a node that waits behind the others.
+/// Puts a node that waits after the others.
 pub(crate) fn push_node(
     list: &mut Vec<Node>,
     phase: u32,
     parent: Option<u32>,
     hypothesis: u32,
     focus: &Focus,
-) -> Result<(), NoMemory>
+)
     requires { vec_len list.old < vec_capacity list.old }
     ensures items { list.new.items ≡ list.old.items ++ new_node phase parent hypothesis focus.now ∷ [] }
     ensures capacity { vec_capacity list.old ≤ vec_capacity list.new }
@@ -97,6 +97,6 @@ pub(crate) fn push_node(
         to: 0,
         value: 0,
         ticks: 0,
-    })?;
-    Ok(())
+    })
+    .unwrap();
 }

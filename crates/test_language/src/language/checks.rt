@@ -18,7 +18,11 @@ fn shipped(alloc: Global) -> Result<Conf, ParseError> {
     )
 }
 
-/// The check, where neither configuration has more than 1,000 items.
+/// Checks a configuration, where neither has more than 1,000 items.
+///
+/// # Errors
+///
+/// The fault of the first faulty item, or out of memory.
 #[tactic(auto, using(mdl_check::proofs::Few::placed_counted))]
 pub fn checked(
     alloc: Global,
@@ -63,6 +67,11 @@ fn print_answer(rt: &impl Print, alloc: Global, conf: &Conf) -> io::Result<()> {
     }
 }
 
+/// Prints the check of the configuration that a text spells.
+///
+/// # Errors
+///
+/// Where the output can't be written, or memory runs out.
 pub fn print_check(rt: &impl Print, alloc: Global, text: &str) -> io::Result<()> {
     match conf_of(alloc, text) {
         Ok(conf) => print_answer(rt, alloc, &conf),
@@ -86,6 +95,11 @@ fn print_prefixes_of(rt: &impl Print, alloc: Global, conf: &Conf) -> io::Result<
     }
 }
 
+/// Prints the prefixes of the configuration that a text spells.
+///
+/// # Errors
+///
+/// Where the output can't be written, or memory runs out.
 pub fn print_prefixes(rt: &impl Print, alloc: Global, text: &str) -> io::Result<()> {
     match conf_of(alloc, text) {
         Ok(conf) => print_prefixes_of(rt, alloc, &conf),

@@ -7,7 +7,11 @@ use mdl_shipped::shipped;
 use std::alloc::Global;
 use std::io;
 
-/// The configuration that a text spells.
+/// Returns the configuration that a text spells.
+///
+/// # Errors
+///
+/// The first fault of the text, or out of memory.
 pub fn conf_of(alloc: Global, text: &str) -> Result<Conf, ParseError> {
     match bytes_of(alloc, text) {
         Ok(bytes) => parse(alloc, &bytes),
@@ -15,6 +19,11 @@ pub fn conf_of(alloc: Global, text: &str) -> Result<Conf, ParseError> {
     }
 }
 
+/// Prints the configuration that a text spells.
+///
+/// # Errors
+///
+/// Where the output can't be written, or memory runs out.
 pub fn print_parsed(rt: &impl Print, alloc: Global, text: &str) -> io::Result<()> {
     match conf_of(alloc, text) {
         Ok(conf) => {
@@ -32,6 +41,11 @@ fn print_canonical(rt: &impl Print, alloc: Global, conf: &Conf) -> io::Result<()
     println!(rt; "{text}")
 }
 
+/// Prints the canonical text of the configuration that a text spells.
+///
+/// # Errors
+///
+/// Where the output can't be written, or memory runs out.
 pub fn print_printed(rt: &impl Print, alloc: Global, text: &str) -> io::Result<()> {
     match conf_of(alloc, text) {
         Ok(conf) => print_canonical(rt, alloc, &conf),
@@ -72,6 +86,11 @@ fn shipped_text(alloc: Global) -> io::Result<Vec<u8>> {
     Ok(print(alloc, &conf)?)
 }
 
+/// Prints whether the shipped configuration is printed as the one that a text spells.
+///
+/// # Errors
+///
+/// Where the output can't be written, or memory runs out.
 pub fn print_shipped(rt: &impl Print, alloc: Global, text: &str) -> io::Result<()> {
     let printed = shipped_text(alloc)?;
     print_spelled(rt, alloc, text, &printed)

@@ -42,6 +42,11 @@ fn print_focus_in(rt: &impl Print, alloc: Global, tree: &Tree, text: &str) -> io
     }
 }
 
+/// Prints the focus of a text in a tree, and what it selects.
+///
+/// # Errors
+///
+/// Where the output can't be written, or memory runs out.
 pub fn print_focus(rt: &impl Print, alloc: Global, rest: &str) -> io::Result<()> {
     let (name, text) = split(rest);
     match tree(alloc, name) {
@@ -79,6 +84,11 @@ fn print_copied(rt: &impl Print, alloc: Global, tree: &Tree, text: &str) -> io::
     print_written_in(rt, alloc, &copy, text)
 }
 
+/// Prints the canonical text of the focus of a text, and the focus of that.
+///
+/// # Errors
+///
+/// Where the output can't be written, or memory runs out.
 pub fn print_written(rt: &impl Print, alloc: Global, rest: &str) -> io::Result<()> {
     let (name, text) = split(rest);
     match tree(alloc, name) {
@@ -99,6 +109,11 @@ fn print_child_in(rt: &impl Print, alloc: Global, tree: &Tree, rest: &str) -> io
     }
 }
 
+/// Prints a child of a focus.
+///
+/// # Errors
+///
+/// Where the output can't be written, or memory runs out.
 pub fn print_child(rt: &impl Print, alloc: Global, rest: &str) -> io::Result<()> {
     let (name, rest) = split(rest);
     match tree(alloc, name) {
@@ -128,7 +143,7 @@ fn is_found(alloc: Global, tree: &Tree, number: u32) -> Result<bool, NoMemory> {
     )
 }
 
-/// How many of so many procedures are found.
+/// How many of `count` procedures are found.
 fn found(alloc: Global, tree: &Tree, count: u32) -> Result<u32, NoMemory> {
     let mut found: u32 = 0;
     for number in 0..count {
@@ -139,6 +154,11 @@ fn found(alloc: Global, tree: &Tree, count: u32) -> Result<u32, NoMemory> {
     Ok(found)
 }
 
+/// Prints how many procedures of a program are found by their paths and among their module's children.
+///
+/// # Errors
+///
+/// Where the output can't be written, or memory runs out.
 pub fn print_names(rt: &impl Print, alloc: Global, rest: &str) -> io::Result<()> {
     let count = rest.parse::<u32>().unwrap_or(0);
     let Some(tree) = named_by_number(alloc, count) else {

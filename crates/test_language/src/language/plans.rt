@@ -143,6 +143,11 @@ fn print_over(
     print_asked(rt, alloc, &asked)
 }
 
+/// Prints the plan of a metric at a focus.
+///
+/// # Errors
+///
+/// Where the output can't be written, or memory runs out.
 pub fn print_plan(rt: &impl Print, alloc: Global, rest: &str) -> io::Result<()> {
     let (metric, object) = split(rest);
     let focus = Focus {

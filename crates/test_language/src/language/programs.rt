@@ -30,7 +30,7 @@ fn object(alloc: Global, name: &[u8], at: u64) -> Result<Symbol, NoMemory> {
     })
 }
 
-/// The tree of a program that isn't large.
+/// Returns the tree of a program that isn't large.
 pub fn tree_of(
     alloc: Global,
     procs: &[Proc],
@@ -78,7 +78,11 @@ fn procedures(alloc: Global, table: &[Named]) -> Result<Vec<Proc>, NoMemory> {
     Ok(procs)
 }
 
-/// The procedure `main` alone.
+/// Returns the procedure `main` alone.
+///
+/// # Errors
+///
+/// `NoMemory` where memory runs out.
 pub fn main_alone(alloc: Global) -> Result<Vec<Proc>, NoMemory> {
     procedures(alloc, &MAIN)
 }
@@ -109,13 +113,13 @@ fn with_procedures(alloc: Global, procs: &[Proc]) -> Option<Tree> {
     with_objects(alloc, procs, &objects)
 }
 
-/// A program of three modules with three objects in 32 harts.
+/// Returns a program of three modules with three objects in 32 harts.
 pub fn three_modules(alloc: Global) -> Option<Tree> {
     let procs = procedures(alloc, &PROCEDURES).ok()?;
     with_procedures(alloc, &procs)
 }
 
-/// A program of one procedure `main` in two harts.
+/// Returns a program of one procedure `main` in two harts.
 pub fn one_procedure(alloc: Global) -> Option<Tree> {
     let procs = main_alone(alloc).ok()?;
     tree_of(alloc, &procs, &[], 2, &[])
@@ -134,7 +138,7 @@ fn numbered(alloc: Global, number: u32) -> Result<Proc, NoMemory> {
     )
 }
 
-/// So many procedures of seven modules.
+/// Procedures of seven modules, `count` of them.
 fn seven_modules(alloc: Global, count: u32) -> Result<Vec<Proc>, NoMemory> {
     let mut procs = Vec::new(alloc);
     for number in 0..count {
@@ -143,7 +147,7 @@ fn seven_modules(alloc: Global, count: u32) -> Result<Vec<Proc>, NoMemory> {
     Ok(procs)
 }
 
-/// A program of so many procedures in one hart.
+/// Returns the resources of a program of `count` procedures in one hart.
 pub fn named_by_number(alloc: Global, count: u32) -> Option<Tree> {
     let procs = seven_modules(alloc, count).ok()?;
     tree_of(alloc, &procs, &[], 1, &[])

@@ -8,10 +8,10 @@ use pn_types::NoMemory;
 use std::alloc::Global;
 use std::io;
 
-/// The most bytes that a text has: those behind are left out.
+/// The most bytes that a text has: those after are left out.
 const MAX_LEN: usize = 65_536;
 
-/// What stands before the first space, and behind it.
+/// Returns what stands before the first space, and after it.
 pub fn split(text: &str) -> (&str, &str) {
     match text.split_once(' ') {
         Some((word, rest)) => (word, rest),
@@ -19,7 +19,11 @@ pub fn split(text: &str) -> (&str, &str) {
     }
 }
 
-/// The bytes that a text stands for.
+/// Returns the bytes that a text stands for.
+///
+/// # Errors
+///
+/// `NoMemory` where memory runs out.
 pub fn bytes_of(alloc: Global, text: &str) -> Result<Vec<u8>, NoMemory>
     ensures { IfOk result (λ bytes. vec_len bytes ≤ MAX_LEN) }
 {
@@ -29,17 +33,27 @@ pub fn bytes_of(alloc: Global, text: &str) -> Result<Vec<u8>, NoMemory>
     Ok(bytes)
 }
 
-/// The text that stands for these bytes.
+/// Returns the text that stands for these bytes.
 pub fn shown(bytes: &[u8]) -> PercentEncode<'_> {
     percent_encode(bytes, CONTROLS)
 }
 
+/// Prints the number that a text spells.
+///
+/// # Errors
+///
+/// Where the output can't be written, or memory runs out.
 pub fn print_number(rt: &impl Print, alloc: Global, rest: &str) -> io::Result<()> {
     let (limit, text) = split(rest);
     let found = number(&bytes_of(alloc, text)?, limit.parse().unwrap_or(0));
     println!(rt; "{found:?}")
 }
 
+/// Prints the lines of a text.
+///
+/// # Errors
+///
+/// Where the output can't be written, or memory runs out.
 pub fn print_lines(rt: &impl Print, alloc: Global, rest: &str) -> io::Result<()> {
     let bytes = bytes_of(alloc, rest)?;
     let mut rest = bytes.as_slice();
@@ -51,6 +65,11 @@ pub fn print_lines(rt: &impl Print, alloc: Global, rest: &str) -> io::Result<()>
     Ok(())
 }
 
+/// Prints the tokens of a text.
+///
+/// # Errors
+///
+/// Where the output can't be written, or memory runs out.
 pub fn print_tokens(rt: &impl Print, alloc: Global, rest: &str) -> io::Result<()> {
     let bytes = bytes_of(alloc, rest)?;
     let mut scanner = Scanner::new(&bytes);

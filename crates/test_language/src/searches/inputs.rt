@@ -113,7 +113,7 @@ fn add(
     Ok(())
 }
 
-/// So many of three hypotheses: two without a parent, of which the second is refined along the machine, and one under the
+/// The first `count` of three hypotheses: two without a parent, of which the second is refined along the machine, and one under the
 /// first.
 fn hypotheses(alloc: Global, count: usize) -> Result<Vec<Hypothesis>, NoMemory>
     ensures { IfOk result (λ all. vec_len all ≤ 3) }
@@ -137,7 +137,7 @@ fn name(alloc: Global, number: u32) -> Result<Text, NoMemory> {
     text(alloc, &number.to_be_bytes())
 }
 
-/// Procedures of so many modules, with so many in each.
+/// Procedures of `modules` modules, with `each` in each.
 fn procs(alloc: Global, modules: u32, each: u32) -> Result<Vec<Proc>, NoMemory>
     requires modules { modules < 1000 }
     requires each { each < 10000 }
@@ -155,7 +155,7 @@ fn procs(alloc: Global, modules: u32, each: u32) -> Result<Vec<Proc>, NoMemory>
     Ok(procs)
 }
 
-/// The tree of so many modules with so many procedures each, and of so many harts.
+/// The tree of `modules` modules with `each` procedures each, and of `harts` harts.
 fn tree(alloc: Global, modules: u32, each: u32, harts: u32) -> Result<Tree, NoMemory>
     requires modules { modules < 1000 }
     requires each { each < 10000 }

@@ -37,7 +37,7 @@ fn bar(search: &mut Search, number: u32) -> bool {
 
 /// A due work at t with these samples, which can be taken at any time.
 fn work(search: &mut Search, t: u64, samples: &[NodeSample]) -> bool {
-    let _to_drop = search.on_sample(t, samples);
+    search.on_sample(t, samples);
     true
 }
 

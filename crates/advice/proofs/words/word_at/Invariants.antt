@@ -2,6 +2,6 @@ use Rattle.std.proofs.Common.{◌≡◌, drop}
 use Rattle.advice.specs.Words.{words}
 use Rattle.advice.proofs.words.word_at.Given as goal
 
--- the words behind those that were passed
+-- the words after those that were passed
 abbrev pub invariant-loop : goal.invariant-loop
 invariant-loop l = l.words ≡ drop l.counter (words l.line)

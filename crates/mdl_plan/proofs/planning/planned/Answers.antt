@@ -14,7 +14,7 @@ use Rattle.mdl_plan.proofs.Counts.{few_pass}
 use Rattle.mdl_plan.proofs.Outcomes.{scene_opens, scene_sites, many_sites, too_many, refused, done}
 use Rattle.mdl_plan.proofs.planning.planned.Goals as goal
 
--- the points behind references
+-- the points after references
 abbrev behind : List (Bor Point) → List Point
 behind refs = map (λ r. r.now) refs
 

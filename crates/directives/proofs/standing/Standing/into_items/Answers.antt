@@ -3,7 +3,8 @@ use Rattle.std.specs.List.{range_with_len}
 use Rattle.std.proofs.lemmas.List.{length-reverse}
 use Rattle.mdl_ast.specs.declared.items.Item.{Item}
 use Rattle.directives.specs.Standing.{taken, left}
-use Rattle.directives.proofs.Slots.{Slots, standing_by_parts, length_left}
+use Rattle.directives.proofs.Slots.{Slots, length_left}
+use Rattle.directives.proofs.AllStanding.{standing_by_parts}
 use Rattle.directives.proofs.Moving.{whole_written}
 use Rattle.directives.proofs.standing.Standing.into_items.Goals as goal
 

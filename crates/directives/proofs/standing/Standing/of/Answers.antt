@@ -7,7 +7,7 @@ use Rattle.mdl_ast.specs.declared.items.Item.{Item}
 use Rattle.directives.specs.Hypotheses.{is_named}
 use Rattle.directives.specs.Standing.{under, is_child, places_where, standing, ArePlaces}
 use Rattle.directives.proofs.Slots.{Slots}
-use Rattle.directives.proofs.Moving.{where_more, length_some, places_at_first, standing_at_first}
+use Rattle.directives.proofs.AtStart.{where_more, length_some, places_at_first, standing_at_first}
 use Rattle.directives.proofs.standing.Standing.of.Goals as goal
 
 pub loop-item-preserved : goal.loop-item-preserved

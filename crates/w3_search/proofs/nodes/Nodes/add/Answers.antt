@@ -17,8 +17,8 @@ push_if-requires c =
     let len : length c.self.inside.waiting.items ≤ length ns = subst (λ (ws : List ℕ). length ws ≤ length ns) (sym i.0.waits) (few_numbers (λ n. is_waiting n.state) 0 ns) in
     record { room = λ _. omega (arith, i.1.for_waiting, (free_parts c.new-place.result ns free).0) }
 
-pub take_place-it_is_new-requires : goal.take_place-it_is_new-requires
-take_place-it_is_new-requires c =
+pub take_place-requires : goal.take_place-requires
+take_place-requires c =
     let ns = c.self.inside.list.items in
     let i = c.self.invariant in
     let free : is_free c.new-place.result ns ≡ true = ap (is_free c.new-place.result) (sym c.deref.ensures.value) ∙ sym c.is_free.ensures ∙ c.if-not-is_free.false in
@@ -35,13 +35,13 @@ invariant_of-self c =
     let parts = free_parts p ns free in
     let few : length ns < most_nodes = parts.0 in
     let absent : list_any (is_same_place p) s.index.keys ≡ false = ap (list_any (is_same_place p)) i.0.places ∙ any_places p ns ∙ parts.1 in
-    let is_new : c.take_place-it_is_new.result ≡ true = c.take_place-it_is_new.ensures.new ∙ ap not absent in
-    let new : c.push_node-there_is_room.new.list.items ≡ ns ++ n ∷ [] = c.push_node-there_is_room.ensures.items in
-    let more : length c.push_node-there_is_room.new.list.items ≡ length ns + 1 = ap (λ (l : List Node). length l) new ∙ length_push ns n in
+    let is_new : c.take_place.result ≡ true = c.take_place.ensures.new ∙ ap not absent in
+    let new : c.push_node.new.list.items ≡ ns ++ n ∷ [] = c.push_node.ensures.items in
+    let more : length c.push_node.new.list.items ≡ length ns + 1 = ap (λ (l : List Node). length l) new ∙ length_push ns n in
     let len : c.len.result ≡ 0 + length ns = omega (arith, c.len.ensures) in (
       record {
         few = omega arith;
-        places = c.take_place-it_is_new.ensures.keys
+        places = c.take_place.ensures.keys
             ∙ ap (λ (b : Bool). cond b (s.index.keys ++ p ∷ []) s.index.keys) is_new
             ∙ ap (λ (ps : List NodePlace). ps ++ p ∷ []) i.0.places
             ∙ ap (λ (q : NodePlace). map place_of ns ++ q ∷ []) c.new-place.ensures
@@ -56,10 +56,10 @@ invariant_of-self c =
             ∙ sym (append-nil (active_of ns))
             ∙ sym (numbers_push (λ n. is_active n.state) 0 ns n)
             ∙ ap active_of (sym new);
-        spare_places = omega (arith, i.0.spare_places, c.take_place-it_is_new.ensures.room);
+        spare_places = omega (arith, i.0.spare_places, c.take_place.ensures.room);
       },
       record {
-        for_nodes = omega (arith, i.1.for_nodes, c.push_node-there_is_room.ensures.capacity);
+        for_nodes = omega (arith, i.1.for_nodes, c.push_node.ensures.capacity);
         for_waiting = omega (arith, i.1.for_waiting, c.push_if.ensures.capacity);
         for_active = i.1.for_active;
         for_others = i.1.for_others;
