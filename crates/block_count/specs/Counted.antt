@@ -40,9 +40,9 @@ passes_of trace s = option_map (λ _. positions_at s.head.at trace % 2 ^ 64) s.c
 abbrev pub most_counters : ℕ
 most_counters = 4094
 
--- There are at most as many counters as slots. The events can happen when they come. Their ticks are a run of the unpatched program,
--- and the patched machine is that program's state behind it. The ticks and stops are those of this run, and a block's count is the
--- number of the run's positions at the block's head, modulo 2^64. A block whose first word can't be moved has none.
+-- There are at most as many counters as slots. The events can happen when they come. Their ticks are a run of the unpatched
+-- program, and the patched machine is that program's state after it. The ticks and stops are those of this run, and a block's count
+-- is the number of the run's positions at the block's head, modulo 2^64. A block whose first word can't be moved has none.
 pub record IsCounted (image : Image) (procs : List Proc) (budget : ℕ) (p : Pace) (r : Counts) : Type 0 where
   pub few : length (counters_of image procs) ≤ most_counters
   pub legal : Legal (block_events image procs budget p) (start_core image p.harts budget)

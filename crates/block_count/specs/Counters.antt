@@ -30,7 +30,7 @@ pub record Counter : Type 0 where
   pub at : ℕ
   pub moved : List MarkedWord
 
--- its mini block stands behind the three words of the base block and the moved words
+-- its mini block stands after the three words of the base block and the moved words
 abbrev pub mini_at : Counter → ℕ
 mini_at c = c.at + 4 * (3 + length c.moved)
 

@@ -14,7 +14,7 @@ use Rattle.machine.specs.Turns.{is_runnable}
 use Rattle.block_count.specs.Counters.{Counter, base_of, mini_at, mini_of, placed_of}
 use Rattle.block_count.specs.CountedBlocks.{counters_of}
 
--- these events, and then those of the state behind them
+-- these events, and then those of the state after them
 abbrev pub and_then : List Event → (Core → List Event) → Core → List Event
 and_then es more c = es ++ more (replay es c)
 

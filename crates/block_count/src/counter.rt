@@ -51,7 +51,7 @@ impl Counter {
         self.at + 4 * (3 + self.words().len() as u64)
     }
 
-    /// The address behind its blocks.
+    /// The address after its blocks.
     pub fn end(&self) -> u64
         ensures { result ≡ end_of self.now }
     {

@@ -74,8 +74,8 @@ fn read(
 ///
 /// # Errors
 ///
-/// `TooManyBlocks` with the number of blocks that can be counted exactly where there are more than slots; `NoMemory` where memory is
-/// wanting.
+/// `TooManyBlocks` with the number of blocks that can be counted exactly where there are more than slots; `NoMemory` where memory
+/// runs out.
 pub fn count(
     alloc: Global,
     image: &Image,

@@ -25,7 +25,7 @@ pub struct Counts {
 pub enum CountFault {
     /// So many blocks have a first word that can be moved, and a hart has not as many slots.
     TooManyBlocks(u32),
-    /// Memory is wanting.
+    /// Out of memory.
     NoMemory,
 }
 

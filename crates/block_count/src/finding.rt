@@ -55,12 +55,12 @@ fn marked_heads(
 }
 
 /// The basic blocks of a program, by ascending address. A word of the text that is an instruction begins one where it is at the
-/// entry or the start of one of these procedures, where a jump or branch of the text leads, or behind a jump, a branch or a word
+/// entry or the start of one of these procedures, where a jump or branch of the text leads, or after a jump, a branch or a word
 /// that is no instruction. The block goes on to the next that begins, or to a word that is no instruction, or to the text's end.
 ///
 /// # Errors
 ///
-/// `NoMemory` where memory is wanting.
+/// `NoMemory` where memory runs out.
 pub fn heads(alloc: Global, image: &Image, procs: &[Proc]) -> Result<Vec<BlockHead>, NoMemory>
     requires { IsImage image.now }
     ensures heads { IfOk result (λ heads. heads.items ≡ heads_of image.now procs.now) }

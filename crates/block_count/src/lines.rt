@@ -128,7 +128,7 @@ fn add_covered(alloc: Global, out: &mut Vec<u8>, counts: &[Option<u64>]) -> Resu
 ///
 /// # Errors
 ///
-/// `NoMemory` where memory is wanting.
+/// `NoMemory` where memory runs out.
 pub fn blocks_text(alloc: Global, heads: &[BlockHead], counts: &Counts) -> Result<Vec<u8>, NoMemory>
     requires { length counts.now.ticks < 2 ^ 32 }
     ensures { IfOk result (λ text. text.items ≡ blocks_text heads.now counts.now) }

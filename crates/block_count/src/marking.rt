@@ -25,7 +25,7 @@ fn mark(marks: &mut [bool], at: u64, address: u64)
     }
 }
 
-/// Marks where the word at an address leads, and the word behind it if a block ends with it.
+/// Marks where the word at an address leads, and the word after it if a block ends with it.
 fn mark_opened(marks: &mut [bool], at: u64, address: u64, word: u32)
     requires text { at + 4 * length marks.old < 2 ^ 64 }
     requires address { address + 4 < 2 ^ 64 }

@@ -29,7 +29,7 @@ fn ready_harts(alloc: Global, machine: &Machine, harts: u32) -> Result<Ready, No
     Ok(ready)
 }
 
-/// Turns of a hart, at most so many, behind which it is ready if it is runnable. No other hart can have stopped.
+/// Turns of a hart, at most so many, after which it is ready if it is runnable. No other hart can have stopped.
 fn take_quantum(machine: &mut Machine, ready: &mut Ready, harts: u32, hart: HartNo, turns: u32)
     requires hart { hart < length machine.old.core.harts }
     requires harts { harts ≡ length machine.old.core.harts }

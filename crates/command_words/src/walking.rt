@@ -80,7 +80,7 @@ impl<'a> Walk<'a> {
         }
     }
 
-    /// The walk behind one word more.
+    /// The walk after one word more.
     fn step(&self, form: &Form, word: &'a str) -> Option<Walk<'a>>
         ensures { option_map walk_seen result ≡ step (form_seen form.now) (walk_seen self.now) word.entry.now }
     {
@@ -119,7 +119,7 @@ impl<'a> Walk<'a> {
     }
 }
 
-/// The values that the words of a command give, those behind the command's own.
+/// The values that the words of a command give, those after the command's own.
 pub fn values_of<'a>(form: &Form, words: &'a [String]) -> Option<Values<'a>>
     ensures { option_map values_seen result ≡ values_of (form_seen form.now) (map string_bytes words.entry.now) }
 {

@@ -42,7 +42,7 @@ abbrev pub CountedFor : {A F : Type 0} → (F → List ℕ → Holding) → (F �
 CountedFor holds faults old new (Ok a) = IsCalm faults old new
 CountedFor holds faults old new (Err fault) = Counted holds faults old new fault
 
--- the counts of faults after a call; where memory is wanting none rose
+-- the counts of faults after a call; where memory runs out none rose
 abbrev pub CountedAs : {A F : Type 0} → (F → List ℕ → Holding) → (F → List ℕ → ℕ) → F → F → Result A Refusal → Type 0
 CountedAs holds faults old new (Ok a) = IsCalm faults old new
 CountedAs holds faults old new (Err refusal.NoMemory) = IsCalm faults old new

@@ -86,8 +86,8 @@ pub fn serve<F: Files, K: Sink, L: Sink>(
     give(alloc, answered, out, log)
 }
 
-/// All that the program does: it takes the words of the command line without the program's name, reads the files that
-/// they name, and writes to the output and the log. It answers the program's status:
+/// All that the program does: it takes the words of the command line without the program's name, reads the files that they name,
+/// and writes to the output and the log. It returns the program's status:
 ///
 /// - 0: the output gained what was asked for: the report of the program's whole run in the order of a seed, of one that workers share
 ///   or of one along the quanta of a log, the plan of a metric, the program's points, the ELF file of an assembly text, a log as it is

@@ -1,4 +1,4 @@
--- Agendas behind one another, rows that are kept, and ranges.
+-- Agendas after one another, rows that are kept, and ranges.
 use Rattle.std.proofs.Common.{◌≡◌, List, [], ◌∷◌, ◌++◌, Some, None, refl, sym, ap, ◌∙◌, subst, ⊎_elim, inl, inr}
 use Rattle.std.specs.Prelude.{map, filter, find, Bool, true, false, cond, ◌⊎◌}
 use Rattle.std.proofs.lemmas.Bool.{true≢false, cond-true, cond-false}

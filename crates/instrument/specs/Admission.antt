@@ -48,7 +48,7 @@ abbrev pub rooms_with : Option Block → List Room → List Room
 rooms_with None rooms = rooms
 rooms_with (Some b) rooms = rooms ++ base_room b ∷ []
 
--- the mini block, behind the base block
+-- the mini block, after the base block
 abbrev pub with_mini_at : Option ℕ → ℕ → ℕ → List MarkedWord → Option Block → Book → Result Book Refused
 with_mini_at None owner point body base book = Err (NoRoom (length body + 1))
 with_mini_at (Some at) owner point body base book = Ok (with_blocks owner (record { base = base; mini = a_mini point at body }) book)

@@ -1,4 +1,4 @@
--- Two instruments at one point come and go, and a third comes behind them: what the book then is.
+-- Two instruments at one point come and go, and a third comes after them: what the book then is.
 use Rattle.std.specs.Prelude.{◌≡◌, ℕ, true, false, Some, None, [], ◌∷◌}
 use Rattle.tramp_spec.specs.Marks.{tool}
 use Rattle.tramp_spec.specs.declared.block.Block.{Block}

@@ -17,7 +17,7 @@ use Rattle.instrument.specs.declared.entry.Entry.TheVariants.{WriteBase, WriteMi
 use Rattle.instrument.specs.declared.number.State.TheVariants.{Placing, Armed}
 use Rattle.instrument.specs.declared.room.Room.{Room}
 
--- ---- what is so behind all acts
+-- ---- what is so after all acts
 
 -- no two rooms share a word, and each has words
 abbrev pub AreApart : List Room → Type 0
@@ -43,7 +43,7 @@ IsNoPlacing s (Free p) = Unit {0}
 abbrev pub IsPlaced : Placements → Instrument → Type 0
 IsPlaced p i = (s : PlacedSite) → In s i.placed.sites → (e : Entry) → In e p.book.agenda → IsNoPlacing s e
 
--- ---- laws: behind all acts each of which could be done when its turn came
+-- ---- laws: after all acts each of which could be done when its turn came
 
 abbrev pub Always : (Image → ℕ → ℕ → ℕ → List Act → Type 0) → Type 0
 Always Law = (image : Image) (harts budget limit : ℕ) (acts : List Act) → IsProgram image → AllCanDo acts (first_scene image harts budget limit) → Law image harts budget limit acts

@@ -3,7 +3,7 @@ use Rattle.std.specs.Prelude.{ℕ, ◌<◌, List, [], ◌∷◌}
 use Rattle.machine.specs.Cores.{In}
 use Rattle.instrument.specs.declared.instrument.Instrument.{Instrument}
 
--- each instrument has a lower number than those behind it
+-- each instrument has a lower number than those after it
 abbrev pub AreInOrder : List Instrument → Type 0
 AreInOrder [] = Unit {0}
 AreInOrder (i ∷ is) = ((j : Instrument) → In j is → i.no < j.no) × AreInOrder is

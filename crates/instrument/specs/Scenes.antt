@@ -40,7 +40,7 @@ pub data Act : Type 0 where
   -- the first Free that no unlinking of its point stands before is done
   Sweeps : Act
 
--- the events that were done, and the scene behind them
+-- the events that were done, and the scene after them
 pub record Told : Type 0 where
   pub events : List Event
   pub scene : Scene

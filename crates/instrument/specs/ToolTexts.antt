@@ -40,7 +40,7 @@ pub record IsToolText (program : Words) (l : LedgerData) (words : Rooms) : Type 
   pub rooms : AreRoomsOf program words l.book.rooms
   pub entries : for_drops l.book.rooms ≤ l.spare_entries
 
--- the book has more behind what it had
+-- the book has more after what it had
 pub record IsGrown (before after : Book) : Type 0 where
   pub more_rooms : List Room
   pub more_entries : List Entry

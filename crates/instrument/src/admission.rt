@@ -27,7 +27,7 @@ pub fn is_over(limit: Option<u64>, cost: u64) -> bool
     }
 }
 
-/// Places the sites of a plan whose slots were found, from `first` on, with the memory of its kit, and answers the instrument.
+/// Places the sites of a plan whose slots were found, from `first` on, with the memory of its kit, and returns the instrument.
 pub fn place(
     text: &mut ToolText,
     number: InstrumentNo,

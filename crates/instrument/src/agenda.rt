@@ -45,7 +45,7 @@ impl Agenda {
     ///
     /// # Errors
     ///
-    /// `NoMemory` where memory is wanting. Then nothing has changed.
+    /// `NoMemory` where memory runs out. Then nothing has changed.
     pub fn reserve(&mut self, count: usize) -> Result<(), NoMemory>
         ensures ok { OnOk result (self.new ≡ lists.with_room count self.old) }
         ensures err { OnErr result (self.new ≡ self.old) }
@@ -88,7 +88,7 @@ impl Agenda {
         self.room += 1;
         Some(entry)
     }
-    /// Takes the first Free before which no unlinking of its point stands, and answers its point.
+    /// Takes the first Free before which no unlinking of its point stands, and returns its point.
     pub fn take_free(&mut self) -> Option<u64>
         ensures point { result ≡ point_in (first_free [] self.old.entries) }
         ensures taken { self.new ≡ lists.without_free self.old }

@@ -32,7 +32,7 @@ impl Buffers {
     ///
     /// # Errors
     ///
-    /// `NoMemory` where memory is wanting.
+    /// `NoMemory` where memory runs out.
     pub fn new(alloc: Global, words: u32) -> Result<Buffers, NoMemory>
         ensures { IfOk result (λ buffers. buffers ≡ words) }
     {

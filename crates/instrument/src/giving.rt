@@ -8,7 +8,7 @@ ghost use Rattle.instrument.specs.Spaces.{AreRoomsOf};
 use crate::room_list::Rooms;
 use tool_space::Space;
 
-/// Gives back the rooms behind so many.
+/// Gives back the rooms after so many.
 pub fn give_behind(words: &mut Space, rooms: &mut Rooms, count: usize)
     requires tied { (program : Words) × AreRoomsOf program words.old (left rooms.old.places) }
     requires within { count ≤ length (left rooms.old.places) }

@@ -66,7 +66,7 @@ impl Kit {
     ///
     /// # Errors
     ///
-    /// `NoMemory` where memory is wanting.
+    /// `NoMemory` where memory runs out.
     pub fn new(alloc: Global, plan: &Plan) -> Result<Kit, NoMemory>
         requires { counts.predicted plan.now < 2 ^ 32 }
         ensures { IfOk result (λ kit. kit ≡ needs.need_of plan.now) }

@@ -25,7 +25,7 @@ pub fn sites_in(kits: &[Kit]) -> Option<usize>
 ///
 /// # Errors
 ///
-/// `NoMemory` where memory is wanting.
+/// `NoMemory` where memory runs out.
 pub fn kits_for(alloc: Global, plans: &[Plan]) -> Result<Vec<Kit>, NoMemory>
     requires { (p : Plan) → In p plans.now → predicted p < 2 ^ 32 }
     ensures { IfOk result (λ kits. kits.items ≡ map need_of plans.now) }

@@ -48,7 +48,7 @@ impl Ledger {
     ///
     /// # Errors
     ///
-    /// `NoMemory` where memory is wanting.
+    /// `NoMemory` where memory runs out.
     pub fn new(alloc: Global) -> Result<Ledger, NoMemory>
         ensures { IfOk result (λ ledger. ledger ≡ ledgers.no_ledger) }
     {
@@ -62,7 +62,7 @@ impl Ledger {
     ///
     /// # Errors
     ///
-    /// `NoMemory` where memory is wanting. Then the book has not changed, and no memory is lost.
+    /// `NoMemory` where memory runs out. Then the book has not changed, and no memory is lost.
     pub fn reserve(&mut self, rooms: usize, entries: usize) -> Result<(), NoMemory>
         ensures ok { OnOk result (self.new ≡ ledgers.with_spare rooms entries self.old) }
         ensures book { self.new.book ≡ self.old.book }
@@ -151,7 +151,7 @@ impl Ledger {
         self.rooms.take_unlinked(point)
     }
 
-    /// Takes out the first Free before which no unlinking of its point stands, and answers its point.
+    /// Takes out the first Free before which no unlinking of its point stands, and returns its point.
     pub fn take_free(&mut self) -> Option<u64>
         ensures point { result ≡ point_in (books.first_free [] self.old.book.agenda) }
         ensures rooms { self.new.book.rooms ≡ self.old.book.rooms }
@@ -185,7 +185,7 @@ impl Ledger {
         drop_sites(&mut self.rooms, &mut self.agenda, owner);
     }
 
-    /// Takes a room behind the others.
+    /// Takes a room after the others.
     fn take_room(&mut self, room: Room)
         requires { 0 < self.old.spare_rooms }
         ensures rooms { self.new.book.rooms ≡ self.old.book.rooms ++ room ∷ [] }

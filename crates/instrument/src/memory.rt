@@ -16,7 +16,7 @@ use std::alloc::{AllocError, Global};
 ///
 /// # Errors
 ///
-/// `NoMemory` where memory or numbers are wanting.
+/// `NoMemory` where memory or numbers run out.
 pub fn take_memory(
     text: &mut ToolText,
     roster: &mut Roster,
@@ -48,7 +48,7 @@ fn sites_with(kits: &[Kit], more: usize) -> Option<usize>
 ///
 /// # Errors
 ///
-/// `NoMemory` where memory or numbers are wanting.
+/// `NoMemory` where memory or numbers run out.
 fn new_kit(
     alloc: Global,
     text: &mut ToolText,
@@ -77,7 +77,7 @@ fn new_kit(
 ///
 /// # Errors
 ///
-/// `NoMemory` where memory or numbers are wanting for a new one.
+/// `NoMemory` where memory or numbers run out for a new one.
 pub fn kit_for(
     alloc: Global,
     text: &mut ToolText,

@@ -43,6 +43,6 @@ pub enum Refused {
     NoRoom(u32),
     /// The program's word at this address can't be moved.
     Unmovable(u64),
-    /// Memory is wanting.
+    /// Out of memory.
     NoMemory,
 }

@@ -62,7 +62,7 @@ impl Placer {
     ///
     /// # Errors
     ///
-    /// `NoMemory` where memory is wanting.
+    /// `NoMemory` where memory runs out.
     pub fn new(alloc: Global, image: &Image, instruments: u32) -> Result<Placer, NoMemory>
         requires image { IsImage image.now }
         requires some { 0 < instruments }
@@ -148,7 +148,7 @@ impl Placer {
         }
     }
 
-    /// Takes out the first Free before which no unlinking of its point stands, and answers its point: None exactly where there is
+    /// Takes out the first Free before which no unlinking of its point stands, and returns its point: None exactly where there is
     /// no such Free.
     pub fn next_free(&mut self) -> Option<u64>
         ensures point { result ≡ placements.free_front self.old.placements }
@@ -186,7 +186,7 @@ impl Placer {
     ///
     /// # Errors
     ///
-    /// `NoMemory` where memory or numbers are wanting. Then no plan is ready.
+    /// `NoMemory` where memory or numbers run out. Then no plan is ready.
     pub fn reserve(&mut self, alloc: Global, plans: &[Plan]) -> Result<(), NoMemory>
         requires words { (p : Plan) → In p plans.now → table.predicted p < 2 ^ 32 }
         ensures placements { self.new.placements ≡ self.old.placements }
@@ -215,8 +215,8 @@ impl Placer {
     ///
     /// # Errors
     ///
-    /// Why it is refused: it costs too much, there are as many instruments as are allowed, or slots or words of the tool text
-    /// are wanting, or a word can't be moved; or `NoMemory`, where the plan isn't ready and memory or numbers are wanting. Then no
+    /// Why it is refused: it costs too much, there are as many instruments as are allowed, or slots or words of the tool text are
+    /// wanting, or a word can't be moved; or `NoMemory`, where the plan isn't ready and memory or numbers run out. Then no
     /// placement has changed.
     pub fn admit(
         &mut self,
@@ -260,7 +260,7 @@ impl Placer {
             return Err(Refused::NoSlot(slots));
         };
         let number = InstrumentNo { n: self.count };
-        // The slots are taken behind the sites: where a site is refused, none are to be given back.
+        // The slots are taken after the sites: where a site is refused, none are to be given back.
         let instrument = place(&mut self.text, number, first, plan, kit)?;
         self.roster.add(instrument);
         self.count += 1;

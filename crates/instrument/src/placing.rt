@@ -19,7 +19,7 @@ use prim_code::words_of;
 use tool_space::Space;
 use tramp_spec::{Block, MarkedWord};
 
-/// Takes the lowest room of so many words, and answers its address: None where there is none.
+/// Takes the lowest room of so many words, and returns its address: None where there is none.
 fn take_room(words: &mut Space, len: u32) -> Option<u64>
     requires some { 0 < len }
     requires reserved { 0 < words.old.takes }
@@ -34,7 +34,7 @@ fn take_room(words: &mut Space, len: u32) -> Option<u64>
     }
 }
 
-/// Places the mini block of a site behind its base block, if one is placed with it. `words` are those beside the base block.
+/// Places the mini block of a site after its base block, if one is placed with it. `words` are those beside the base block.
 fn place_mini(
     ledger: &mut Ledger,
     words: &mut Space,

@@ -48,7 +48,7 @@ impl Program {
     ///
     /// # Errors
     ///
-    /// `NoMemory` where memory is wanting.
+    /// `NoMemory` where memory runs out.
     pub fn new(alloc: Global, image: &Image) -> Result<Program, NoMemory>
         requires { IsImage image.now }
         ensures { IfOk result (λ program. program ≡ program_of image.now) }
@@ -72,7 +72,7 @@ impl Program {
         self.words.get(place).copied()
     }
 
-    /// The first address of the tool text behind it, a multiple of 4,096.
+    /// The first address of the tool text after it, a multiple of 4,096.
     pub fn tool_at(&self) -> u64
         ensures at { result ≡ tool_at self.now }
         ensures low { result ≤ SEGMENTS_TO + 4095 }

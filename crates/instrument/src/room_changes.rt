@@ -68,7 +68,7 @@ impl Rooms {
         None
     }
 
-    /// Takes the first room of a point out whose block was unlinked, and answers it.
+    /// Takes the first room of a point out whose block was unlinked, and returns it.
     pub fn take_unlinked(&mut self, point: u64) -> Option<Room>
         ensures none { IfNone result (AllStay point (left self.old.places)) }
         ensures same { IfNone result (self.new ≡ self.old) }

@@ -41,7 +41,7 @@ impl RoomIndex {
     ///
     /// # Errors
     ///
-    /// `NoMemory` where memory is wanting.
+    /// `NoMemory` where memory runs out.
     pub fn new(alloc: Global) -> Result<RoomIndex, NoMemory>
         ensures { IfOk result (λ index. index ≡ no_entries) }
     {
@@ -56,7 +56,7 @@ impl RoomIndex {
     ///
     /// # Errors
     ///
-    /// `NoMemory` where memory is wanting. Then nothing has changed.
+    /// `NoMemory` where memory runs out. Then nothing has changed.
     pub fn reserve(&mut self, entries: usize) -> Result<(), NoMemory>
         ensures ok { OnOk result (self.new ≡ record self.old { room = max entries self.old.room }) }
         ensures err { OnErr result (self.new ≡ self.old) }
@@ -66,7 +66,7 @@ impl RoomIndex {
         self.points.reserve(entries)
     }
 
-    /// The entry of a place more, behind the others. A place without a room is in no bucket.
+    /// The entry of a place more, after the others. A place without a room is in no bucket.
     pub fn push(&mut self, place: Option<Room>)
         requires { 0 < self.old.room }
         ensures { self.new ≡ record {

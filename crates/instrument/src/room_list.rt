@@ -51,7 +51,7 @@ impl Rooms {
     ///
     /// # Errors
     ///
-    /// `NoMemory` where memory is wanting.
+    /// `NoMemory` where memory runs out.
     pub fn new(alloc: Global) -> Result<Rooms, NoMemory>
         ensures { IfOk result (λ rooms. rooms ≡ no_rooms) }
     {
@@ -114,7 +114,7 @@ impl Rooms {
     ///
     /// # Errors
     ///
-    /// `NoMemory` where memory is wanting. Then no more is reserved.
+    /// `NoMemory` where memory runs out. Then no more is reserved.
     pub fn reserve(&mut self, rooms: usize) -> Result<(), NoMemory>
         ensures rooms { left self.new.places ≡ left self.old.places }
         ensures ok { OnOk result (self.new.spare ≡ max self.old.spare rooms) }
@@ -131,7 +131,7 @@ impl Rooms {
         Ok(())
     }
 
-    /// Takes a room behind the others.
+    /// Takes a room after the others.
     pub fn push(&mut self, room: Room)
         requires { 0 < self.old.spare }
         ensures places { self.new ≡ record { places = self.old.places ++ Some room ∷ []; spare = self.old.spare - 1 } }

@@ -61,7 +61,7 @@ impl Roster {
     ///
     /// # Errors
     ///
-    /// `NoMemory` where memory is wanting.
+    /// `NoMemory` where memory runs out.
     pub fn new(alloc: Global) -> Result<Roster, NoMemory>
         ensures { IfOk result (λ roster. roster ≡ rosters.no_roster) }
     {
@@ -121,7 +121,7 @@ impl Roster {
     ///
     /// # Errors
     ///
-    /// `NoMemory` where memory is wanting.
+    /// `NoMemory` where memory runs out.
     pub fn reserve(&mut self, count: usize) -> Result<(), NoMemory>
         ensures instruments { self.new.instruments ≡ self.old.instruments }
         ensures room { OnOk result (count ≤ self.new.room) }
@@ -155,7 +155,7 @@ impl Roster {
         Some(slot as u32)
     }
 
-    /// Puts an instrument behind the others, which has a number above theirs and the lowest slots that are free.
+    /// Puts an instrument after the others, which has a number above theirs and the lowest slots that are free.
     pub fn add(&mut self, instrument: Instrument)
         requires room { 0 < self.old.room }
         requires takes { 0 < self.old.takes }

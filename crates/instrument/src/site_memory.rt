@@ -59,7 +59,7 @@ impl SiteMemory {
     ///
     /// # Errors
     ///
-    /// `NoMemory` where memory is wanting.
+    /// `NoMemory` where memory runs out.
     pub fn new(alloc: Global, sites: &[Site]) -> Result<SiteMemory, NoMemory>
         requires { (s : Site) → In s sites.now → counts.site_words s < 2 ^ 32 }
         ensures { IfOk result (λ memory. memory ≡ map counts.site_words sites.now) }

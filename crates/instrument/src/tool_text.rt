@@ -30,7 +30,7 @@ use std::collections::VecDeque;
 use std::marker::Model;
 use tool_space::Space;
 
-/// The tool text behind a program: the rooms that were taken there, which words are free beside them, and the agenda.
+/// The tool text after a program: the rooms that were taken there, which words are free beside them, and the agenda.
 pub struct ToolText {
     program: Program,
     ledger: Ledger,
@@ -64,7 +64,7 @@ impl ToolText {
     ///
     /// # Errors
     ///
-    /// `NoMemory` where memory is wanting.
+    /// `NoMemory` where memory runs out.
     pub fn new(alloc: Global, image: &Image) -> Result<ToolText, NoMemory>
         requires { IsImage image.now }
         ensures { IfOk result (λ text. text ≡ texts.no_blocks image.now) }
@@ -106,7 +106,7 @@ impl ToolText {
         self.ledger.hand_out()
     }
 
-    /// Takes out the first Free before which no unlinking of its point stands, and answers its point.
+    /// Takes out the first Free before which no unlinking of its point stands, and returns its point.
     pub fn take_free(&mut self) -> Option<u64>
         ensures point { result ≡ point_in (books.first_free [] self.old.book.agenda) }
         ensures program { self.new.program ≡ self.old.program }
@@ -131,7 +131,7 @@ impl ToolText {
         self.ledger.put_back(point);
     }
 
-    /// Gives back the first room of a point whose block was unlinked, and answers it.
+    /// Gives back the first room of a point whose block was unlinked, and returns it.
     pub fn take_unlinked(&mut self, point: u64) -> Option<Room>
         ensures none { IfNone result (AllStay point self.old.book.rooms) }
         ensures same { IfNone result (self.new ≡ self.old) }
@@ -162,7 +162,7 @@ impl ToolText {
     ///
     /// # Errors
     ///
-    /// `NoMemory` where memory is wanting.
+    /// `NoMemory` where memory runs out.
     pub fn reserve(&mut self, sites: usize) -> Result<(), NoMemory>
         ensures program { self.new.program ≡ self.old.program }
         ensures book { self.new.book ≡ self.old.book }
@@ -261,7 +261,7 @@ impl ToolText {
         self.ledger.truncate(&mut self.words, rooms, entries);
     }
 
-    /// Places the sites of an instrument, for which memory was reserved, and answers them. `memory` is their own.
+    /// Places the sites of an instrument, for which memory was reserved, and returns them. `memory` is their own.
     ///
     /// # Errors
     ///

@@ -73,7 +73,7 @@ let_in : (i : Placed) (xs ys : List Event) → AllLet i (xs ++ events.Arm i ∷ 
 let_in i [] ys a = a.0
 let_in i (x ∷ xs) ys a = let_in i xs ys a.1
 
--- two partings of a list at the arming, behind which it isn't armed again
+-- two partings of a list at the arming, after which it isn't armed again
 record Same (before since eb es : List Event) : Type 0 where
   fronts : before ≡ eb
   backs : since ≡ es

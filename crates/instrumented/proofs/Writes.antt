@@ -1,4 +1,4 @@
--- How many blocks an agenda is to write, behind each call.
+-- How many blocks an agenda is to write, after each call.
 use Rattle.std.proofs.Common.{◌≡◌, ℕ, suc, ◌+◌, ◌*◌, ◌≤◌, List, [], ◌∷◌, ◌++◌, length, Option, Some, None, Ok, Err, refl, sym, ap, ◌∙◌, arith}
 use Rattle.std.specs.Prelude.{map, filter, find, Bool, true, false, cond, Result, nat_le}
 use Rattle.pn_types.specs.declared.plan.Plan.{Plan}

@@ -32,7 +32,7 @@ scene_of m = scene_with [] m
 abbrev pub in_scene : Scene → Instrumented
 in_scene s = record { core = s.core; placer = s.placer }
 
--- The machine and its instruments behind an act.
+-- The machine and its instruments after an act.
 unfoldable pub done : Act → Instrumented → Instrumented
 done a m = in_scene (does a (scene_of m)).scene
 

@@ -27,7 +27,7 @@ pub record Opening : Type 0 where
 abbrev pub scene_at : Opening → List Act → Scene
 scene_at o acts = scene_after acts (first_scene o.image o.harts o.budget o.limit)
 
--- the program's own run behind these acts, and the time
+-- the program's own run after these acts, and the time
 abbrev pub owns_at : Opening → List Act → List ℕ
 owns_at o acts = owns (events_of acts (first_scene o.image o.harts o.budget o.limit)) (start_core o.image o.harts o.budget)
 

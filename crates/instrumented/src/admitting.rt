@@ -34,7 +34,7 @@ impl InstrumentedMachine {
     ///
     /// # Errors
     ///
-    /// `NoMemory` where memory is wanting. Then the plans that were ready are so still, or none is.
+    /// `NoMemory` where memory runs out. Then the plans that were ready are so still, or none is.
     pub fn reserve(&mut self, alloc: Global, plans: &[Plan]) -> Result<(), NoMemory>
         requires words { (p : Plan) → In p plans.now → table.predicted p < 2 ^ 32 }
         ensures state { self.new.state ≡ self.old.state }

@@ -28,7 +28,7 @@ fn sum_of(readings: &[u64], first: u32, count: u32) -> u64
 }
 
 impl InstrumentedMachine {
-    /// Arms an instrument that is being placed where all its sites are linked, and answers whether they are. No hart is inside a
+    /// Arms an instrument that is being placed where all its sites are linked, and returns whether they are. No hart is inside a
     /// trampoline. It takes no memory.
     pub fn arm(&mut self, number: InstrumentNo) -> bool
         requires quiet { IsQuiet self.old.state.core }

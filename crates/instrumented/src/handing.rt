@@ -76,7 +76,7 @@ impl InstrumentedMachine {
         }
     }
 
-    /// Does the first Free before which no unlinking of its point stands, and answers whether there is one. Where there is none
+    /// Does the first Free before which no unlinking of its point stands, and returns whether there is one. Where there is none
     /// nothing changes. No hart is inside a trampoline. It takes no memory.
     pub fn sweep(&mut self) -> bool
         requires { IsQuiet self.old.state.core }

@@ -50,7 +50,7 @@ impl InstrumentedMachine {
     ///
     /// # Errors
     ///
-    /// `NoMemory` where memory is wanting.
+    /// `NoMemory` where memory runs out.
     pub fn new(
         alloc: Global,
         image: &Image,

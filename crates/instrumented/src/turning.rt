@@ -24,7 +24,7 @@ impl InstrumentedMachine {
         self.machine.take_turns(hart, most)
     }
 
-    /// Each hart that is inside a trampoline, by number, takes turns until it is outside or stopped. It answers how many turns
+    /// Each hart that is inside a trampoline, by number, takes turns until it is outside or stopped. It returns how many turns
     /// these were, and takes no memory. Then no hart is inside.
     pub fn take_settling(&mut self) -> Taken
         ensures settled { self.new ≡ record self.old { state = taken (settling self.old.state.core) self.old.state } }

@@ -51,7 +51,7 @@ pub record IsKept (inputs : Inputs) (first : List Quantum) (words : List ℕ) (v
 abbrev pub IsRuled : Inputs → List Quantum → State Quantum View → Type 0
 IsRuled inputs first s = IsKept inputs first s.words s.views
 
--- the view at the start: an empty book, which begins behind the first quanta
+-- the view at the start: an empty book, which begins after the first quanta
 abbrev pub opening_view : List Quantum → View
 opening_view first = keeping (a_book (length first) [] 0)
 

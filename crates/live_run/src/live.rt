@@ -22,11 +22,11 @@ use std::thread;
 use std::thread::Threads;
 
 /// Lets a team of workers share a session that just began, each in a thread, or one after another where no thread can be made. It
-/// answers the session behind all its quanta, which isn't closed.
+/// returns the session after all its quanta, which isn't closed.
 ///
 /// # Errors
 ///
-/// `NoMemory` where memory is wanting, also to one worker alone.
+/// `NoMemory` where memory runs out, also for one worker alone.
 pub fn run_live<R: Threads + Wait + Sync, G: Gate + Sync>(
     rt: &R,
     alloc: Global,
@@ -51,7 +51,7 @@ pub fn run_live<R: Threads + Wait + Sync, G: Gate + Sync>(
 ///
 /// # Errors
 ///
-/// `NoMemory` where memory is wanting, also to one worker alone.
+/// `NoMemory` where memory runs out, also for one worker alone.
 fn run_named<I: RunName + Send + Sync, R: Threads + Wait + Sync, G: Gate + Sync>(
     rt: &R,
     alloc: Global,
@@ -78,11 +78,11 @@ fn run_named<I: RunName + Send + Sync, R: Threads + Wait + Sync, G: Gate + Sync>
     Ok(session)
 }
 
-/// The work of all workers. It answers their seats.
+/// The work of all workers. It returns their seats.
 ///
 /// # Errors
 ///
-/// `NoMemory` where memory is wanting, also to one worker alone.
+/// `NoMemory` where memory runs out, also for one worker alone.
 fn serve_all<I: RunName + Send + Sync, R: Threads + Wait + Sync, G: Gate + Sync>(
     rt: &R,
     alloc: Global,
@@ -113,7 +113,7 @@ fn serve_all<I: RunName + Send + Sync, R: Threads + Wait + Sync, G: Gate + Sync>
 ///
 /// # Errors
 ///
-/// `NoMemory` where memory is wanting, or was to a worker.
+/// `NoMemory` where memory runs out, or did for a worker.
 fn all_seats<I: RunName>(
     alloc: Global,
     results: Vec<Result<Seat<I>, NoMemory>>,

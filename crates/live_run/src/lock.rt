@@ -52,12 +52,12 @@ impl<I: RunName> LockedSession<I> {
         &self.session
     }
 
-    /// A quantum of the hart, at most so many turns, for the seat's worker. It answers the receipt, which the seat keeps behind its
+    /// A quantum of the hart, at most so many turns, for the seat's worker. It returns the receipt, which the seat keeps after its
     /// others, and none exactly where the hart can't take a quantum, which the seat then notes.
     ///
     /// # Errors
     ///
-    /// `NoMemory` where memory is wanting. Then nothing has changed.
+    /// `NoMemory` where memory runs out. Then nothing has changed.
     pub fn quantum(
         &mut self,
         word: &NamedWord<I>,

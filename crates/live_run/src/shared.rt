@@ -29,12 +29,12 @@ pub struct Shared<I: RunName> {
 }
 
 impl<I: RunName> Shared<I> {
-    /// Shares a session among so many workers, at most [`MAX_WORKERS`]. It answers a seat for each, by the workers' numbers. The
+    /// Shares a session among so many workers, at most [`MAX_WORKERS`]. It returns a seat for each, by the workers' numbers. The
     /// word is the session's, and both are what the name names.
     ///
     /// # Errors
     ///
-    /// `NoMemory` where memory is wanting.
+    /// `NoMemory` where memory runs out.
     pub fn new(
         alloc: Global,
         word: Word,
@@ -54,12 +54,12 @@ impl<I: RunName> Shared<I> {
         Ok((Shared { word, lock, answer }, seats))
     }
 
-    /// A quantum of the hart, at most so many turns, for the seat's worker, once the lock is got. It answers the receipt, which the
-    /// seat keeps behind its others, and none where the hart can't take a quantum, which the seat then notes.
+    /// A quantum of the hart, at most so many turns, for the seat's worker, once the lock is got. It returns the receipt, which the
+    /// seat keeps after its others, and none where the hart can't take a quantum, which the seat then notes.
     ///
     /// # Errors
     ///
-    /// `NoMemory` where memory is wanting. Then nothing has changed.
+    /// `NoMemory` where memory runs out. Then nothing has changed.
     pub fn quantum<R: Wait>(
         &self,
         rt: &R,
@@ -78,7 +78,7 @@ impl<I: RunName> Shared<I> {
         self.lock.lock(rt).quantum(&self.word, seat, hart, turns)
     }
 
-    /// Ends the sharing: it takes all seats, by the workers' numbers, and answers the session, and the receipts of each. The
+    /// Ends the sharing: it takes all seats, by the workers' numbers, and returns the session, and the receipts of each. The
     /// session's quanta are the first ones and then the workers' entries: each entry is in the receipts of its worker, with its
     /// number and in order, and they have no other. A hart that a seat noted is halted.
     pub fn finish(self, seats: Vec<Seat<I>>) -> (Session, Vec<Vec<Receipt>>)
@@ -144,7 +144,7 @@ fn locked<I: RunName>(session: Session, book: TableSeat) -> LockedSession<I>
     }
 }
 
-/// Splits a seat for each worker off the book's, which it answers.
+/// Splits a seat for each worker off the book's, which it returns.
 fn hire_all<I: RunName>(
     alloc: Global,
     word: &NamedWord<I>,
@@ -170,7 +170,7 @@ fn hire_all<I: RunName>(
     book
 }
 
-/// Joins all seats into the book's, which it answers, and puts the receipts of each into the answer.
+/// Joins all seats into the book's, which it returns, and puts the receipts of each into the answer.
 fn gather<I: RunName>(
     word: &NamedWord<I>,
     mut book: TableSeat,

@@ -12,7 +12,7 @@ use pn_types::Quantum;
 use session::Session;
 
 /// Enters a quantum: the worker's seat takes in the book's, the book and the worker's list gain the entry, of which `made` stand
-/// before it, and the book's seat is split off again, which it answers.
+/// before it, and the book's seat is split off again, which it returns.
 pub fn enter(
     word: &Shared<Quantum, View, Session, EntryRule>,
     seat: &mut TableSeat,

@@ -18,13 +18,13 @@ pub struct OwnList {
     pub receipts: LinkedList<Receipt>,
 }
 
-/// A hart was halted behind so many entries.
+/// A hart was halted after so many entries.
 pub struct Note {
     pub hart: u64,
     pub at: u64,
 }
 
-/// The entries behind the first quanta, of which there are `from`, and how many workers' seats were split off.
+/// The entries after the first quanta, of which there are `from`, and how many workers' seats were split off.
 pub struct Book {
     pub from: u64,
     pub entries: LinkedList<Quantum>,

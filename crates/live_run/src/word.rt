@@ -25,7 +25,7 @@ impl Word {
     ///
     /// # Errors
     ///
-    /// `NoMemory` where memory is wanting.
+    /// `NoMemory` where memory runs out.
     pub fn new(alloc: Global, session: &Session) -> Result<Word, NoMemory>
         ensures { IfOk result (λ word. word.table.shared.key ≡ session.now) }
     {

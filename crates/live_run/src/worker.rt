@@ -12,12 +12,12 @@ use std::alloc::Global;
 use std::collections::VecDeque;
 use std::sync::Wait;
 
-/// The work of one worker: it takes quanta of its harts in turn, each behind the gate, and leaves a hart that is halted. It answers
+/// The work of one worker: it takes quanta of its harts in turn, each behind the gate, and leaves a hart that is halted. It returns
 /// its seat when it has left them all.
 ///
 /// # Errors
 ///
-/// `NoMemory` where memory is wanting.
+/// `NoMemory` where memory runs out.
 pub fn serve<I: RunName, R: Wait, G: Gate>(
     rt: &R,
     alloc: Global,
@@ -53,7 +53,7 @@ pub fn serve<I: RunName, R: Wait, G: Gate>(
 ///
 /// # Errors
 ///
-/// `NoMemory` where memory is wanting.
+/// `NoMemory` where memory runs out.
 fn harts_of(alloc: Global, team: Team, worker: u32) -> Result<VecDeque<u32>, NoMemory>
     requires { 0 < team.workers }
     ensures { IfOk result (λ harts. AreHartsBelow team.harts team.workers worker harts.items) }

@@ -126,7 +126,7 @@ wished_refused i first t e kept =
     let all = kept (later_wishes i) ∙ ap (λ (x : Table). with_tests i (with_all i (first_wishes i) (kept_of (later_wishes i) x))) e in
     ap (λ (k : Kept). k.refused) all ∙ tests_refused i (wished i)
 
--- memory is wanting
+-- out of memory
 pub fails : {A : Type 0} (i : Inputs) (r : Result A StartFault) → IsErrAnd r (λ fault. fault ≡ NoMemory) → IfErr r (IsStartFault i)
 fails i (Ok a) e = tt
 fails i (Err fault) e = subst (IsStartFault i) (sym e) tt

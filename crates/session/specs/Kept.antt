@@ -28,7 +28,7 @@ pub record IsSoundKit (i : Inputs) (samples : ℕ) (k : Kit) : Type 0 where
   pub few : IfSome k.hist (λ hist. hist.count ≤ samples)
   pub cost : HasCost i k
 
--- behind these quanta, and behind the end where it was closed
+-- after these quanta, and after the end where it was closed
 pub record IsKept (i : Inputs) (quanta : List Quantum) (over : Bool) (later : List CheckedWish) (t : Table) : Type 0 where
   pub given : AreGiven i
   pub good : ArePlansGood i
@@ -49,7 +49,7 @@ pub record IsKept (i : Inputs) (quanta : List Quantum) (over : Bool) (later : Li
   pub sooner : over ≡ false → t.time ≤ 2 ^ 33 * length quanta
   pub quiet : over ≡ true → IsQuiet t.machine.state.core
 
--- the desk behind the admissions of the opening
+-- the desk after the admissions of the opening
 pub record IsWished (i : Inputs) (t : Table) : Type 0 where
   pub program : IsProgram i.image
   pub good : ArePlansGood i

@@ -95,7 +95,7 @@ search_part i (Some decl) nodes = Some (record { full = nat_le most_nodes (lengt
 
 -- ---- the whole
 
--- the state of the unpatched program behind its own run
+-- the state of the unpatched program after its own run
 abbrev pub program_of_run : Inputs → List ℕ → Plain
 program_of_run i owns = run i.image i.settings.harts owns
 

@@ -1,4 +1,4 @@
--- The state of a session behind its quanta, and its end.
+-- The state of a session after its quanta, and its end.
 use Rattle.std.specs.Prelude.{◌≡◌, ℕ, if◌then◌else◌, Bool, false, Some, List, []}
 use Rattle.pn_types.specs.declared.pick.PickCause.{PickCause}
 use Rattle.pn_types.specs.declared.quantum.Quantum.{Quantum}
@@ -13,7 +13,7 @@ use Rattle.session.specs.Parts.{metric_of, name_of}
 use Rattle.session.specs.declared.fault.StartFault.{StartFault}
 use Rattle.session.specs.declared.fault.StartFault.TheVariants.{NoMemory, BadPick}
 
--- its state behind these quanta, which is in its closed form where it was closed
+-- its state after these quanta, which is in its closed form where it was closed
 abbrev pub state_at : Inputs → List Quantum → Bool → State
 state_at i quanta over = if over then closed i (work i quanta) else work i quanta
 

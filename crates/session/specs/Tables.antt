@@ -217,7 +217,7 @@ table_opened t = table_armed (record t { machine = record t.machine { state = re
 abbrev pub table_begun : ℕ → ℕ → Table → Table
 table_begun h n t = table_handed (table_turned h n t)
 
--- a quantum behind its admission
+-- a quantum after its admission
 abbrev pub table_tended : ℕ → ℕ → ℕ → Table → Table
 table_tended width h n t = if nat_le (table_begun h n t).due (table_begun h n t).time then table_worked width (table_begun h n t) else table_begun h n t
 
@@ -232,7 +232,7 @@ pub record IsNew (i : Inputs) (k : Kit) : Type 0 where
   pub cost : k.cost ≡ cost_of i k.shown
   pub low : k.cost < 2 ^ 32
 
--- some new pairs behind the others
+-- some new pairs after the others
 pub record IsMore (i : Inputs) (old new : List Kit) : Type 0 where
   pub more : List Kit
   pub is : new ≡ old ++ more
@@ -256,7 +256,7 @@ pub record IsStill (old new : Table) : Type 0 where
   pub core : new.machine.state.core ≡ old.machine.state.core
   pub rules : new.search.rules ≡ old.search.rules
 
--- behind an admission in which so many of the wishes were looked at
+-- after an admission in which so many of the wishes were looked at
 pub record IsAdmission (i : Inputs) (later : List CheckedWish) (old new : Table) (n : ℕ) : Type 0 where
   pub looked : n ≤ length later
   pub kept : kept_of (drop n later) new ≡ with_admission i (kept_of later old)

@@ -49,7 +49,7 @@ impl Desk {
     ///
     /// # Errors
     ///
-    /// `NoMemory` where memory is wanting. Then nothing but the memory that was taken has changed.
+    /// `NoMemory` where memory runs out. Then nothing but the memory that was taken has changed.
     #[inline(never)]
     pub(crate) fn admit(
         &mut self,
@@ -88,11 +88,11 @@ impl Desk {
     }
 }
 
-/// An admission, where work was done since the last. It answers how many of the wishes, which are by tick, were looked at.
+/// An admission, where work was done since the last. It returns how many of the wishes, which are by tick, were looked at.
 ///
 /// # Errors
 ///
-/// `NoMemory` where memory is wanting. Then nothing but the memory that was taken has changed.
+/// `NoMemory` where memory runs out. Then nothing but the memory that was taken has changed.
 #[inline(always)]
 fn admit(
     alloc: Global,
@@ -126,7 +126,7 @@ fn admit(
 ///
 /// # Errors
 ///
-/// `NoMemory` where memory is wanting. Then nothing but the memory that was taken has changed.
+/// `NoMemory` where memory runs out. Then nothing but the memory that was taken has changed.
 #[inline(always)]
 pub(crate) fn admit_from(
     alloc: Global,

@@ -40,7 +40,7 @@ fn first_hist(alloc: Global, inputs: &Inputs, node: Option<u32>) -> Result<Optio
 ///
 /// # Errors
 ///
-/// `NoMemory` where memory is wanting.
+/// `NoMemory` where memory runs out.
 pub(crate) fn prepare(
     alloc: Global,
     inputs: &Inputs,

@@ -40,7 +40,7 @@ fn queue<'a>(inputs: &Inputs, search: &'a Search, observed: u64) -> &'a [u32]
     &waiting[..TAKEN_AT_ONCE]
 }
 
-/// The number of the first metric of this name; where none has it, the number behind the last.
+/// The number of the first metric of this name; where none has it, the number after the last.
 fn number_named(metrics: &[Metric], name: &[u8]) -> u32
     requires { length metrics.now < 2 ^ 32 }
     ensures { result ≡ number_from 0 name.now metrics.now }
@@ -106,7 +106,7 @@ fn is_left(
 ///
 /// # Errors
 ///
-/// `NoMemory` where memory is wanting.
+/// `NoMemory` where memory runs out.
 fn note_cost(
     costs: &mut KnownCosts,
     number: u32,
@@ -132,7 +132,7 @@ fn note_cost(
 ///
 /// # Errors
 ///
-/// `NoMemory` where memory is wanting.
+/// `NoMemory` where memory runs out.
 fn prepare_node(
     alloc: Global,
     inputs: &Inputs,
@@ -161,12 +161,12 @@ fn prepare_node(
 }
 
 impl Desk {
-    /// What the nodes that are to be taken need, whose plans are put behind others. Those are left out of which it is known that
+    /// What the nodes that are to be taken need, whose plans are put after others. Those are left out of which it is known that
     /// they keep waiting where the costs in force are these.
     ///
     /// # Errors
     ///
-    /// `NoMemory` where memory is wanting.
+    /// `NoMemory` where memory runs out.
     pub(crate) fn prepare_nodes(
         &self,
         alloc: Global,

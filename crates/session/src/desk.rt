@@ -15,7 +15,7 @@ use session_spec::{Latest, RefusedWish};
 use std::marker::Model;
 use w3_search::{NodeSample, Search};
 
-/// How many entries of the agenda are handed out behind the turns of a quantum.
+/// How many entries of the agenda are handed out after the turns of a quantum.
 const HANDED_AT_ONCE: usize = 8;
 
 /// What a session goes on from. Contracts see it as the definitions' table.
@@ -115,7 +115,7 @@ impl Desk {
         self.machine.runnable(hart)
     }
 
-    /// The hart takes turns, at most so many. It answers how many of them were ticks.
+    /// The hart takes turns, at most so many. It returns how many of them were ticks.
     #[inline(always)]
     pub(crate) fn turn(&mut self, hart: HartNo, most: u32) -> u32
         requires hart { hart < length self.old.machine.state.core.harts }

@@ -62,7 +62,7 @@ impl Inputs {
     ///
     /// # Errors
     ///
-    /// `NoMemory` where memory is wanting.
+    /// `NoMemory` where memory runs out.
     pub fn new(
         alloc: Global,
         image: Image,
@@ -104,7 +104,7 @@ impl Inputs {
     ///
     /// # Errors
     ///
-    /// `NoMemory` where memory is wanting.
+    /// `NoMemory` where memory runs out.
     #[tactic(auto, unfolding(crate::specs::Contenders::first_search))]
     pub(crate) fn search(&self, alloc: Global) -> Result<Search, NoMemory>
         requires { AreGiven self.now }

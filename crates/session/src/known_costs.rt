@@ -64,7 +64,7 @@ impl KnownCosts {
     ///
     /// # Errors
     ///
-    /// `NoMemory` where memory is wanting.
+    /// `NoMemory` where memory runs out.
     fn make_place(&mut self, node: u32) -> Result<(), NoMemory>
         ensures known { (i : Inputs) → AreKnown i self.old → AreKnown i self.new }
         ensures place { OnOk result (node < length self.new) }
@@ -80,7 +80,7 @@ impl KnownCosts {
     ///
     /// # Errors
     ///
-    /// `NoMemory` where memory is wanting.
+    /// `NoMemory` where memory runs out.
     pub(crate) fn note(&mut self, node: u32, cost: KnownCost) -> Result<(), NoMemory>
         ensures { (i : Inputs) → IsCost i cost.metric cost.focus cost.words → AreKnown i self.old → AreKnown i self.new }
     {

@@ -7,7 +7,7 @@ use mdl_check::CheckedWish;
 use pn_types::{Focus, NoMemory};
 use std::alloc::Global;
 
-/// Puts a copy of a wish behind the others.
+/// Puts a copy of a wish after the others.
 fn put(list: &mut Vec<CheckedWish>, wish: &CheckedWish) -> Result<(), NoMemory>
     ensures { list.new.items ≡ (if is_ok result then list.old.items ++ wish.now ∷ [] else list.old.items) }
 {
@@ -29,7 +29,7 @@ fn put(list: &mut Vec<CheckedWish>, wish: &CheckedWish) -> Result<(), NoMemory>
 ///
 /// # Errors
 ///
-/// `NoMemory` where memory is wanting.
+/// `NoMemory` where memory runs out.
 pub(crate) fn first(alloc: Global, wishes: &[CheckedWish]) -> Result<Vec<CheckedWish>, NoMemory>
     ensures { IfOk result (λ list. list.items ≡ filter (λ w. w.at == 0) wishes.now) }
 {
@@ -46,7 +46,7 @@ pub(crate) fn first(alloc: Global, wishes: &[CheckedWish]) -> Result<Vec<Checked
 ///
 /// # Errors
 ///
-/// `NoMemory` where memory is wanting.
+/// `NoMemory` where memory runs out.
 fn after_opening(alloc: Global, wishes: &[CheckedWish]) -> Result<Vec<CheckedWish>, NoMemory>
     ensures { IfOk result (λ list. list.items ≡ filter (λ w. not (w.at == 0)) wishes.now) }
 {
@@ -63,7 +63,7 @@ fn after_opening(alloc: Global, wishes: &[CheckedWish]) -> Result<Vec<CheckedWis
 ///
 /// # Errors
 ///
-/// `NoMemory` where memory is wanting.
+/// `NoMemory` where memory runs out.
 pub(crate) fn later(alloc: Global, wishes: &[CheckedWish]) -> Result<Vec<CheckedWish>, NoMemory>
     ensures { IfOk result (λ list. list.items ≡ by_tick (filter (λ w. not (w.at == 0)) wishes.now)) }
 {

@@ -96,7 +96,7 @@ impl Desk {
     ///
     /// # Errors
     ///
-    /// `NoMemory` where memory is wanting.
+    /// `NoMemory` where memory runs out.
     pub(crate) fn new(alloc: Global, inputs: &Inputs) -> Result<Desk, NoMemory>
         requires { AreGiven inputs.now }
         ensures first { IfOk result (λ desk. desk ≡ first_table inputs.now) }
@@ -123,7 +123,7 @@ impl Desk {
     ///
     /// # Errors
     ///
-    /// `NoMemory` where memory is wanting. Then nothing but what is ready has changed.
+    /// `NoMemory` where memory runs out. Then nothing but what is ready has changed.
     pub(crate) fn reserve(&mut self, alloc: Global, plans: &[Plan]) -> Result<(), NoMemory>
         requires { (p : Plan) → In p plans.now → predicted p < 2 ^ 32 }
         ensures same { self.new ≡ record self.old { machine = record self.old.machine { ready = self.new.machine.ready }; room = self.new.room } }

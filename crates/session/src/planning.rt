@@ -47,7 +47,7 @@ pub(crate) fn nothing(alloc: Global) -> Plan
 ///
 /// # Errors
 ///
-/// `NoMemory` where memory is wanting.
+/// `NoMemory` where memory runs out.
 pub(crate) fn plan_or_fault(
     alloc: Global,
     inputs: &Inputs,

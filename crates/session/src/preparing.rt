@@ -26,7 +26,7 @@ pub(crate) struct Prepared {
 ///
 /// # Errors
 ///
-/// `NoMemory` where memory is wanting.
+/// `NoMemory` where memory runs out.
 fn prepare_wish(
     alloc: Global,
     inputs: &Inputs,
@@ -47,7 +47,7 @@ fn prepare_wish(
 ///
 /// # Errors
 ///
-/// `NoMemory` where memory is wanting.
+/// `NoMemory` where memory runs out.
 pub(crate) fn prepare_wishes(
     alloc: Global,
     inputs: &Inputs,

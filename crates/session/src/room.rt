@@ -1,11 +1,11 @@
-//! What is put behind others where there is room.
+//! What is put after others where there is room.
 
 ghost use Rattle.std.specs.Prelude.{◌≡◌, ◌+◌, ◌<◌, ◌≤◌, ◌++◌, ◌∷◌, [], vec_len, vec_capacity};
 
 use pn_types::{Focus, Quantum};
 use session_spec::RefusedWish;
 
-/// Puts a refused wish behind the others, for which there is room.
+/// Puts a refused wish after the others, for which there is room.
 pub(crate) fn put_refused(list: &mut Vec<RefusedWish>, refused: RefusedWish)
     requires { vec_len list.old < vec_capacity list.old }
     ensures items { list.new.items ≡ list.old.items ++ refused ∷ [] }
@@ -26,7 +26,7 @@ pub(crate) fn put_refused(list: &mut Vec<RefusedWish>, refused: RefusedWish)
     });
 }
 
-/// Puts a quantum behind the others, for which there is room.
+/// Puts a quantum after the others, for which there is room.
 #[inline(always)]
 pub(crate) fn put_quantum(list: &mut Vec<Quantum>, quantum: Quantum)
     requires { vec_len list.old < vec_capacity list.old }

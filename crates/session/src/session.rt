@@ -92,7 +92,7 @@ impl Session {
     ///
     /// # Errors
     ///
-    /// `NoMemory` where memory is wanting; `BadPick` with the first wish at tick 0 that is refused, if one is.
+    /// `NoMemory` where memory runs out; `BadPick` with the first wish at tick 0 that is refused, if one is.
     pub fn new(
         alloc: Global,
         image: Image,
@@ -183,7 +183,7 @@ impl Session {
     ///
     /// # Errors
     ///
-    /// `NoMemory` where memory is wanting.
+    /// `NoMemory` where memory runs out.
     pub fn parts(&self) -> Result<ReportParts, NoMemory>
         ensures parts { IfOk result (λ parts. parts ≡ parts_of self.now.inputs (state_of self.now)) }
         // So the report's text can be made of it.
@@ -193,13 +193,14 @@ impl Session {
         desk_parts(self.alloc, &self.inputs, &self.desk)
     }
 
-    /// What holds of it: each of its quanta was allowed when it came; its machine is the one that the definitions say; and that came about
-    /// by events of which each could happen, is the unpatched program's behind a legal run of it, and so has its memory, output, ticks and
-    /// stops. What was recorded for an instrument, and what its part of a report shows, follows from its arming on, and is what its plan
-    /// measures on that run; so is what was told of it; and each sample is a difference of readings. Where all wishes are for the opening,
-    /// and none drops a pair, that is so of the whole run. The search's nodes are a history; each verdict is that of the program's own run,
-    /// by the samples of an instrument of the node's own; each barred node was barred when its turn came; behind the end each node has a
-    /// verdict, or says why not; and what is under test costs no more than the limit, at each moment.
+    /// What holds of it: each of its quanta was allowed when it came; its machine is the one that the definitions say; and that
+    /// came about by events of which each could happen, is the unpatched program's after a legal run of it, and so has its memory,
+    /// output, ticks and stops. What was recorded for an instrument, and what its part of a report shows, follows from its arming
+    /// on, and is what its plan measures on that run; so is what was told of it; and each sample is a difference of readings. Where
+    /// all wishes are for the opening, and none drops a pair, that is so of the whole run. The search's nodes are a history; each
+    /// verdict is that of the program's own run, by the samples of an instrument of the node's own; each barred node was barred
+    /// when its turn came; after the end each node has a verdict, or says why not; and what is under test costs no more than the
+    /// limit, at each moment.
     pub fn laws(&self)
         ensures allowed { AreAllowed self.now.inputs self.now.quanta }
         ensures machine { self.now.machine ≡ (state_of self.now).kept.machine }
@@ -248,12 +249,12 @@ impl Session {
     }
 
     /// A quantum of the hart, at most so many turns, asked for by a worker: an admission, if work was done since the last; the
-    /// turns; some entries of the agenda; and the work that is due, if it is time. It answers the quantum's entry, which is put
-    /// behind the others, and none exactly where the hart can't take one. Then nothing has changed.
+    /// turns; some entries of the agenda; and the work that is due, if it is time. It returns the quantum's entry, which is put
+    /// after the others, and none exactly where the hart can't take one. Then nothing has changed.
     ///
     /// # Errors
     ///
-    /// `NoMemory` where memory is wanting. Then nothing has changed.
+    /// `NoMemory` where memory runs out. Then nothing has changed.
     #[inline(always)]
     pub fn quantum(
         &mut self,

@@ -75,8 +75,8 @@ impl Desk {
         }
     }
 
-    /// Takes a node, for which there is room, where the costs in force are these. Its plan is ready. It answers the costs in force
-    /// behind it.
+    /// Takes a node, for which there is room, where the costs in force are these. Its plan is ready. It returns the costs in force
+    /// after it.
     fn take_node(
         &mut self,
         alloc: Global,

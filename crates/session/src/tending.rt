@@ -35,7 +35,7 @@ impl Desk {
         self.go_on(width);
     }
 
-    /// The hart's turns, some entries of the agenda, and the work that is due, if it is time. It answers how many of the turns were
+    /// The hart's turns, some entries of the agenda, and the work that is due, if it is time. It returns how many of the turns were
     /// ticks.
     #[inline(always)]
     pub(crate) fn tend(&mut self, hart: HartNo, most: u32, width: u64) -> u32
@@ -80,7 +80,7 @@ impl Desk {
         self.search.finish();
     }
 
-    /// The opening behind its admissions: the whole agenda is handed out, and then all that is placed is armed.
+    /// The opening after its admissions: the whole agenda is handed out, and then all that is placed is armed.
     pub(crate) fn open(&mut self)
         requires quiet { IsQuiet self.old.machine.state.core }
         requires places { self.old.places ≡ length self.old.machine.state.core.harts }

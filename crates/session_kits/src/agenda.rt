@@ -13,7 +13,7 @@ pub fn hand_out(machine: &mut InstrumentedMachine, count: usize)
     ensures machine { machine.new ≡ record machine.old { state = repeated count Hands machine.old.state } }
     ensures harts { machine.new.state.core.harts ≡ machine.old.state.core.harts }
 {
-    // Behind most quanta there is none.
+    // After most quanta there is none.
     if machine.agenda_len() == 0 {
         return;
     }

@@ -45,7 +45,7 @@ fn retain_live(machine: &InstrumentedMachine, kits: &[Kit], live: &mut Vec<usize
 }
 
 impl Kits {
-    /// Puts a pair behind the others, for which there is room.
+    /// Puts a pair after the others, for which there is room.
     pub fn put(&mut self, kit: Kit)
         requires room { vec_len self.old.all < vec_capacity self.old.all }
         requires live_room { vec_len self.old.live < vec_capacity self.old.live }

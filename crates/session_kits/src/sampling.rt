@@ -49,7 +49,7 @@ pub fn is_armed(machine: &InstrumentedMachine, kit: &Kit) -> bool
     matches!(machine.state(kit.shown.instrument), State::Armed)
 }
 
-/// Puts a sample behind the others of a histogram, if there is one.
+/// Puts a sample after the others of a histogram, if there is one.
 fn record_bin(hist: &mut Option<Hist>, bin: Bin)
     requires { IfSome hist.old (λ hist. hist.count < 2 ^ 32) }
     ensures { hist.new ≡ option_map (λ hist. pushed hist bin) hist.old }
@@ -89,7 +89,7 @@ fn sample_kit(
     Some(bin)
 }
 
-/// Puts a sample, if there is one, behind the others of what was wished, for which there is room.
+/// Puts a sample, if there is one, after the others of what was wished, for which there is room.
 fn put_latest(list: &mut Vec<Latest>, node: Option<u32>, place: u32, bin: Option<Bin>)
     requires { vec_len list.old < vec_capacity list.old }
     ensures items { list.new.items ≡ list.old.items ++ latest_by node place bin }
@@ -105,7 +105,7 @@ fn put_latest(list: &mut Vec<Latest>, node: Option<u32>, place: u32, bin: Option
     }
 }
 
-/// Puts a sample, if there is one, behind the others of nodes, for which there is room. Its ticks are those of so many harts from a
+/// Puts a sample, if there is one, after the others of nodes, for which there is room. Its ticks are those of so many harts from a
 /// number on, since the last sample.
 fn put_test(
     list: &mut Vec<NodeSample>,
@@ -135,7 +135,7 @@ fn put_test(
     }
 }
 
-/// The place behind a pair's, where only those that were wished have places.
+/// The place after a pair's, where only those that were wished have places.
 fn place_behind(node: Option<u32>, place: u32) -> u32
     requires { place + 1 < 2 ^ 32 }
     ensures { result ≡ place_behind node place }
@@ -146,7 +146,7 @@ fn place_behind(node: Option<u32>, place: u32) -> u32
     }
 }
 
-/// Samples each pair that is armed. It puts the samples of those that were wished behind the latest, and those of nodes behind the
+/// Samples each pair that is armed. It puts the samples of those that were wished after the latest, and those of nodes after the
 /// tests; there is room for them. The marks are how many ticks each hart had at the last sample.
 pub fn sample_kits(
     machine: &InstrumentedMachine,

@@ -47,7 +47,7 @@ all_quiet (suc n) m q = all_quiet n (done Hands m) (λ h x e. q h x (subst (λ h
 
 -- ---- the first admission
 
--- behind the wishes at tick 0, and the first nodes of the search
+-- after the wishes at tick 0, and the first nodes of the search
 abbrev pub picked : Inputs → Kept
 picked i = with_tests i (wished i)
 

@@ -172,7 +172,7 @@ back_phases t (p ∷ ps) v =
     cond_both (nat_le p.at t) (with_phases t ps (begun v)) v (λ (w : SearchData). IsBack v.nodes w.nodes)
     (λ _. back_on v.nodes (begun v).nodes (with_phases t ps (begun v)).nodes (back_begun v) (back_phases t ps (begun v))) (λ _. back_none v.nodes)
 
--- of the nodes behind the samples
+-- of the nodes after the samples
 pub back_step : (t : ℕ) (v : SearchData) → IsBack v.nodes (with_all_phases t (with_all_families v)).nodes
 back_step t v =
     let f = with_all_families v in

@@ -40,8 +40,8 @@ IsBarredBy i k n c = HasNoPlan i n c ⊎ HasNoRoom i k n c
 
 -- ---- when
 
--- In the course of these quanta nodes could be taken in k: at the opening, behind its wishes, or at the admission with which a quantum
--- began, behind the wishes that were due then.
+-- In the course of these quanta nodes could be taken in k: at the opening, after its wishes, or at the admission with which a
+-- quantum began, after the wishes that were due then.
 abbrev pub WasOffered : Inputs → List Quantum → Kept → Type 0
 WasOffered i quanta k =
     (k ≡ wished i)

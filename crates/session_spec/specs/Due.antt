@@ -49,7 +49,7 @@ recorded_with i p owns time [] rs = rs
 recorded_with i p owns time (s ∷ ss) [] = []
 recorded_with i p owns time (s ∷ ss) (r ∷ rs) = (if is_armed p s then r ++ sample_of i owns time s ∷ [] else r) ∷ recorded_with i p owns time ss rs
 
--- the place behind an instrument's, where only those that were wished have places
+-- the place after an instrument's, where only those that were wished have places
 abbrev pub place_behind : Option ℕ → ℕ → ℕ
 place_behind None n = n + 1
 place_behind (Some node) n = n

@@ -23,12 +23,12 @@ use Rattle.session_spec.specs.Becoming.{HasBecome}
 use Rattle.session_spec.specs.Printed.{AreForOpening, AreWholeRuns}
 use Rattle.session_spec.specs.LastReadings.{AreReadNext}
 
--- The machine is the unpatched program's, behind each quantum and behind the end.
+-- The machine is the unpatched program's, after each quantum and after the end.
 pub record RunsTold : Type 0 where
   pub works : (i : Inputs) (quanta : List Quantum) → IsProgram i.image → ArePlansGood i → IsRun i (work i quanta)
   pub closes : (i : Inputs) (quanta : List Quantum) → IsProgram i.image → ArePlansGood i → IsRun i (closed i (work i quanta))
 
--- What was recorded, behind each quantum and behind the end, where time passes between two due works.
+-- What was recorded, after each quantum and after the end, where time passes between two due works.
 pub record BinsTold : Type 0 where
   pub works : (i : Inputs) (quanta : List Quantum) → 1 ≤ i.settings.width → AreRecorded i (work i quanta)
   pub closes : (i : Inputs) (quanta : List Quantum) → 1 ≤ i.settings.width → AreRecorded i (closed i (work i quanta))
@@ -54,8 +54,8 @@ pub record OpensAtZero : Type 0 where
 abbrev pub PrintedTold : Type 0
 PrintedTold = (i : Inputs) (quanta : List Quantum) → 1 ≤ i.settings.width → IsProgram i.image → ArePlansGood i → AreForOpening i → AreWholeRuns i (closed i (work i quanta))
 
--- Where the window has a sample, time passes between two due works, and the time is within 64 bits, each node that was judged has its
--- verdict by the samples of an instrument of its own, and behind the end each node has one or says why not.
+-- Where the window has a sample, time passes between two due works, and the time is within 64 bits, each node that was judged has
+-- its verdict by the samples of an instrument of its own, and after the end each node has one or says why not.
 pub record VerdictsTold : Type 0 where
   pub works : (i : Inputs) (quanta : List Quantum) → 1 ≤ i.settings.width → 1 ≤ (rules_of i).decl.window → (work i quanta).kept.time < 2 ^ 64 → AreJudged i (work i quanta)
   pub closes : (i : Inputs) (quanta : List Quantum) → 1 ≤ i.settings.width → 1 ≤ (rules_of i).decl.window → (closed i (work i quanta)).kept.time < 2 ^ 64 → AreEnded i quanta (closed i (work i quanta))
@@ -64,7 +64,7 @@ pub record VerdictsTold : Type 0 where
 abbrev pub AreBarred : Inputs → List Quantum → State → Type 0
 AreBarred i quanta s = (n : ℕ) (node : Node) (c : BarCause) → slice_get s.kept.search.nodes n ≡ Some node → node.state ≡ Barred c → WasBarred i quanta n node c
 
--- They are so behind each quantum and behind the end.
+-- They are so after each quantum and after the end.
 pub record BarsTold : Type 0 where
   pub works : (i : Inputs) (quanta : List Quantum) → AreBarred i quanta (work i quanta)
   pub closes : (i : Inputs) (quanta : List Quantum) → AreBarred i quanta (closed i (work i quanta))

@@ -14,7 +14,7 @@ abbrev pub with_all : Inputs → List CheckedWish → Kept → Kept
 with_all i [] k = k
 with_all i (w ∷ ws) k = with_all i ws (with_wish i w k)
 
--- behind the wishes at tick 0, in the order of the text
+-- after the wishes at tick 0, in the order of the text
 unfoldable pub wished : Inputs → Kept
 wished i = with_all i (first_wishes i) (first_kept i)
 

@@ -27,7 +27,7 @@ read_now i m s = reading_by (instrument_at m.placer s.instrument.n) (harts_of i 
 abbrev pub lasts_with : List Shown → List ℕ → List ℕ
 lasts_with ss lasts = lasts ++ replicate (length ss - length lasts) 0
 
--- what is read last behind a due work
+-- what is read last after a due work
 abbrev pub last_now : Inputs → Instrumented → Shown → ℕ → ℕ
 last_now i m s last = if is_armed m.placer s then read_now i m s else last
 
@@ -36,7 +36,7 @@ lasts_now i m [] lasts = []
 lasts_now i m (s ∷ ss) [] = []
 lasts_now i m (s ∷ ss) (last ∷ lasts) = last_now i m s last ∷ lasts_now i m ss lasts
 
--- what is read last behind the armings of a due work: of an instrument that is armed, its readings then
+-- what is read last after the armings of a due work: of an instrument that is armed, its readings then
 abbrev pub lasts_armed : Inputs → Instrumented → List Shown → List ℕ → List ℕ
 lasts_armed i m [] lasts = []
 lasts_armed i m (s ∷ ss) [] = []

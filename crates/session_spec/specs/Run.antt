@@ -10,7 +10,7 @@ use Rattle.session_spec.specs.Inputs.{Inputs}
 use Rattle.session_spec.specs.States.{State}
 
 -- Events, each of which could happen when it came, lead from the start of the image to the session's machine, in which no hart has
--- more ticks than the budget. Those that are ticks are a legal run of the unpatched program, and the machine is that program behind
+-- more ticks than the budget. Those that are ticks are a legal run of the unpatched program, and the machine is that program after
 -- this run. The time is how many they are.
 pub record IsRun (i : Inputs) (s : State) : Type 0 where
   pub events : List Event

@@ -30,7 +30,7 @@ rules_of i = rules_by i.checked.search i
 
 -- ---- metrics
 
--- the number of the first metric of this name, from a number on; where none has it, the number behind the last
+-- the number of the first metric of this name, from a number on; where none has it, the number after the last
 abbrev pub number_from : ℕ → List ℕ → List Metric → ℕ
 number_from n name [] = n
 number_from n name (m ∷ ms) = if bytes_eq name m.name then n else number_from (n + 1) name ms

@@ -1,4 +1,4 @@
--- The turns of a quantum, and what is done of the agenda behind them.
+-- The turns of a quantum, and what is done of the agenda after them.
 use Rattle.std.specs.Prelude.{ℕ, ◌+◌, ◌-◌, List, length}
 use Rattle.machine.specs.Events.{Event}
 use Rattle.machine.specs.Replays.{owns}

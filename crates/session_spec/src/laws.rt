@@ -5,7 +5,7 @@ ghost use Rattle.session_spec.specs.Laws.{BarsTold, BinsTold, FeedTold, OpensAtZ
 
 // ---- The run, and what is measured of it.
 
-/// The machine came about by events of which each could happen, and is the unpatched program's behind a legal run of it. No hart has
+/// The machine came about by events of which each could happen, and is the unpatched program's after a legal run of it. No hart has
 /// more ticks than the budget.
 pub fn runs_told()
     ensures { RunsTold }
@@ -40,9 +40,9 @@ pub fn printed_told()
 
 // ---- The search.
 
-/// The verdict on each node is come to by the samples of an instrument of its own: from its arming on, as many as the window has. It is
-/// that of the program's own run from the arming to the last of them, which comes later. Behind the end each node has its verdict, or was
-/// barred when its turn came, or its phase or the search ended before its window did.
+/// The verdict on each node is come to by the samples of an instrument of its own: from its arming on, as many as the window has.
+/// It is that of the program's own run from the arming to the last of them, which comes later. After the end each node has its
+/// verdict, or was barred when its turn came, or its phase or the search ended before its window did.
 pub fn verdicts_told()
     ensures { VerdictsTold }
 {}

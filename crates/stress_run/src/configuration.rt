@@ -36,7 +36,7 @@ fn wishes(alloc: Global, count: u32) -> Result<String, NoMemory>
 ///
 /// # Errors
 ///
-/// `NoMemory` where memory is wanting.
+/// `NoMemory` where memory runs out.
 #[tactic(auto, using(crate::proofs::Texts::bytes_of), unfolding(crate::specs::Configuration::configuration_text))]
 pub fn configuration_text(alloc: Global, procs: u32) -> Result<Vec<u8>, NoMemory>
     ensures { IfOk result (λ text. text.items ≡ configuration_text procs) }

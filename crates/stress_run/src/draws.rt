@@ -5,7 +5,7 @@ ghost use Rattle.turn_order.specs.Orders.{generated};
 use std::marker::Model;
 use turn_order::generated;
 
-/// The numbers that are drawn from a seed, one behind another. Contracts see the generator's state.
+/// The numbers that are drawn from a seed, one after another. Contracts see the generator's state.
 #[derive(Drop)]
 pub(crate) struct Draws {
     state: u64,

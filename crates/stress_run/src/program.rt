@@ -48,7 +48,7 @@ fn main_procedure(alloc: Global, procs: u32) -> Result<String, NoMemory>
     Ok(text)
 }
 
-/// What a procedure of this kind does behind its loop.
+/// What a procedure of this kind does after its loop.
 #[tactic(auto, unfolding(crate::specs::Program::ending))]
 fn ending(kind: u64) -> &'static str
     ensures { result.now ≡ ending kind }
@@ -103,7 +103,7 @@ fn procedures(alloc: Global, procs: u32, seed: u32) -> Result<String, NoMemory>
 ///
 /// # Errors
 ///
-/// `NoMemory` where memory is wanting.
+/// `NoMemory` where memory runs out.
 pub fn program_text(alloc: Global, procs: u32, seed: u32) -> Result<Vec<u8>, NoMemory>
     ensures { IfOk result (λ text. text.items ≡ program_text procs seed) }
 {

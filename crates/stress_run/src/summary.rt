@@ -84,7 +84,7 @@ fn add_nodes(alloc: Global, out: &mut Vec<u8>, nodes: &[NodePart]) -> Result<(),
 ///
 /// # Errors
 ///
-/// `NoMemory` where memory is wanting.
+/// `NoMemory` where memory runs out.
 pub fn summary_text(alloc: Global, procs: u32, parts: &ReportParts) -> Result<Vec<u8>, NoMemory>
     requires { sum_by (λ part. part.ticks) parts.now.harts < 2 ^ 64 }
     ensures { IfOk result (λ text. text.items ≡ summary_text procs parts.now) }

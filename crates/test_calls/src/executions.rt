@@ -18,8 +18,8 @@ const WORDS: [u32; 5] = [
     0x18a5_b62f,
 ];
 
-/// What the words lead to, one behind the other; whether the hart has the reservation of the data behind each of the first two, and
-/// behind the last, which finds it, but an address that is no multiple of 8; and the registers that the first four name first.
+/// What the words lead to, one after the other; whether the hart has the reservation of the data after each of the first two, and
+/// after the last, which finds it, but an address that is no multiple of 8; and the registers that the first four name first.
 fn execute_words(alloc: Global) -> Result<([Next; 5], [bool; 3], [u64; 4]), NoMemory> {
     let hart = HartNo::first();
     let mut mem = Mem::new(alloc, &image(alloc)?, 1)?;
@@ -72,8 +72,8 @@ fn executes_words_in_turn(rt: HostRuntime) {
     );
 }
 
-/// Whether the hart goes on behind an `ecall` that writes three bytes of the data, its pc and its stop, what it answers, and
-/// whether these are the output.
+/// Whether the hart goes on after an `ecall` that writes three bytes of the data, its pc and its stop, what it returns, and whether
+/// these are the output.
 fn write_three(alloc: Global) -> Result<(bool, u64, Option<Cause>, u64, bool), NoMemory> {
     let mut mem = Mem::new(alloc, &image(alloc)?, 1)?;
     let mut resv = Reservations::new(alloc, 1)?;

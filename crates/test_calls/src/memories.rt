@@ -86,7 +86,7 @@ fn loads_at_the_borders(rt: HostRuntime) {
     compare(&rt, load_at_borders(rt.alloc()), Ok(None));
 }
 
-/// The first other store with two harts, and the first other load behind the stores.
+/// The first other store with two harts, and the first other load after the stores.
 fn store_at_borders(alloc: Global) -> Result<(Option<Store>, Option<Load>), NoMemory> {
     let mut mem = Mem::new(alloc, &image(alloc)?, 2)?;
     let store = first_other_store(&mut mem, &STORES);

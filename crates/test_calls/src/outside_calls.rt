@@ -23,7 +23,7 @@ fn fault_of<F: Files>(alloc: Global, files: &mut F, name: &str, most: u64) -> Op
     read_whole(alloc, files, name, most).err()
 }
 
-/// What is given, one behind the other: a file twice, and one that is absent.
+/// What is given, one after the other: a file twice, and one that is absent.
 const GIVEN: [(&str, Option<&[u8]>); 3] = [
     ("a", Some(b"first")),
     ("b", None),

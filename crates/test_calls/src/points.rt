@@ -84,8 +84,8 @@ fn tells_kinds_apart(rt: HostRuntime) {
     compare(&rt, has_points(rt.alloc(), text, &rows).ok(), Some(true));
 }
 
-/// Symbols by their names, kinds, addresses and sizes. The second `l` by address has the name of the first, and `a` stands behind `m`
-/// among them.
+/// Symbols by their names, kinds, addresses and sizes. The second `l` by address has the name of the first, and `a` stands after
+/// `m` among them.
 const SYMBOLS: [(u8, SymKind, u64, u64); 11] = [
     (b'l', SymKind::Func, 0x10010, 4),
     (b'd', SymKind::Object, 0x10000, 8),

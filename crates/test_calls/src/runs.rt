@@ -8,7 +8,7 @@ use rv_word::Cause;
 use std::alloc::Global;
 use turn_order::{Order, Ready, generated};
 
-/// One turn of the hart, if it can take one. It answers whether it could.
+/// One turn of the hart, if it can take one. It returns whether it could.
 fn take_turn(machine: &mut PlainMachine, hart: HartNo) -> bool
     requires { hart < length machine.old.state.harts }
     ensures { length machine.new.state.harts ≡ length machine.old.state.harts }

@@ -27,7 +27,7 @@ const READING: Reading = Reading {
     ended: true,
 };
 
-/// What is read behind a set on the same thread, and what the gauge gives at its end.
+/// What is read after a set on the same thread, and what the gauge gives at its end.
 fn set_and_read<R: Wait>(rt: &R, alloc: Global) -> Result<[Reading; 2], NoMemory> {
     let (dial, mut writer, mut readers) = gauge(alloc, 2)?;
     dial.set(rt, &mut writer, READING);

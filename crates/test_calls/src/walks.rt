@@ -129,7 +129,7 @@ const CALLING: WalkStart = WalkStart {
     fp: STACK_END,
 };
 
-/// In f behind its call.
+/// In f after its call.
 const BEHIND: WalkStart = WalkStart {
     pc: 0x10024,
     ra: 0x10024,
@@ -168,7 +168,7 @@ const ROWS: [Row; 15] = [
     (FRAME, ASKING_F, Some(INSIDE), 0),
 ];
 
-/// How many starts the timer has behind its opening.
+/// How many starts the timer has after its opening.
 fn starts(alloc: Global, row: &Row) -> Result<u64, NoMemory> {
     let (frame, procedure, start, _) = *row;
     let opens = timed(alloc, procedure)?;
@@ -228,8 +228,8 @@ fn counted(alloc: Global) -> Result<Vec<Open>, NoMemory>
     Ok(opens)
 }
 
-/// The values of five counters behind their opening, the last of which is 0 initially and the others 3; and of one more, which
-/// there isn't.
+/// The values of five counters after their opening, the last of which is 0 initially and the others 3; and of one more, which there
+/// isn't.
 fn five_counters(alloc: Global) -> Result<[u64; 6], NoMemory> {
     let mut vars = Vec::new(alloc);
     for initially in [3, 3, 3, 3, 0] {

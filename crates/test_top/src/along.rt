@@ -17,7 +17,7 @@ use report::report;
 use session::{Session, StartFault};
 use std::alloc::Global;
 
-/// A quantum that is told. Where it finds no memory it is asked for once more: nothing had changed. It answers whether what was
+/// A quantum that is told. Where it finds no memory it is asked for once more: nothing had changed. It returns whether what was
 /// taken, if anything was, is what was told.
 fn take(session: &mut Session, told: &Quantum) -> Result<bool, NoMemory>
     requires going { session.old.closed ≡ false }
@@ -35,8 +35,8 @@ fn take(session: &mut Session, told: &Quantum) -> Result<bool, NoMemory>
     })
 }
 
-/// Lets a session take the quanta. Those that no hart could take are left out. It answers whether each that was taken is the one that
-/// was told.
+/// Lets a session take the quanta. Those that no hart could take are left out. It returns whether each that was taken is the one
+/// that was told.
 fn follow(session: &mut Session, quanta: &[Quantum]) -> Result<bool, NoMemory>
     requires going { session.old.closed ≡ false }
     requires quanta { AllByRecursion (IsQuantum session.old.inputs.settings.harts) quanta.now }

@@ -177,7 +177,7 @@ impl Case {
         served.print_log(rt, alloc)
     }
 
-    /// Serves the words behind a number, and prints how the program ends and what the output gained, at most so many bytes.
+    /// Serves the words after a number, and prints how the program ends and what the output gained, at most so many bytes.
     fn begin<R: Threads + Wait + Sync>(
         &self,
         rt: HostRuntime,
@@ -191,8 +191,8 @@ impl Case {
         println!(rt; "\n")
     }
 
-    /// Serves the words behind a name, and prints how the program ends and what the output gained. What the log gained is the file of
-    /// that name from then on.
+    /// Serves the words after a name, and prints how the program ends and what the output gained. What the log gained is the file
+    /// of that name from then on.
     fn keep<R: Threads + Wait + Sync>(
         &mut self,
         rt: HostRuntime,
@@ -207,7 +207,7 @@ impl Case {
         println!(rt; "")
     }
 
-    /// Serves the words behind a name at a gate where two workers meet, and prints how the program ends, and whether they met. What
+    /// Serves the words after a name at a gate where two workers meet, and prints how the program ends, and whether they met. What
     /// the log gained is the file of that name from then on.
     fn meet<R: Threads + Wait + Sync>(
         &mut self,

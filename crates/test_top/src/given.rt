@@ -19,7 +19,7 @@ fn digits(alloc: Global, text: &str) -> Vec<u8> {
     }
 }
 
-/// A number and what stands behind it.
+/// A number and what stands after it.
 fn numbered(rest: &str) -> (usize, &str) {
     match rest.split_once(' ') {
         Some((number, rest)) => (number.parse().unwrap_or(0), rest),

@@ -1,7 +1,7 @@
 /// What a line of the table says.
 #[derive(Clone, Copy, Drop)]
 pub enum Line<'a> {
-    /// What is given: a word and what stands behind it.
+    /// What is given: a word and what stands after it.
     Given(&'a str, &'a str),
     /// What is to be done, with the case as it is.
     Call(Call<'a>),

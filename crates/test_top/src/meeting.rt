@@ -5,8 +5,8 @@ use std::thread;
 /// How often a worker looks whether the other has come.
 const POLLS: u32 = 10_000_000;
 
-/// A gate at which the workers 0 and 1 meet before their second quantum, or under `visi` the run before its second quantum and a view
-/// behind its second sample: each waits for the other, but no longer than it looks.
+/// A gate at which the workers 0 and 1 meet before their second quantum, or under `visi` the run before its second quantum and a
+/// view after its second sample: each waits for the other, but no longer than it looks.
 #[derive(Drop)]
 pub struct Meeting {
     came: [AtomicBool; 2],

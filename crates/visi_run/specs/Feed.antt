@@ -7,8 +7,8 @@ use Rattle.session_spec.specs.States.{State}
 use Rattle.session_spec.specs.Work.{closed, work}
 use Rattle.visi_run.specs.declared.dial.Reading.{Reading}
 
--- The samples of what was wished that a session took behind these quanta and at its end, in the order in which they were taken, and of
--- those that were taken together in the order of a report.
+-- The samples of what was wished that a session took after these quanta and at its end, in the order in which they were taken, and
+-- of those that were taken together in the order of a report.
 unfoldable pub feed_of : Inputs → List Quantum → List Latest
 feed_of i quanta = (closed i (work i quanta)).feed
 

@@ -50,7 +50,7 @@ together v w = sight v.sets v.wrote (v.lists ++ w.lists)
 abbrev pub has_set : Reading → Sight → Sight
 has_set y v = sight v.sets (v.wrote ++ y ∷ []) v.lists
 
--- the reading behind the first list
+-- the reading after the first list
 abbrev pub longer_list : Reading → List (List Reading) → List (List Reading)
 longer_list y [] = []
 longer_list y (rs ∷ rss) = (rs ++ y ∷ []) ∷ rss

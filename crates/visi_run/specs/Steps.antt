@@ -8,7 +8,7 @@ use Rattle.whole_run.specs.Seeded.{IsSeeded}
 use Rattle.visi_run.specs.Feed.{feed_of, last_reading, reading_of}
 use Rattle.visi_run.specs.declared.outlet.Outlet.{Outlet}
 
--- Time goes on. Where no samples were taken the feed stays; otherwise the latest stand behind it.
+-- Time goes on. Where no samples were taken the feed stays; otherwise the latest stand after it.
 pub record IsStep (s t : State) : Type 0 where
   pub time : s.kept.time ≤ t.kept.time
   pub none : t.kept.samples ≡ s.kept.samples → t.feed ≡ s.feed

@@ -24,7 +24,7 @@ impl Board {
     ///
     /// # Errors
     ///
-    /// `NoMemory` where memory is wanting.
+    /// `NoMemory` where memory runs out.
     pub fn new(alloc: Global, gauge: Gauge, views: u32) -> Result<(Board, Vec<Parker>), NoMemory>
         ensures gauge { IfOk result (λ r. r.0.gauge ≡ gauge) }
         ensures count { IfOk result (λ r. length r.1.items ≡ views) }

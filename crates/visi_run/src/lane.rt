@@ -43,7 +43,7 @@ impl Lane {
         self.waiting.reserve(count)
     }
 
-    /// Lets the items wait, behind the others.
+    /// Lets the items wait, after the others.
     pub fn push_all(&mut self, items: &[Latest])
         requires { length items.now ≤ self.old.room }
         ensures all { self.new.all ≡ self.old.all ++ items.now }

@@ -64,7 +64,7 @@ impl Outlet {
     ///
     /// # Errors
     ///
-    /// `NoMemory` where memory is wanting.
+    /// `NoMemory` where memory runs out.
     pub fn tell<R: Wait>(
         &mut self,
         rt: &R,

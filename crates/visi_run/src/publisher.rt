@@ -56,7 +56,7 @@ impl Model for View {
 ///
 /// # Errors
 ///
-/// `NoMemory` where memory is wanting.
+/// `NoMemory` where memory runs out.
 pub fn streams(alloc: Global, views: u32, room: u32) -> Result<(Publisher, Vec<View>), NoMemory>
     requires views { (1 ≤ views) × (views ≤ 8) }
     requires room { (1 ≤ room) × (room ≤ 1024) }
@@ -121,7 +121,7 @@ impl Publisher {
     ///
     /// # Errors
     ///
-    /// `NoMemory` where memory is wanting. Then nothing has changed.
+    /// `NoMemory` where memory runs out. Then nothing has changed.
     pub fn publish(&mut self, items: &[Latest]) -> Result<(), NoMemory>
         ensures ok { OnOk result (self.new.items ≡ self.old.items ++ items.now) }
         ensures err { OnErr result (self.new.items ≡ self.old.items) }
@@ -145,7 +145,7 @@ impl View {
     ///
     /// # Errors
     ///
-    /// `NoMemory` where memory is wanting. Then nothing has changed.
+    /// `NoMemory` where memory runs out. Then nothing has changed.
     pub fn take<R: Wait>(&mut self, rt: &R) -> Result<Option<Latest>, NoMemory>
         ensures some { IfOk result (λ o. IfSome o (λ x. self.new ≡ record self.old { taken = self.old.taken ++ x ∷ [] })) }
         ensures none { IfOk result (λ o. IfNone o (self.new ≡ self.old)) }
@@ -174,7 +174,7 @@ impl View {
 ///
 /// # Errors
 ///
-/// `NoMemory` where memory is wanting.
+/// `NoMemory` where memory runs out.
 pub fn gather<R: Wait>(
     rt: &R,
     alloc: Global,

@@ -48,7 +48,7 @@ pub struct ViewedCourse {
 ///
 /// # Errors
 ///
-/// `NoMemory` where memory is wanting.
+/// `NoMemory` where memory runs out.
 fn take_all<R: Wait, G: Gate>(
     rt: &R,
     board: &Board,
@@ -80,7 +80,7 @@ fn take_all<R: Wait, G: Gate>(
 ///
 /// # Errors
 ///
-/// `NoMemory` where memory is wanting.
+/// `NoMemory` where memory runs out.
 fn run<R: Wait, G: Gate>(
     rt: &R,
     board: &Board,
@@ -115,7 +115,7 @@ struct Streamed {
 ///
 /// # Errors
 ///
-/// `NoMemory` where memory is wanting, also to one view alone.
+/// `NoMemory` where memory runs out, also for one view alone.
 fn stream<R: Threads + Wait + Sync, G: Gate + Sync>(
     rt: &R,
     alloc: Global,
@@ -174,11 +174,11 @@ fn stream<R: Threads + Wait + Sync, G: Gate + Sync>(
     })
 }
 
-/// Runs a session that just began, and answers the text of what its views were given.
+/// Runs a session that just began, and returns the text of what its views were given.
 ///
 /// # Errors
 ///
-/// `NoMemory` where memory is wanting, also to one view alone.
+/// `NoMemory` where memory runs out, also for one view alone.
 fn view_on<R: Threads + Wait + Sync, G: Gate + Sync>(
     rt: &R,
     alloc: Global,
@@ -204,14 +204,15 @@ fn view_on<R: Threads + Wait + Sync, G: Gate + Sync>(
     visi_text(alloc, parts.shown.as_slice(), &streamed.lists)
 }
 
-/// Runs a program with its instruments, with quanta in the order of a seed as [`record_run`](whole_run::record_run) does, while view
-/// threads follow it, each of which is given all samples of what was wished. It answers the text of what each was given.
+/// Runs a program with its instruments, with quanta in the order of a seed as [`record_run`](whole_run::record_run) does, while
+/// view threads follow it, each of which is given all samples of what was wished. It returns the text of what each was given.
 ///
-/// The run passes the gate as worker 0 before its quantum number n, and view number v as worker v + 1 behind its item number n, both from 0.
+/// The run passes the gate as worker 0 before its quantum number n, and view number v as worker v + 1 after its item number n, both
+/// from 0.
 ///
 /// # Errors
 ///
-/// `NoMemory` where memory is wanting, also to one view alone; `BadPick` with the first wish at tick 0 that is refused, if one is.
+/// `NoMemory` where memory runs out, also for one view alone; `BadPick` with the first wish at tick 0 that is refused, if one is.
 pub fn view_run<R: Threads + Wait + Sync, G: Gate + Sync>(
     rt: &R,
     alloc: Global,

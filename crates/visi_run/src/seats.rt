@@ -22,7 +22,7 @@ use std::thread::Threads;
 ///
 /// # Errors
 ///
-/// `NoMemory` where memory is wanting, also to one view alone.
+/// `NoMemory` where memory runs out, also for one view alone.
 pub fn follow_all<R: Threads + Wait + Sync, G: Gate + Sync>(
     rt: &R,
     alloc: Global,
@@ -64,7 +64,7 @@ fn all_seats(alloc: Global, results: Vec<Result<Seat, NoMemory>>) -> Result<Vec<
 ///
 /// # Errors
 ///
-/// `NoMemory` where memory is wanting.
+/// `NoMemory` where memory runs out.
 pub fn pair(
     alloc: Global,
     views: Vec<View>,
@@ -100,7 +100,7 @@ pub fn pair(
 ///
 /// # Errors
 ///
-/// `NoMemory` where memory is wanting.
+/// `NoMemory` where memory runs out.
 pub fn part(alloc: Global, seats: Vec<Seat>) -> Result<(Vec<View>, Vec<GaugeReader>), NoMemory>
     ensures lines { IfOk result (λ r. watch_lines r.0.items ≡ seat_lines seats.items) }
     ensures count { IfOk result (λ r. length r.1.items ≡ length seats.items) }

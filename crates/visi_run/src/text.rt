@@ -120,7 +120,7 @@ fn add_counts(alloc: Global, out: &mut Vec<u8>, lists: &[Vec<Latest>]) -> Result
 ///
 /// # Errors
 ///
-/// `NoMemory` where memory is wanting.
+/// `NoMemory` where memory runs out.
 pub fn visi_text(
     alloc: Global,
     shown: &[ShownPart],

@@ -24,11 +24,12 @@ pub struct Seat {
     pub parker: Parker,
 }
 
-/// Takes items until the run has ended and none is left in the channel, and sleeps while there are none. It passes the gate behind each item.
+/// Takes items until the run has ended and none is left in the channel, and sleeps while there are none. It passes the gate after
+/// each item.
 ///
 /// # Errors
 ///
-/// `NoMemory` where memory is wanting.
+/// `NoMemory` where memory runs out.
 pub fn follow<R: Wait, G: Gate>(
     rt: &R,
     board: &Board,
@@ -47,13 +48,13 @@ pub fn follow<R: Wait, G: Gate>(
             items = items.saturating_add(1);
             continue;
         }
-        // Nothing is offered behind the end: the view is given what still waits for it when all views have left.
+        // Nothing is offered after the end: the view is given what still waits for it when all views have left.
         if ended {
             break;
         }
         ended = board.gauge.read(rt, &mut seat.reader).ended || board.is_over();
         if !ended {
-            // The run wakes its views behind each step, also where that was between the take and here.
+            // The run wakes its views after each step, also where that was between the take and here.
             seat.parker.park(rt);
         }
     }

@@ -35,7 +35,7 @@ misfit_from i n s (q ∷ quanta) = elim (misfit_at i n s.kept q) [
   | None ↦ misfit_from i (n + 1) (tend i q.hart q.turns s) quanta
 ]
 
--- a hart could go on behind the quanta
+-- a hart could go on after the quanta
 abbrev pub goes_on : Inputs → List Quantum → Bool
 goes_on i quanta = nat_lt (length quanta) MAX_QUANTA && list_any (is_runnable (work i quanta).kept.machine.core) (range_with_len 0 i.settings.harts)
 

@@ -17,7 +17,7 @@ use turn_order::{Order, Ready};
 ///
 /// # Errors
 ///
-/// `NoMemory` where memory is wanting.
+/// `NoMemory` where memory runs out.
 fn fill(session: &Session, harts: u32, ready: &mut Ready) -> Result<(), NoMemory>
     requires harts { harts ≡ session.now.inputs.settings.harts }
     requires few { harts ≤ MAX_HARTS }
@@ -33,11 +33,11 @@ fn fill(session: &Session, harts: u32, ready: &mut Ready) -> Result<(), NoMemory
     Ok(())
 }
 
-/// The same behind a quantum of a hart, from the list before it: where no work was done, no other hart can have stopped.
+/// The same after a quantum of a hart, from the list before it: where no work was done, no other hart can have stopped.
 ///
 /// # Errors
 ///
-/// `NoMemory` where memory is wanting.
+/// `NoMemory` where memory runs out.
 fn refresh(session: &Session, harts: u32, hart: HartNo, ready: &mut Ready) -> Result<(), NoMemory>
     requires harts { harts ≡ session.now.inputs.settings.harts }
     requires few { harts ≤ MAX_HARTS }
@@ -71,7 +71,7 @@ impl Rounds {
     ///
     /// # Errors
     ///
-    /// `NoMemory` where memory is wanting.
+    /// `NoMemory` where memory runs out.
     pub fn begin(
         alloc: Global,
         session: &Session,
@@ -97,12 +97,12 @@ impl Rounds {
         })
     }
 
-    /// Lets the next hart take its quantum. It answers that, and none where none can follow: then the session's quanta are the whole
-    /// list of the seed.
+    /// Lets the next hart take its quantum. It returns that, and none where none can follow: then the session's quanta are the
+    /// whole list of the seed.
     ///
     /// # Errors
     ///
-    /// `NoMemory` where memory is wanting. Then no round may follow.
+    /// `NoMemory` where memory runs out. Then no round may follow.
     pub fn next(&mut self, session: &mut Session) -> Result<Option<Quantum>, NoMemory>
         requires { StandAt self.old session.old }
         ensures at { OnOk result (StandAt self.new session.new) }
@@ -132,7 +132,7 @@ impl Rounds {
 ///
 /// # Errors
 ///
-/// `NoMemory` where memory is wanting.
+/// `NoMemory` where memory runs out.
 pub fn take_quanta(
     alloc: Global,
     session: &mut Session,

@@ -48,7 +48,7 @@ fn follow(session: &mut Session, quanta: &[Quantum]) -> Result<(), ReplayFault>
     Ok(())
 }
 
-/// Runs a session that just began along the quanta, to its end. It answers the text of its report.
+/// Runs a session that just began along the quanta, to its end. It returns the text of its report.
 fn run_along(
     alloc: Global,
     session: &mut Session,
@@ -70,11 +70,11 @@ fn run_along(
 }
 
 /// Runs a program with its instruments along quanta that are told, as those that were read from a log with these settings. It
-/// answers the text of the report, in which so many function symbols are no procedures.
+/// returns the text of the report, in which so many function symbols are no procedures.
 ///
 /// # Errors
 ///
-/// `NotOpened` with `NoMemory` where memory is wanting, and with `BadPick` and the first wish at tick 0 that is refused, if one is;
+/// `NotOpened` with `NoMemory` where memory runs out, and with `BadPick` and the first wish at tick 0 that is refused, if one is;
 /// `Misfit` with the first quantum that isn't the run's, or where the quanta end before the run does.
 pub fn replay_run(
     alloc: Global,
