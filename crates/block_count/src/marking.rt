@@ -25,7 +25,7 @@ fn mark(marks: &mut [bool], at: u64, address: u64)
     }
 }
 
-/// Marks where the word at an address leads, and the word after it if a block ends with it.
+/// Marks where the word at an address leads, and the word after it if it ends a block.
 fn mark_opened(marks: &mut [bool], at: u64, address: u64, word: u32)
     requires text { at + 4 * length marks.old < 2 ^ 64 }
     requires address { address + 4 < 2 ^ 64 }
@@ -39,7 +39,7 @@ fn mark_opened(marks: &mut [bool], at: u64, address: u64, word: u32)
     }
 }
 
-/// Does so for each word of a text.
+/// Does the same for each word of a text.
 fn mark_all_opened(marks: &mut [bool], at: u64, words: &[u32])
     requires text { at + 4 * length marks.old < 2 ^ 64 }
     requires words { at + 4 * length words.now < 2 ^ 64 }
@@ -61,6 +61,10 @@ fn mark_starts(marks: &mut [bool], at: u64, procs: &[Proc])
 }
 
 /// Marks the words of an image's text at which a block begins.
+///
+/// # Errors
+///
+/// `NoMemory` where memory runs out.
 pub fn marks(
     alloc: Global,
     image: &Image,

@@ -29,11 +29,11 @@ pub struct Prepared {
     pub skipped: u32,
 }
 
-/// What a session is given: an image, what was found of it, and settings.
+/// Puts together what a session is given: an image, what was found of it, and settings.
 ///
 /// # Errors
 ///
-/// `NoMemory` where there isn't enough memory.
+/// `NoMemory` where memory runs out.
 pub fn prepare_found(
     alloc: Global,
     image: Image,
@@ -60,7 +60,11 @@ pub fn prepare_found(
     })
 }
 
-/// Reads a program and a configuration, and gives what a session is given of them.
+/// Reads a program and a configuration, and puts together what a session is given.
+///
+/// # Errors
+///
+/// `Refusal::NoMemory` where memory runs out, or the first fault that is due.
 pub fn prepare<F: Files>(
     alloc: Global,
     files: &mut F,

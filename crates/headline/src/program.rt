@@ -1,3 +1,5 @@
+//! The program as a call: words, files and sinks in, a status out.
+
 ghost use Rattle.std.specs.Prelude.{◌≡◌, MatchOption, map, string_bytes};
 ghost use Rattle.std.specs.Process.{exit_status};
 ghost use Rattle.headline.specs.Program.{IsTold, words_read};
@@ -17,11 +19,11 @@ pub enum Words {
     Read(Vec<String>),
     /// One isn't text, so they are no command.
     NotText,
-    /// Memory for them was wanting.
+    /// Memory ran out before all were read.
     NoMemory,
 }
 
-/// What `paradyn` does, and what its texts tell.
+/// Does what `paradyn` does, and proves what its texts tell.
 fn tell<R: Threads + Wait + Sync, F: Files, K: Sink, L: Sink, G: Gate + Sync>(
     rt: &R,
     alloc: Global,
@@ -37,8 +39,8 @@ fn tell<R: Threads + Wait + Sync, F: Files, K: Sink, L: Sink, G: Gate + Sync>(
     paradyn(rt, alloc, words, files, out, log, gate)
 }
 
-/// Serves the words of a command line, and gives the status with which the program ends. With status 0 the texts that the sinks gained
-/// tell of the files that the words name what the headline says of the command.
+/// Serves the words of a command line, and returns the status with which the program ends. With status 0 the texts that the sinks
+/// gained tell of the files that the words name what the headline says of the command.
 pub fn run_program<R: Threads + Wait + Sync, F: Files, K: Sink, L: Sink, G: Gate + Sync>(
     rt: &R,
     alloc: Global,
@@ -48,7 +50,7 @@ pub fn run_program<R: Threads + Wait + Sync, F: Files, K: Sink, L: Sink, G: Gate
     log: &mut L,
     gate: &G,
 ) -> ExitCode
-    // Where the words could not be read for want of memory, nothing was read or written.
+    // Where memory ran out before the words were read, nothing was read or written.
     ensures { MatchOption (words_read words.now) ((exit_status result ≡ 8) × (out.new ≡ out.old) × (log.new ≡ log.old) × (files.new ≡ files.old))
         (λ read. IsTold F.holds F.faults files.old files.new read K.has K.faults out.old out.new L.has L.faults log.old log.new (exit_status result)) }
 {

@@ -1,4 +1,4 @@
-//! A plan is admitted.
+//! Admits a plan.
 
 ghost use Rattle.std.specs.Prelude.{◌≡◌, ◌+◌, ◌*◌, ◌<◌, ◌≤◌, ◌^◌, [], Ok, Err, IfErr, IfOk, OnOk, length};
 ghost use Rattle.machine.specs.Cores.{In};
@@ -17,7 +17,7 @@ use crate::slots::slots_from;
 use crate::tool_text::ToolText;
 use pn_types::{Placed, Plan, Seq};
 
-/// The cost in words is over the search's limit, if there is one.
+/// Returns whether the cost in words is above the search's limit, if there is one.
 pub fn is_over(limit: Option<u64>, cost: u64) -> bool
     ensures { result ≡ placements.is_over limit cost }
 {
@@ -28,6 +28,10 @@ pub fn is_over(limit: Option<u64>, cost: u64) -> bool
 }
 
 /// Places the sites of a plan whose slots were found, from `first` on, with the memory of its kit, and returns the instrument.
+///
+/// # Errors
+///
+/// Why the first site that is refused has no room. Then nothing was placed.
 pub fn place(
     text: &mut ToolText,
     number: InstrumentNo,

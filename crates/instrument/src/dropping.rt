@@ -1,4 +1,4 @@
-//! The sites of an instrument are dropped.
+//! Drops the sites of instruments.
 
 ghost use Rattle.std.specs.Prelude.{◌≡◌, ◌+◌, ◌≤◌, filter};
 ghost use Rattle.bucket_chains.specs.Left.{left};

@@ -1,4 +1,4 @@
-//! Rooms are given back.
+//! Gives rooms back.
 
 ghost use Rattle.std.specs.Prelude.{◌≡◌, ◌≤◌, length, take};
 ghost use Rattle.bucket_chains.specs.Left.{left};
@@ -8,7 +8,7 @@ ghost use Rattle.instrument.specs.Spaces.{AreRoomsOf};
 use crate::room_list::Rooms;
 use tool_space::Space;
 
-/// Gives back the rooms after so many.
+/// Gives back all rooms but the first `count`.
 pub fn give_behind(words: &mut Space, rooms: &mut Rooms, count: usize)
     requires tied { (program : Words) × AreRoomsOf program words.old (left rooms.old.places) }
     requires within { count ≤ length (left rooms.old.places) }

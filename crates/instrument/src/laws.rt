@@ -11,8 +11,8 @@ pub fn acts_are_legal()
     ensures { Always IsLegal }
 {}
 
-/// After any such list no two rooms of blocks that weren't given back share a word, and no two instruments that aren't gone share a
-/// slot.
+/// After any list of acts no two rooms of blocks that weren't given back share a word, and no two instruments that aren't gone
+/// share a slot.
 pub fn rooms_and_slots_apart()
     ensures { Always IsApart }
 {}

@@ -12,7 +12,7 @@ use crate::tool_text::ToolText;
 use pn_types::{NoMemory, Plan};
 use std::alloc::{AllocError, Global};
 
-/// Takes the memory for the admission of so many plans, where `count` were admitted, with so many sites.
+/// Reserves memory for the admission of `plans` plans that have `sites` sites together, where `count` plans were admitted before.
 ///
 /// # Errors
 ///
@@ -37,14 +37,14 @@ pub fn take_memory(
     roster.reserve(plans)
 }
 
-/// How many sites the kits are for, and so many more. None where they are more than can be counted.
+/// Returns how many sites the kits are for, and `more` beside them. None where they are more than can be counted.
 fn sites_with(kits: &[Kit], more: usize) -> Option<usize>
     ensures { IfSome result (λ sites. sites ≡ sites_in kits.now + more) }
 {
     sites_in(kits)?.checked_add(more)
 }
 
-/// A new kit for a plan, with the memory for its admission beside those of the kits.
+/// Makes a kit for a plan, with memory for its admission beside those of the kits.
 ///
 /// # Errors
 ///
@@ -73,11 +73,11 @@ fn new_kit(
     Ok(kit)
 }
 
-/// The kit for a plan beside other kits: `kit`, which has the memory, or a new one.
+/// Returns the kit for a plan: `kit`, which has the memory, if it is there, and else a new one, beside the other kits.
 ///
 /// # Errors
 ///
-/// `NoMemory` where memory or numbers run out for a new one.
+/// `NoMemory` where a new one is needed, and memory or numbers run out.
 pub fn kit_for(
     alloc: Global,
     text: &mut ToolText,

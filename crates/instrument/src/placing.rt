@@ -1,4 +1,4 @@
-//! A site is placed: its blocks get the lowest rooms.
+//! Places a site: its blocks get the lowest rooms.
 
 ghost use Rattle.std.specs.Prelude.{◌≡◌, ◌+◌, ◌*◌, ◌<◌, ◌≤◌, ◌^◌, [], IfErr, IfNone, IfSome, OnOk, Ok, Err, length, vec_capacity};
 ghost use Rattle.prim_code.specs.Counts.{word_count};
@@ -19,7 +19,7 @@ use prim_code::words_of;
 use tool_space::Space;
 use tramp_spec::{Block, MarkedWord};
 
-/// Takes the lowest room of so many words, and returns its address: None where there is none.
+/// Takes the lowest room of `len` words, and returns its address: None where there is none.
 fn take_room(words: &mut Space, len: u32) -> Option<u64>
     requires some { 0 < len }
     requires reserved { 0 < words.old.takes }

@@ -30,7 +30,7 @@ use std::collections::VecDeque;
 use std::marker::Model;
 use tool_space::Space;
 
-/// The tool text after a program: the rooms that were taken there, which words are free beside them, and the agenda.
+/// The tool text, which follows a program: the rooms that were taken there, which words are free beside them, and the agenda.
 pub struct ToolText {
     program: Program,
     ledger: Ledger,
@@ -48,7 +48,7 @@ impl Model for ToolText {
     ghost invariant = { λ t. IsToolText t.program t.ledger t.words };
 }
 
-// By a call of its own: what drops it need not prove the drops of all its parts.
+// Its drop is a function of its own, so that callers need not prove the drops of all its parts.
 impl Drop for ToolText {
     fn drop(self) {
         let ToolText {
@@ -60,7 +60,7 @@ impl Drop for ToolText {
 }
 
 impl ToolText {
-    /// The tool text of an image, with no blocks.
+    /// Makes the tool text of an image, with no blocks.
     ///
     /// # Errors
     ///
@@ -79,14 +79,14 @@ impl ToolText {
         })
     }
 
-    /// Whether a mini block of an instrument has a room.
+    /// Returns whether a mini block of an instrument has a room.
     pub fn has_room_of(&self, owner: u64) -> bool
         ensures { result ≡ list_any (is_mini_room_of owner) self.now.book.rooms }
     {
         self.ledger.has_room_of(owner)
     }
 
-    /// How many entries the agenda has.
+    /// Returns how many entries the agenda has.
     pub fn agenda_len(&self) -> usize
         ensures { result ≡ length self.now.book.agenda }
     {
@@ -106,7 +106,7 @@ impl ToolText {
         self.ledger.hand_out()
     }
 
-    /// Takes out the first Free before which no unlinking of its point stands, and returns its point.
+    /// Removes the first Free before which no unlinking of its point stands, and returns its point.
     pub fn take_free(&mut self) -> Option<u64>
         ensures point { result ≡ point_in (books.first_free [] self.old.book.agenda) }
         ensures program { self.new.program ≡ self.old.program }
@@ -119,7 +119,7 @@ impl ToolText {
         self.ledger.take_free()
     }
 
-    /// Puts a refused Free at the back.
+    /// Puts a refused Free at the back of the agenda.
     pub fn put_back(&mut self, point: u64)
         requires { 0 < self.old.entries }
         ensures program { self.new.program ≡ self.old.program }
@@ -158,7 +158,7 @@ impl ToolText {
         self.ledger.drop_sites(owner);
     }
 
-    /// Takes the memory that the placing of so many sites needs, and their dropping.
+    /// Reserves memory for the placing and the dropping of `sites` sites.
     ///
     /// # Errors
     ///
@@ -249,7 +249,7 @@ impl ToolText {
         Ok(())
     }
 
-    /// Keeps so many rooms and entries from the front, and gives back the other rooms.
+    /// Keeps the first `rooms` rooms and the first `entries` entries, and gives back the other rooms.
     fn truncate(&mut self, rooms: usize, entries: usize)
         requires { rooms ≤ length self.old.book.rooms }
         ensures program { self.new.program ≡ self.old.program }
@@ -261,11 +261,12 @@ impl ToolText {
         self.ledger.truncate(&mut self.words, rooms, entries);
     }
 
-    /// Places the sites of an instrument, for which memory was reserved, and returns them. `memory` is their own.
+    /// Places the sites of an instrument, for which memory was reserved, and returns them. `memory` is the memory that was taken
+    /// for them.
     ///
     /// # Errors
     ///
-    /// Why the first that is refused has no room. Then nothing was placed.
+    /// Why the first site that is refused has no room. Then nothing was placed.
     pub fn place_sites(
         &mut self,
         owner: u64,

@@ -1,4 +1,4 @@
-//! Instruments are armed, read and dropped.
+//! Arms, reads and drops instruments.
 
 ghost use Rattle.std.specs.Prelude.{◌≡◌, ◌≤◌, ◌+◌, ◌⊎◌, if◌then◌else◌, IfSome, IsTrue, length};
 ghost use Rattle.std.specs.List.{range_with_len};
@@ -14,7 +14,7 @@ use crate::instrumented_machine::InstrumentedMachine;
 use instrument::InstrumentNo;
 use machine::Sample;
 
-/// The sum of the readings of so many harts from a number on, modulo 2^64.
+/// Returns the sum of the readings of `count` harts from number `first` on, modulo 2^64.
 fn sum_of(readings: &[u64], first: u32, count: u32) -> u64
     requires { first + count ≤ length readings.now }
     ensures { result ≡ sum_from readings.now first count }
@@ -46,8 +46,8 @@ impl InstrumentedMachine {
         true
     }
 
-    /// The sum of an instrument's readings of so many harts from a number on, modulo 2^64. No hart is inside a trampoline. `sample`
-    /// has a place for each hart, where their readings are put.
+    /// Returns the sum of an instrument's readings of `count` harts from number `first` on, modulo 2^64. No hart is inside a
+    /// trampoline. `sample` has a place for each hart, where their readings are put.
     pub fn read(&self, number: InstrumentNo, first: u32, count: u32, sample: &mut Sample) -> u64
         requires quiet { IsQuiet self.now.state.core }
         requires there { state_of self.now.state.placer number.n ≡ Gone → ⊥ }

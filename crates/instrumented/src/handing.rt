@@ -1,4 +1,4 @@
-//! The agenda is handed out and done.
+//! Hands out the agenda and does its entries.
 
 ghost use Rattle.std.specs.Prelude.{◌≡◌, ◌-◌, ◌<◌, ◌≤◌, IsFalse, is_some};
 ghost use Rattle.machine.specs.Effects.{after};
@@ -28,8 +28,8 @@ fn write_mini(machine: &mut Machine, mut block: Block)
     machine.write(&block);
 }
 
-/// Frees a point: true exactly where no hart bars it. Then the rooms of its unlinked blocks are given back, and else its Free is
-/// put back.
+/// Frees a point, and returns whether no hart bars it. Then the rooms of its unlinked blocks are given back; else its Free is put
+/// back.
 #[tactic(auto, using(crate::proofs::Handed::freed_core_by, crate::proofs::Handed::freed_rooms_by, crate::proofs::Handed::back_rooms_by))]
 fn free(machine: &mut Machine, placer: &mut Placer, point: u64)
     requires { 0 < placer.old.entries }
@@ -44,7 +44,7 @@ fn free(machine: &mut Machine, placer: &mut Placer, point: u64)
     }
 }
 
-/// Does what is handed out.
+/// Does what an event says.
 fn perform(machine: &mut Machine, placer: &mut Placer, event: Event)
     requires doable { IsDoable machine.old.core event }
     requires room { writes event ≤ machine.old.room }

@@ -1,3 +1,5 @@
+//! Runs a session by a team of workers.
+
 ghost use Rattle.std.specs.Prelude.{false, ◌≡◌, ◌<◌, ◌≤◌, ◌++◌, length, map, IfOk};
 ghost use Rattle.session_spec.specs.Work.{IsWhole};
 ghost use Rattle.session.specs.Sessions.{begun};
@@ -21,8 +23,8 @@ use std::sync::Wait;
 use std::thread;
 use std::thread::Threads;
 
-/// Lets a team of workers share a session that just began, each in a thread, or one after another where no thread can be made. It
-/// returns the session after all its quanta, which isn't closed.
+/// Lets a team of workers share a session that just began, each in a thread, or one after another where no thread can be made.
+/// Returns the session after all its quanta, which isn't closed.
 ///
 /// # Errors
 ///
@@ -47,7 +49,7 @@ pub fn run_live<R: Threads + Wait + Sync, G: Gate + Sync>(
     run_named::<Brand, R, G>(rt, alloc, word, session, team, gate)
 }
 
-/// The same for a run that has a name, whose session may have quanta already.
+/// Does the same for a run that has a name. Its session may have quanta already.
 ///
 /// # Errors
 ///
@@ -78,7 +80,7 @@ fn run_named<I: RunName + Send + Sync, R: Threads + Wait + Sync, G: Gate + Sync>
     Ok(session)
 }
 
-/// The work of all workers. It returns their seats.
+/// Does the work of all workers, and returns their seats.
 ///
 /// # Errors
 ///
@@ -109,7 +111,7 @@ fn serve_all<I: RunName + Send + Sync, R: Threads + Wait + Sync, G: Gate + Sync>
     all_seats(alloc, results)
 }
 
-/// All seats, if no worker was without memory.
+/// Returns all seats, if no worker ran out of memory.
 ///
 /// # Errors
 ///

@@ -1,3 +1,5 @@
+//! What lies behind the lock of a shared session.
+
 ghost use Rattle.std.specs.Prelude.{◌≡◌, ◌≤◌, ◌<◌, ◌++◌, [], ◌∷◌, length, IfOk, IfSome, IfNone, OnErr};
 ghost use Rattle.session_spec.specs.Work.{AreAllowed, Halted, quantum_of};
 ghost use Rattle.session.specs.Sessions.{state_of};
@@ -14,11 +16,11 @@ use session::Session;
 use std::marker::{Model, PhantomData};
 use std::mem;
 
-/// What lies behind the lock: the session of the run that is named. Contracts see the session.
+/// What lies behind the lock: the session of a run that has a name. Contracts see the session.
 #[derive(Drop)]
 pub struct LockedSession<I: RunName> {
     pub(crate) session: Session,
-    // How many quanta it had at first.
+    // How many quanta the session had at first.
     pub(crate) from: usize,
     // The book's seat.
     pub(crate) book: Badge<View>,
@@ -40,8 +42,8 @@ impl<I: RunName> Model for LockedSession<I> {
 }
 
 impl<I: RunName> LockedSession<I> {
-    /// The session. Whenever the lock is got, it is the work of the inputs that are named, and its quanta begin with the first
-    /// ones.
+    /// Returns the session. Whenever the lock is got, it is the session of the inputs that the name names, and its quanta begin
+    /// with the first ones.
     pub fn session(&self) -> &Session
         ensures same { result.now ≡ self.now }
         ensures inputs { result.now.inputs ≡ I.inputs }
@@ -52,8 +54,8 @@ impl<I: RunName> LockedSession<I> {
         &self.session
     }
 
-    /// A quantum of the hart, at most so many turns, for the seat's worker. It returns the receipt, which the seat keeps after its
-    /// others, and none exactly where the hart can't take a quantum, which the seat then notes.
+    /// Lets the hart take a quantum of at most `turns` turns for the seat's worker. Returns the receipt, which is appended to the
+    /// seat's others, and none exactly where the hart can't take a quantum, which the seat then notes.
     ///
     /// # Errors
     ///

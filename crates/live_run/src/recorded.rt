@@ -50,8 +50,8 @@ fn live_on<R: Threads + Wait + Sync, G: Gate + Sync>(
     record_end(alloc, settings, &mut session, course.skipped)
 }
 
-/// Runs a program with its instruments by a team of workers, until none of its harts can take another quantum. It returns the
-/// report and the log.
+/// Runs a program with its instruments by a team of workers, until none of its harts can take another quantum. Returns the report
+/// and the log.
 ///
 /// # Errors
 ///

@@ -1,3 +1,5 @@
+//! A session that workers share.
+
 ghost use Rattle.std.specs.Prelude.{false, ◌≡◌, ◌<◌, ◌≤◌, ◌++◌, [], ◌∷◌, length, map, Some, vec_capacity, IfOk, IfSome, IfNone, OnErr};
 ghost use Rattle.live_run.specs.declared.view.Book.{Book};
 ghost use Rattle.live_run.specs.Receipts.{AreBelow, entries_past};
@@ -22,15 +24,15 @@ use std::sync::{Mutex, Wait};
 pub struct Shared<I: RunName> {
     word: NamedWord<I>,
     lock: Mutex<LockedSession<I>>,
-    // The memory of what `finish` answers.
+    // The memory of what `finish` returns.
     answer: Vec<Vec<Receipt>>,
     ghost empty: { answer.items ≡ [] },
     ghost room: { I.workers ≤ vec_capacity answer },
 }
 
 impl<I: RunName> Shared<I> {
-    /// Shares a session among so many workers, at most [`MAX_WORKERS`]. It returns a seat for each, by the workers' numbers. The
-    /// word is the session's, and both are what the name names.
+    /// Shares a session among `workers` workers, at most [`MAX_WORKERS`]. Returns also a seat for each, by the workers' numbers.
+    /// The word is the session's, and both are those of the run that has the name.
     ///
     /// # Errors
     ///
@@ -54,8 +56,8 @@ impl<I: RunName> Shared<I> {
         Ok((Shared { word, lock, answer }, seats))
     }
 
-    /// A quantum of the hart, at most so many turns, for the seat's worker, once the lock is got. It returns the receipt, which the
-    /// seat keeps after its others, and none where the hart can't take a quantum, which the seat then notes.
+    /// Lets the hart take a quantum of at most `turns` turns for the seat's worker, once the lock is got. Returns the receipt,
+    /// which is appended to the seat's others, and none where the hart can't take a quantum, which the seat then notes.
     ///
     /// # Errors
     ///
@@ -78,7 +80,7 @@ impl<I: RunName> Shared<I> {
         self.lock.lock(rt).quantum(&self.word, seat, hart, turns)
     }
 
-    /// Ends the sharing: it takes all seats, by the workers' numbers, and returns the session, and the receipts of each. The
+    /// Ends the sharing: takes all seats, by the workers' numbers, and returns the session and the receipts of each worker. The
     /// session's quanta are the first ones and then the workers' entries: each entry is in the receipts of its worker, with its
     /// number and in order, and they have no other. A hart that a seat noted is halted.
     pub fn finish(self, seats: Vec<Seat<I>>) -> (Session, Vec<Vec<Receipt>>)
@@ -111,7 +113,7 @@ impl<I: RunName> Shared<I> {
     }
 }
 
-/// The word under its name, and the book's seat.
+/// Returns the word under its name, and the book's seat.
 fn named<I: RunName>(word: Word) -> (NamedWord<I>, TableSeat)
     requires named { word.table.shared.table_id ≡ I.word }
     requires inputs { word.table.shared.key.inputs ≡ I.inputs }
@@ -129,7 +131,7 @@ fn named<I: RunName>(word: Word) -> (NamedWord<I>, TableSeat)
     )
 }
 
-/// The session with the book's seat, as they lie behind the lock.
+/// Returns the session with the book's seat, as they lie behind the lock.
 fn locked<I: RunName>(session: Session, book: TableSeat) -> LockedSession<I>
     requires session { (session.closed ≡ false) × (session.inputs ≡ I.inputs) × (session.quanta ≡ I.first) }
     requires book { (book.table_id ≡ I.word) × (book.me ≡ (keeping (a_book (length I.first) [] I.workers), [])) }
@@ -144,7 +146,7 @@ fn locked<I: RunName>(session: Session, book: TableSeat) -> LockedSession<I>
     }
 }
 
-/// Splits a seat for each worker off the book's, which it returns.
+/// Splits a seat for each worker off the book's seat, which it returns.
 fn hire_all<I: RunName>(
     alloc: Global,
     word: &NamedWord<I>,
@@ -170,7 +172,7 @@ fn hire_all<I: RunName>(
     book
 }
 
-/// Joins all seats into the book's, which it returns, and puts the receipts of each into the answer.
+/// Joins all seats into the book's seat, which it returns, and puts the receipts of each worker into the answer.
 fn gather<I: RunName>(
     word: &NamedWord<I>,
     mut book: TableSeat,
@@ -196,7 +198,7 @@ fn gather<I: RunName>(
     book
 }
 
-/// Ends the word. From here on what its rule says of the seat is known.
+/// Ends the word. Afterwards what its rule says of the seat is known.
 fn settle(table: EntryTable, seat: TableSeat)
     requires table { seat.table_id ≡ table.shared.table_id }
     requires slots { table.shared.table_id.slots ≡ 0 }

@@ -1,3 +1,5 @@
+//! The work of one worker.
+
 ghost use Rattle.std.specs.Prelude.{◌≡◌, ◌<◌, ◌≤◌, IfOk};
 ghost use Rattle.live_run.specs.Seats.{fresh_seat};
 ghost use Rattle.live_run.specs.Serving.{AreHartsBelow, IsServed};
@@ -12,8 +14,8 @@ use std::alloc::Global;
 use std::collections::VecDeque;
 use std::sync::Wait;
 
-/// The work of one worker: it takes quanta of its harts in turn, each behind the gate, and leaves a hart that is halted. It returns
-/// its seat when it has left them all.
+/// Does the work of one worker: it takes quanta of its harts in turn, passes the gate before each, and leaves a hart that is
+/// halted. Returns its seat when it has left them all.
 ///
 /// # Errors
 ///
@@ -49,7 +51,7 @@ pub fn serve<I: RunName, R: Wait, G: Gate>(
     Ok(seat)
 }
 
-/// The harts of the worker, by number.
+/// Returns the harts of the worker, by number.
 ///
 /// # Errors
 ///

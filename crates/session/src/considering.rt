@@ -1,4 +1,4 @@
-//! Wishes are looked at, with what they need at hand.
+//! Looks at wishes, for which memory was taken.
 
 ghost use Rattle.std.specs.Prelude.{◌≡◌, ◌+◌, ◌<◌, ◌≤◌, ◌++◌, List, None, Some, find, length, map, not};
 ghost use Rattle.std.specs.Option.{option_map};
@@ -29,21 +29,21 @@ use session_spec::RefusedWish;
 use std::alloc::Global;
 use std::collections::VecDeque;
 
-/// Whether two foci are the same.
+/// Returns whether two foci are the same.
 fn same(a: &Focus, b: &Focus) -> bool
     ensures { result ≡ is_same_focus (Some a.now) (Some b.now) }
 {
     a == b
 }
 
-/// Whether the instrument is being placed or armed.
+/// Returns whether the instrument is being placed or armed.
 fn stands(machine: &InstrumentedMachine, number: InstrumentNo) -> bool
     ensures { result ≡ not (is_leaving (state_of machine.now.state.placer number.n)) }
 {
     matches!(machine.state(number), State::Placing | State::Armed)
 }
 
-/// Whether a pair is shown that is the wish's.
+/// Returns whether a pair is the wish's, and is shown.
 fn shows(machine: &InstrumentedMachine, kit: &Kit, wish: &CheckedWish) -> bool
     ensures { result ≡ shows machine.now.state.placer wish.now kit.now.shown }
 {
@@ -53,7 +53,7 @@ fn shows(machine: &InstrumentedMachine, kit: &Kit, wish: &CheckedWish) -> bool
         && stands(machine, kit.shown.instrument)
 }
 
-/// The instrument that shows the pair of a wish.
+/// Returns the instrument that shows the pair of a wish.
 fn find_shown(
     machine: &InstrumentedMachine,
     kits: &[Kit],
@@ -66,7 +66,7 @@ fn find_shown(
 }
 
 impl Desk {
-    /// Puts a wish among those that are refused, if there is a cause. There is room for it.
+    /// Appends a wish to the refused ones, if there is a cause. There is room for it.
     fn refuse(&mut self, wish: &CheckedWish, cause: Option<PickCause>)
         requires room { 0 < self.old.room }
         ensures kept { (ws : List CheckedWish) → kept_of ws self.new ≡ with_refused cause wish.now (kept_of ws self.old) }

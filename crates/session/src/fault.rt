@@ -1,3 +1,5 @@
+//! Why a session doesn't begin.
+
 use pn_types::{NoMemory, PickCause, Text};
 
 /// Why a session doesn't begin.

@@ -7,11 +7,11 @@ use mdl_check::CheckedWish;
 use pn_types::{Focus, NoMemory};
 use std::alloc::Global;
 
-/// Puts a copy of a wish after the others.
+/// Appends a copy of a wish.
 fn put(list: &mut Vec<CheckedWish>, wish: &CheckedWish) -> Result<(), NoMemory>
     ensures { list.new.items ≡ (if is_ok result then list.old.items ++ wish.now ∷ [] else list.old.items) }
 {
-    // Its focus is put together here: the prover takes none that was made elsewhere.
+    // The focus is written out here, since the prover doesn't take one that was made elsewhere.
     list.push(CheckedWish {
         at: wish.at,
         show: wish.show,
@@ -25,7 +25,7 @@ fn put(list: &mut Vec<CheckedWish>, wish: &CheckedWish) -> Result<(), NoMemory>
     Ok(())
 }
 
-/// The wishes of the opening, in the order of the text.
+/// Copies the wishes of the opening, in the order of the text.
 ///
 /// # Errors
 ///
@@ -42,7 +42,7 @@ pub(crate) fn first(alloc: Global, wishes: &[CheckedWish]) -> Result<Vec<Checked
     Ok(list)
 }
 
-/// The wishes after the opening, in the order of the text.
+/// Copies the wishes after the opening, in the order of the text.
 ///
 /// # Errors
 ///
@@ -59,7 +59,7 @@ fn after_opening(alloc: Global, wishes: &[CheckedWish]) -> Result<Vec<CheckedWis
     Ok(list)
 }
 
-/// The later wishes, by tick, and those of one tick in the order of the text.
+/// Copies the later wishes, in the order of their ticks, and those of one tick in the order of the text.
 ///
 /// # Errors
 ///

@@ -19,7 +19,7 @@ use pn_types::NoMemory;
 use session_spec::RefusedWish;
 use std::alloc::Global;
 
-/// The desk after the admissions of the opening.
+/// Makes the desk after the admissions of the opening.
 ///
 /// # Errors
 ///
@@ -37,14 +37,14 @@ fn admitted(alloc: Global, inputs: &Inputs, costs: &mut KnownCosts) -> Result<De
     Ok(desk)
 }
 
-/// The first wish that was refused, if one was.
+/// Returns the first wish that was refused, if one was.
 fn first_refused(refused: &[RefusedWish]) -> Option<&RefusedWish>
     ensures { option_map (λ wish. wish.now) result ≡ first_refused refused.now }
 {
     refused.first()
 }
 
-/// Whether a wish of the opening is refused.
+/// Returns an error where a wish of the opening is refused.
 ///
 /// # Errors
 ///
@@ -63,7 +63,7 @@ fn pick(alloc: Global, inputs: &Inputs, refused: &[RefusedWish]) -> Result<(), S
     }
 }
 
-/// The desk after the opening.
+/// Makes the desk after the opening.
 ///
 /// # Errors
 ///

@@ -1,4 +1,4 @@
-//! Nodes of the search are taken, one after another, with what they need at hand.
+//! Takes nodes of the search, one after another, for which memory was taken.
 
 ghost use Rattle.std.specs.Prelude.{◌≡◌, ◌+◌, ◌<◌, ◌≤◌, ◌^◌, List, false, length, map, slice_get};
 ghost use Rattle.std.specs.List.{AllByRecursion};
@@ -28,7 +28,7 @@ use std::collections::VecDeque;
 use w3_search::NodeState;
 
 impl Desk {
-    /// What a pair adds to the costs in force, in words.
+    /// Returns what a pair adds to the costs in force, in words.
     fn counted(&self, kit: &Kit) -> u64
         ensures { result ≡ counted self.now.machine.state.placer kit.now }
     {
@@ -38,7 +38,7 @@ impl Desk {
         kit.cost
     }
 
-    /// The costs in force of the search, in words.
+    /// Returns the costs in force of the search, in words.
     pub(crate) fn in_force(&self) -> u64
         requires few { length self.now.kits < 2 ^ 31 }
         requires low { AllByRecursion (λ k. k.cost < 2 ^ 32) self.now.kits }
@@ -53,7 +53,7 @@ impl Desk {
         force
     }
 
-    /// Whether a node waits.
+    /// Returns whether a node waits.
     fn waits(&self, node: u32) -> bool
         ensures { result ≡ option_map_or (λ node. is_waiting node.state) (slice_get self.now.search.nodes node) false }
     {
@@ -75,8 +75,8 @@ impl Desk {
         }
     }
 
-    /// Takes a node, for which there is room, where the costs in force are these. Its plan is ready. It returns the costs in force
-    /// after it.
+    /// Takes a node, for which there is room and whose plan is ready, where `force` are the costs in force. Returns the costs in
+    /// force afterwards.
     fn take_node(
         &mut self,
         alloc: Global,

@@ -22,7 +22,8 @@ pub fn samples_read()
     ensures { SamplesRead }
 {}
 
-/// What was told of samples when they were taken is, of each wished pair, what was recorded for it, and of no other place.
+/// What was told of samples when they were taken is, for each wished pair, what was recorded for it, and nothing was told of any
+/// other place.
 pub fn feed_told()
     ensures { FeedTold }
 {}
@@ -40,8 +41,8 @@ pub fn printed_told()
 
 // ---- The search.
 
-/// The verdict on each node is come to by the samples of an instrument of its own: from its arming on, as many as the window has.
-/// It is that of the program's own run from the arming to the last of them, which comes later. After the end each node has its
+/// Each node's verdict is that of the samples of an instrument of its own: from its arming on, as many as the window has. It is the
+/// verdict on the program's own run from the arming to the last of them, which comes later. After the end each node has its
 /// verdict, or was barred when its turn came, or its phase or the search ended before its window did.
 pub fn verdicts_told()
     ensures { VerdictsTold }

@@ -10,7 +10,7 @@ use crate::sight::{Admits, Cell};
 use pn_types::NoMemory;
 use std::alloc::Global;
 
-/// A gauge with its writer and so many readers, from 1 to 8.
+/// Makes a gauge with its writer and `readers` readers, from 1 to 8.
 ///
 /// # Errors
 ///

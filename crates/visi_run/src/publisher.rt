@@ -52,7 +52,7 @@ impl Model for View {
     ghost invariant = { λ v. IsTaker (receives_on v.receiver) v.taken.items v.pass };
 }
 
-/// A publisher and so many views, from 1 to 8, each with a channel that has room for so many items, from 1 to 1,024.
+/// Makes a publisher and `views` views, from 1 to 8, each with a channel that has room for `room` items, from 1 to 1,024.
 ///
 /// # Errors
 ///
@@ -93,7 +93,7 @@ fn open_all(
     Ok(())
 }
 
-// One channel.
+/// One channel.
 fn open(alloc: Global, room: u32) -> Result<(Lane, View), NoMemory>
     requires { 0 < room }
     ensures { IfOk result (λ r. (r.0.all ≡ []) × (r.1.taken ≡ []) × (r.1.line ≡ r.0.line)) }
@@ -141,7 +141,7 @@ impl Publisher {
 }
 
 impl View {
-    /// The next item, if one has come, which is appended to what the view took.
+    /// Takes the next item, if one has come, and appends it to what the view took.
     ///
     /// # Errors
     ///
@@ -161,7 +161,7 @@ impl View {
         }
     }
 
-    /// What it took, in order.
+    /// Returns what the view took, in order.
     pub fn taken(&self) -> &[Latest]
         ensures { result.now ≡ self.now.taken }
     {
@@ -169,8 +169,8 @@ impl View {
     }
 }
 
-/// The whole list of each view, in the order of the views, all of which are the publisher's: what was published, each item once and
-/// in order.
+/// Returns the whole list of each view, in the order of the views, all of which are the publisher's: what was published, each item
+/// once and in order.
 ///
 /// # Errors
 ///

@@ -1,4 +1,4 @@
-//! A run that is viewed.
+//! Runs a session before views.
 
 ghost use Rattle.std.specs.Prelude.{◌≡◌, ◌≤◌, true, false, length, map, IfErr, IfOk, OnOk, None};
 ghost use Rattle.std.specs.List.{AllByRecursion};
@@ -30,7 +30,7 @@ use std::thread;
 use std::thread::Threads;
 use whole_run::Rounds;
 
-/// For how many items the channel of a view has room.
+/// The number of items for which the channel of a view has room.
 const ROOM: u32 = 64;
 
 /// In which order harts take quanta, and how many view the run.
@@ -44,7 +44,7 @@ pub struct ViewedCourse {
     pub views: u32,
 }
 
-/// Lets a session take the quanta that are left of the seed's, each behind the gate, and tells of each.
+/// Lets a session take the quanta of the seed that are left, passes the gate before each, and tells the views of each.
 ///
 /// # Errors
 ///
@@ -76,7 +76,7 @@ fn take_all<R: Wait, G: Gate>(
     unreachable!()
 }
 
-/// Runs a session to its end in rounds, and tells of each step.
+/// Runs a session to its end in rounds, and tells the views of each step.
 ///
 /// # Errors
 ///
@@ -100,7 +100,7 @@ fn run<R: Wait, G: Gate>(
     Ok((session, outlet))
 }
 
-/// What is left of a run before views.
+/// What remains of a run before views.
 #[derive(Drop)]
 struct Streamed {
     /// The session, which is closed.
@@ -141,7 +141,7 @@ fn stream<R: Threads + Wait + Sync, G: Gate + Sync>(
     let seats = pair(alloc, views, readers, parkers)?;
     let rounds = Rounds::begin(alloc, &session, harts, course.seed, course.turns)?;
     let outlet = Outlet::new(publisher, writer, &session);
-    // The run is on this thread: where there is no other, the views follow it when it has ended.
+    // The run is on this thread: where no other can be made, the views follow when it has ended.
     let (seats, ran) = thread::join(
         rt,
         || -> Result<Vec<Seat>, NoMemory>
@@ -153,7 +153,7 @@ fn stream<R: Threads + Wait + Sync, G: Gate + Sync>(
             ensures { IfOk result (λ r. HasRun session.inputs rounds.seed rounds.turns outlet r.0 r.1) }
         {
             let ran = run(rt, &board, rounds, session, outlet, gate);
-            // Also where it failed, so that no view waits for ever.
+            // This is done even where the run failed, so that no view waits for ever.
             board.end();
             ran
         },
@@ -198,14 +198,14 @@ fn view_on<R: Threads + Wait + Sync, G: Gate + Sync>(
     streamed.session.laws();
     let parts = streamed.session.parts()?;
     if streamed.last.published != count_first(&streamed.lists) as u64 {
-        // The gauge counted what each view was given.
+        // The gauge has counted what each view was given.
         unreachable!();
     }
     visi_text(alloc, parts.shown.as_slice(), &streamed.lists)
 }
 
 /// Runs a program with its instruments, with quanta in the order of a seed as [`record_run`](whole_run::record_run) does, while
-/// view threads follow it, each of which is given all samples of what was wished. It returns the text of what each was given.
+/// view threads follow it, each of which is given all samples of what was wished. Returns the text of what each was given.
 ///
 /// The run passes the gate as worker 0 before its quantum number n, and view number v as worker v + 1 after its item number n, both
 /// from 0.

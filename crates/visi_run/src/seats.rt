@@ -1,4 +1,4 @@
-// The seats of all views.
+//! The seats of all views.
 
 ghost use Rattle.std.specs.Prelude.{◌≡◌, Ok, length, map, IfOk};
 ghost use Rattle.atomic_table.specs.Seated.{TableId};
@@ -18,7 +18,7 @@ use std::sync::Wait;
 use std::thread;
 use std::thread::Threads;
 
-/// Each view follows the run in a thread, if there is one to be had.
+/// Lets each view follow the run, in a thread of its own where one can be made.
 ///
 /// # Errors
 ///
@@ -46,7 +46,7 @@ pub fn follow_all<R: Threads + Wait + Sync, G: Gate + Sync>(
     Ok(seats)
 }
 
-// All seats, if no view was without memory.
+/// Returns all seats, if no view ran out of memory.
 fn all_seats(alloc: Global, results: Vec<Result<Seat, NoMemory>>) -> Result<Vec<Seat>, NoMemory>
     ensures { IfOk result (λ seats. results.items ≡ map (λ seat. Ok seat) seats.items) }
 {
@@ -60,7 +60,7 @@ fn all_seats(alloc: Global, results: Vec<Result<Seat, NoMemory>>) -> Result<Vec<
     Ok(seats)
 }
 
-/// Each view gets a reader of the gauge, and what it sleeps by.
+/// Gives each view a reader of the gauge and what it sleeps by.
 ///
 /// # Errors
 ///
@@ -96,7 +96,7 @@ pub fn pair(
     Ok(seats)
 }
 
-/// The views and the readers of all seats.
+/// Takes seats apart into the views and the readers.
 ///
 /// # Errors
 ///

@@ -1,4 +1,4 @@
-//! Harts take quanta in the order of a seed.
+//! Lets harts take quanta in the order of a seed.
 
 ghost use Rattle.std.specs.Prelude.{◌≡◌, ◌<◌, ◌≤◌, ◌==◌, ◌||◌, ◌++◌, ◌∷◌, [], false, length, IfNone, IfOk, IfSome, OnOk};
 ghost use Rattle.machine.specs.Turns.{is_runnable};
@@ -13,7 +13,7 @@ use session::Session;
 use std::alloc::Global;
 use turn_order::{Order, Ready};
 
-/// The harts that can take a quantum, by number, where there are fewer quanta than there may be.
+/// Fills in the harts that can take a quantum, by number: none where there are as many quanta as there may be.
 ///
 /// # Errors
 ///
@@ -33,7 +33,7 @@ fn fill(session: &Session, harts: u32, ready: &mut Ready) -> Result<(), NoMemory
     Ok(())
 }
 
-/// The same after a quantum of a hart, from the list before it: where no work was done, no other hart can have stopped.
+/// Does the same after a quantum of a hart, from the list before it: where no work was done, no other hart can have stopped.
 ///
 /// # Errors
 ///
@@ -55,19 +55,19 @@ fn refresh(session: &Session, harts: u32, hart: HartNo, ready: &mut Ready) -> Re
     Ok(())
 }
 
-/// The harts of a session as they take quanta of at most so many turns, in the order of a seed.
+/// The harts of a session as they take quanta in the order of a seed, with a limit of the turns of each.
 #[derive(Drop)]
 pub struct Rounds {
     seed: u32,
     turns: u32,
     harts: u32,
     order: Order,
-    // Those that can take the next quantum.
+    // The harts that can take the next quantum.
     ready: Ready,
 }
 
 impl Rounds {
-    /// Those of a session that just began.
+    /// Makes the rounds of a session that just began.
     ///
     /// # Errors
     ///
@@ -97,12 +97,12 @@ impl Rounds {
         })
     }
 
-    /// Lets the next hart take its quantum. It returns that, and none where none can follow: then the session's quanta are the
-    /// whole list of the seed.
+    /// Lets the next hart take its quantum. Returns it, or none where none can follow: then the session's quanta are the whole list
+    /// of the seed.
     ///
     /// # Errors
     ///
-    /// `NoMemory` where memory runs out. Then no round may follow.
+    /// `NoMemory` where memory runs out. Then these rounds mustn't be used any more.
     pub fn next(&mut self, session: &mut Session) -> Result<Option<Quantum>, NoMemory>
         requires { StandAt self.old session.old }
         ensures at { OnOk result (StandAt self.new session.new) }
@@ -128,7 +128,7 @@ impl Rounds {
     }
 }
 
-/// Lets the harts of a session that just began take quanta of at most so many turns, in the order of a seed, until none can follow.
+/// Lets the harts of a session that just began take quanta of at most `turns` turns, in the order of a seed, until none can follow.
 ///
 /// # Errors
 ///
