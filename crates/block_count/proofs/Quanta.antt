@@ -10,7 +10,7 @@ use Rattle.machine.specs.Turns.{is_runnable}
 use Rattle.machine.proofs.Replaying.{replay-append}
 use Rattle.block_count.specs.Course.{Pace, all_quanta, and_then, quanta_from}
 
--- after at most so many quanta
+-- after at most a number of quanta
 pub behind : ℕ → Pace → Order → Core → Core
 behind more p order c = replay (quanta_from more p order c) c
 

@@ -14,7 +14,7 @@ abbrev pub numbers_line : ℕ → ℕ → ℕ → ℕ → List ℕ
 numbers_line blocks harts ticks unmovable =
     codes "blocks " ++ decimal blocks ++ codes " harts " ++ decimal harts ++ codes " ticks " ++ decimal ticks ++ codes " unmovable " ++ decimal unmovable ++ codes "\n"
 
--- what a report says of a hart with so many ticks, which ended so
+-- what a report says of a hart with its ticks and how it ended
 abbrev pub part_of : ℕ × HartStop → HartPart
 part_of p = record { ticks = p.0; stop = p.1.stop; pc = p.1.pc }
 

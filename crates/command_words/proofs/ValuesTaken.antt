@@ -88,7 +88,7 @@ given_moved xs ys zs name value none n =
     by true e = inr (ap (given_in ys) (sym (same_bytes name n e)) ∙ none)
     by false e = inl (ap (λ b. option_map (λ (t : Text × Text). t.1) (cond b (Some (name, value)) None)) e)
 
--- ---- answers that give the same
+-- ---- results that give the same
 
 -- neither, or both with the same value for each name
 abbrev pub SameGiven : Option Taken → Option Taken → Type 0

@@ -24,7 +24,7 @@ place_in given name = unwrap_or (given name) []
 abbrev pub start_named : Text → Option Start
 start_named text = if bytes_eq text (codes "cold") then Some Cold else if bytes_eq text (codes "warm") then Some Warm else None
 
--- the start that is given, and else warm
+-- the start that is given, or `warm` where none is
 abbrev pub start_given : Given → Option Start
 start_given given = option_map_or start_named (given (codes "start")) (Some Warm)
 

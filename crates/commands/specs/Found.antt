@@ -15,7 +15,7 @@ use Rattle.refusals.specs.declared.fault.Fault.TheVariants.{BadConf}
 use Rattle.resource_tree.specs.Resources.{Resources, tree_of}
 use Rattle.commands.specs.declared.finding.Found.{Found}
 
--- the resources of a program on so many harts, where a configuration tells the beginnings of the objects' names
+-- the resources of a program on a number of harts, where a configuration tells the beginnings of the objects' names
 abbrev pub resources_of : Image → ℕ → Conf → Resources
 resources_of image harts conf = tree_of (procedures_of image) (objects_of image) harts (prefixes_of shipped_conf.items conf.items)
 

@@ -13,8 +13,8 @@ use Rattle.commands.specs.Sights.{seen, CountedFor}
 use Rattle.commands.specs.declared.texts.Texts.{Texts}
 use Rattle.headline.specs.declared.top.Reply.{Reply}
 
--- An answer is due for words and what was seen of the files. What these hold stays, and no count of faults rose but that
--- of a file which the answer names as unread.
+-- An answer is due for words and what was seen of the files. What the files hold stays the same, and no count of faults rose but
+-- that of a file which the answer names as unread.
 pub record IsOwed {F : Type 0} (holds : F → List ℕ → Holding) (faults : F → List ℕ → ℕ) (old new : F) (words : List (List ℕ)) (answer : Result Texts Fault) : Type 0 where
   pub due : IsDue words (seen (holds old) (faults old) (faults new)) answer
   pub same : (name : List ℕ) → holds new name ≡ holds old name
@@ -38,7 +38,7 @@ abbrev pub AreGained : {K L : Type 0} → (K → Option (List ℕ)) → (K → �
 AreGained hasK faultsK oldK newK hasL faultsL oldL newL texts =
     Gained hasK faultsK oldK newK texts.out × Gained hasL faultsL oldL newL texts.log
 
--- one sink has a part of its text only: the log, and the output nothing; or the output, and the log all
+-- one sink has only a part of its text: the log, and then the output has nothing; or the output, and then the log has all
 abbrev pub AreTorn : {K L : Type 0} → (K → Option (List ℕ)) → (K → ℕ) → K → K → (L → Option (List ℕ)) → (L → ℕ) → L → L → Texts → Type 0
 AreTorn hasK faultsK oldK newK hasL faultsL oldL newL texts =
     ((newK ≡ oldK) × IsTorn hasL faultsL oldL newL texts.log) ⊎ (Gained hasL faultsL oldL newL texts.log × IsTorn hasK faultsK oldK newK texts.out)
@@ -57,13 +57,13 @@ pub record IsServed {F K L : Type 0} (holds : F → List ℕ → Holding) (fault
   pub torn : status ≡ 7 → (answer : Result Texts Fault) × IsOwed holds faults old new words answer × AreTorn hasK faultsK oldK newK hasL faultsL oldL newL (texts_of answer)
   -- 8: nothing was written, and nothing was read beyond what is due.
   pub memory : status ≡ 8 → (newK ≡ oldK) × (newL ≡ oldL) × IsUntold holds faults old new words
-  -- Complete: where texts are due and no sink failed, they were given, or memory was wanting.
+  -- Complete: where texts are due and no sink failed, they were given, or memory ran out.
   pub complete : AreTold holds faults old → (due : Texts) → IsOwed holds faults old new words (Ok due) → IsSpared (faultsK oldK) (faultsK newK) → IsSpared (faultsL oldL) (faultsL newL) → (status ≡ 0) ⊎ (status ≡ 8)
-  -- A file that could not be read, and a sink that failed, tell themselves by the status.
+  -- The status tells of a file that could not be read and of a sink that failed.
   pub unread : (name : List ℕ) → (faults new name ≡ faults old name → ⊥) → (status ≡ 3) ⊎ ((status ≡ 7) ⊎ (status ≡ 8))
   pub unwritten : (faultsK newK ≡ faultsK oldK → ⊥) ⊎ (faultsL newL ≡ faultsL oldL → ⊥) → status ≡ 7
 
--- for proofs alone: what an answer comes to, where memory wasn't wanting
+-- for proofs alone: what an answer comes to, where memory didn't run out
 abbrev pub told_of : Result Texts Refusal → Option (Result Texts Fault)
 told_of (Ok texts) = Some (Ok texts)
 told_of (Err (refusal.Fault fault)) = Some (Err fault)

@@ -49,7 +49,7 @@ space_none {A} s from units space xs k x none low high = record {
 
 -- ---- an instrument is put after the others
 
--- the first of the lowest so many slots beside those of instruments
+-- the first of the lowest slots of a number beside those of instruments
 abbrev pub found_in : List Instrument → ℕ → Option ℕ
 found_in instruments count = slots_for (flat_map (λ i. places_of i.placed) instruments) count
 

@@ -49,7 +49,7 @@ at_get [] k d l = absurd (omega arith)
 at_get (x ∷ xs) zero d l = refl
 at_get (x ∷ xs) (suc k) d l = at_get xs k d (omega arith)
 
--- what the search answers
+-- what the search returns
 pub record IsPlace (xs : List Instrument) (n : ℕ) (o : Option ℕ) : Type 0 where
   pub within : IfSome o (λ place. place < length xs)
   pub some : IfSome o (λ place. option_map (λ i. i.no) (slice_get xs place) ≡ Some n)

@@ -47,7 +47,7 @@ find_no p from (suc n) f =
     let no : p from ≡ false = ⊎_elim (λ k. absurd (f from k)) (λ k. k) (cases_Bool (p from)) in
     cond-false (p from) (Some from) (find p (range_with_len (from + 1) n)) no ∙ find_no p (from + 1) n f
 
--- a room that a space answers is the lowest
+-- a room that a space returns is the lowest
 pub lowest_room : (space : Rooms) (free : ℕ → Bool) → Tied space free → (from units at len : ℕ) → from ≤ at → at < from + units → IsLowestRoom space at len → lowest free from units len ≡ Some at
 unfolding lowest
 lowest_room space free t from units at len lo hi r =

@@ -44,7 +44,7 @@ mini_room owner m = record { point = m.point; at = m.at; len = length m.words; b
 abbrev pub is_base_of : ℕ → Room → Bool
 is_base_of p x = x.base && ((x.point == p) && is_held x.hold)
 
--- so it is of a mini block
+-- the same of a mini block
 abbrev pub is_mini_of : ℕ → Room → Bool
 is_mini_of p x = not x.base && ((x.point == p) && is_held x.hold)
 

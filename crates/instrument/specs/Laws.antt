@@ -17,7 +17,7 @@ use Rattle.instrument.specs.declared.entry.Entry.TheVariants.{WriteBase, WriteMi
 use Rattle.instrument.specs.declared.number.State.TheVariants.{Placing, Armed}
 use Rattle.instrument.specs.declared.room.Room.{Room}
 
--- ---- what is so after all acts
+-- ---- what holds after all acts
 
 -- no two rooms share a word, and each has words
 abbrev pub AreApart : List Room → Type 0

@@ -1,4 +1,4 @@
--- For proofs alone: the listed instruments stand in the order of their numbers.
+-- For proofs alone: the listed instruments are in the order of their numbers.
 use Rattle.std.specs.Prelude.{ℕ, ◌<◌, List, [], ◌∷◌}
 use Rattle.machine.specs.Cores.{In}
 use Rattle.instrument.specs.declared.instrument.Instrument.{Instrument}

@@ -45,7 +45,7 @@ pub record IsNumbered (p : Placements) : Type 0 where
 pub record StatesStay : Type 0 where
   pub first : (image : Image) (limit : ℕ) → IsNumbered (no_placements image limit)
   pub numbered : (k : Call) (p : Placements) → IsNumbered p → IsNumbered (called k p)
-  -- one that is gone stays so
+  -- one that is gone stays gone
   pub gone : (k : Call) (p : Placements) (n : ℕ) → IsNumbered p → n < p.count → state_of p n ≡ Gone → state_of (called k p) n ≡ Gone
   -- one that wasn't dropped is placing or armed, until it is
   pub held : (k : Call) (p : Placements) (n : ℕ) → IsNumbered p → is_leaving (state_of p n) ≡ false → IsNoDrop n k → is_leaving (state_of (called k p) n) ≡ false

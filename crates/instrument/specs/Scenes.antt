@@ -37,7 +37,7 @@ pub data Act : Type 0 where
   Drops : (n : ℕ) → Act
   -- the first entry of the agenda is handed out and done; a Free that a hart bars goes to the back
   Hands : Act
-  -- the first Free that no unlinking of its point stands before is done
+  -- the first Free before which no unlinking of its point stands is done
   Sweeps : Act
 
 -- the events that were done, and the scene after them

@@ -73,7 +73,7 @@ taken_same p = by (first_free [] p.book.agenda) refl
 
 -- ---- an admission writes two at each site at most
 
--- so many more at most
+-- at most a number more
 abbrev FewMore : ℕ → Book → Result Book Refused → Type 0
 FewMore n book (Ok after) = writes_in after.agenda ≤ writes_in book.agenda + n
 FewMore n book (Err refused) = Unit {0}

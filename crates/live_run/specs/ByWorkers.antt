@@ -22,7 +22,7 @@ pub record IsByWorkers (workers turns : ℕ) (quanta : List Quantum) : Type 0 wh
   pub in_turn : (before between after : List Quantum) (x y : Quantum) → quanta ≡ (before ++ x ∷ between) ++ y ∷ after → x.hart ≡ y.hart → times x.hart between ≡ 0
       → (hart : ℕ) → hart % workers ≡ x.hart % workers → hart ≢ x.hart → 0 < times hart after → times hart between ≡ 1
 
--- A whole list of quanta that so many workers shared.
+-- A whole list of quanta that a number of workers shared.
 pub record IsShared (i : Inputs) (workers turns : ℕ) (quanta : List Quantum) : Type 0 where
   pub whole : IsWhole i quanta
   pub by_workers : IsByWorkers workers turns quanta

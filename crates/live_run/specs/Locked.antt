@@ -1,4 +1,4 @@
--- For proofs alone: what is so whenever the lock is free, of a seat, under the lock, and at the end.
+-- For proofs alone: what holds whenever the lock is free, of a seat, under the lock, and at the end.
 use Rattle.std.specs.Prelude.{false, ◌≡◌, ℕ, ◌<◌, List, [], ◌∷◌, ◌++◌, length, map, Some}
 use Rattle.std.specs.List.{AllByRecursion}
 use Rattle.atomic_table.specs.Table.{Me}
@@ -49,7 +49,7 @@ pub record IsSeated (word : TableId) (worker : ℕ) (receipts : List Receipt) (t
   pub below : worker < MAX_WORKERS
   pub me_is : me ≡ (working (own_list worker receipts) me.0.notes, [])
 
--- before a step under the lock: one seat has the book, with so many entries, and the other its own list and its notes
+-- before a step under the lock: one seat has the book, with a number of entries, and the other its own list and its notes
 pub record AreToMeet (book seat : Me Quantum View) (made : ℕ) (b : Book) (o : OwnList) (ns : List Note) : Type 0 where
   pub book_is : book ≡ (keeping b, [])
   pub seat_is : seat ≡ (working o ns, [])

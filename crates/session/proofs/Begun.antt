@@ -136,7 +136,7 @@ pub passed : {A : Type 0} (i : Inputs) (r : Result A StartFault) (fault : StartF
 passed i (Ok a) fault is f = absurd is
 passed i (Err x) fault is f = subst (IsStartFault i) (sym is) f
 
--- nothing is asked of a fault where an answer is
+-- nothing is asked of a fault where there is a value
 pub never : {A : Type 0} (P : A → Type 0) (Q : StartFault → Type 0) (r : Result A StartFault) → IsErrAnd r Q → IfOk r P
 never P Q (Ok a) is = absurd is
 never P Q (Err x) is = tt

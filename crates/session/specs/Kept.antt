@@ -21,7 +21,7 @@ use Rattle.session.specs.Given.{AreGiven, IsWishOf}
 use Rattle.session.specs.Sessions.{state_at}
 use Rattle.session.specs.Tables.{IsMore, IsStill, IsTableOf, Table, first_table, kept_of}
 
--- the harts of a pair are those of its focus, and there are so many; it has as many samples at most as were taken
+-- the harts of a pair are those of its focus and harts of the machine; it has at most as many samples as were taken
 pub record IsSoundKit (i : Inputs) (samples : ℕ) (k : Kit) : Type 0 where
   pub harts : (k.first, k.count) ≡ harts_of i.tree.harts k.shown.focus.hart
   pub within : k.first + k.count ≤ i.settings.harts

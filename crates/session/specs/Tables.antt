@@ -128,7 +128,7 @@ first_table i =
 
 -- ---- steps
 
--- what is asked of it before a sample: it was taken fewer than 2^63 times, and the time counts the ticks
+-- what is asked before a sample: fewer than 2^63 were taken, and the time counts the ticks
 pub record CanSample (t : Table) : Type 0 where
   pub places : t.places ≡ length t.machine.state.core.harts
   pub marks : length t.marks ≡ length t.machine.state.core.harts
@@ -232,7 +232,7 @@ pub record IsNew (i : Inputs) (k : Kit) : Type 0 where
   pub cost : k.cost ≡ cost_of i k.shown
   pub low : k.cost < 2 ^ 32
 
--- some new pairs after the others
+-- the pairs with some new ones at the end
 pub record IsMore (i : Inputs) (old new : List Kit) : Type 0 where
   pub more : List Kit
   pub is : new ≡ old ++ more
@@ -244,7 +244,7 @@ AreReady [] ready = Unit {0}
 AreReady (n ∷ ns) [] = ⊥
 AreReady (n ∷ ns) (r ∷ ready) = ((n ≡ r) × AreReady ns ready) ⊎ AreReady (n ∷ ns) ready
 
--- so many of the first wishes aren't above a time, and the next is, if there is one
+-- the first `n` wishes aren't above a time, and the next is, if there is one
 abbrev pub IsCount : ℕ → List CheckedWish → ℕ → Type 0
 IsCount time [] n = n ≡ 0
 IsCount time (w ∷ ws) zero = nat_le w.at time ≡ false
@@ -256,7 +256,7 @@ pub record IsStill (old new : Table) : Type 0 where
   pub core : new.machine.state.core ≡ old.machine.state.core
   pub rules : new.search.rules ≡ old.search.rules
 
--- after an admission in which so many of the wishes were looked at
+-- after an admission in which the first `n` wishes were looked at
 pub record IsAdmission (i : Inputs) (later : List CheckedWish) (old new : Table) (n : ℕ) : Type 0 where
   pub looked : n ≤ length later
   pub kept : kept_of (drop n later) new ≡ with_admission i (kept_of later old)

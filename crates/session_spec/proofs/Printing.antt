@@ -178,7 +178,7 @@ module _ (i : Inputs) where
 never : (a : ℕ) → None ≡ Some a → ⊥
 never a e = cc
 
--- what is so of a state
+-- what holds of a state
 record IsAll (i : Inputs) (s : State) : Type 0 where
   tells : Tells i s
   wishes : s.kept.wishes ≡ []

@@ -118,7 +118,7 @@ module _ (i : Inputs) where
 
   -- ---- the steps of a quantum
 
-  -- what is so of a state
+  -- what holds of a state
   pub record IsTraced (s : State) : Type 0 where
     pub seen : IsSeen i s.owns s.kept
     pub tells : Tells i s

@@ -25,7 +25,7 @@ pub record HasNoPlan (i : Inputs) (n : Node) (c : BarCause) : Type 0 where
   pub planned : planned i (metric_of i n) n.focus ≡ Err fault
   pub cause : bar_of_plan fault ≡ c
 
--- there is one, and it needn't wait for the tests in force to end; but no instrument of it could be admitted, by this cause
+-- there is a plan, which needn't wait for the tests in force to end; but no instrument of it could be admitted, by this cause
 pub record HasNoRoom (i : Inputs) (k : Kept) (n : Node) (c : BarCause) : Type 0 where
   pub plan : Plan
   pub planned : planned i (metric_of i n) n.focus ≡ Ok plan

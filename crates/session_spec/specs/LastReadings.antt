@@ -1,4 +1,4 @@
--- What a session reads of its instruments last, and what its samples are to that.
+-- What a session read last of its instruments, and how its samples follow from it.
 use Rattle.std.specs.Prelude.{◌≡◌, ℕ, if◌then◌else◌, List, [], ◌∷◌}
 use Rattle.pn_types.specs.declared.quantum.Quantum.{Quantum}
 use Rattle.machine.specs.Events.{IsQuiet}
@@ -49,7 +49,7 @@ pub record AreRead (i : Inputs) (s : State) (lasts : List ℕ) : Type 0 where
   pub quiet : IsQuiet s.kept.machine.core
   pub read : recorded_with i s.kept.machine.placer s.owns s.kept.time s.kept.shown s.recorded ≡ recorded_read i s.kept.machine s.kept.time s.kept.shown lasts s.recorded
 
--- The samples of the due work of a next quantum are so, after its turns, and so are those of the end.
+-- This holds for the samples of the due work of a next quantum, after its turns, and for those of the end.
 pub record AreReadNext (i : Inputs) (quanta : List Quantum) (s : State) : Type 0 where
   pub due : (h n : ℕ) → AreRead i (state_quiet (handed_on i h n s)) (lasts_handed i s (lasts_of i quanta))
   pub last : AreRead i (state_quiet s) (lasts_of i quanta)

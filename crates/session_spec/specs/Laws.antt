@@ -42,7 +42,8 @@ pub record FeedTold : Type 0 where
   pub works : (i : Inputs) (quanta : List Quantum) → IsFeed (work i quanta)
   pub closes : (i : Inputs) (quanta : List Quantum) → IsFeed (closed i (work i quanta))
 
--- What was wished for the opening, and wasn't dropped there, is armed at time 0. What is armed at the opening stays armed since then.
+-- What was wished for the opening, and wasn't dropped there, is armed at time 0. What is armed at the opening stays armed from then
+-- on.
 pub record OpensAtZero : Type 0 where
   pub opens : (i : Inputs) → IsProgram i.image → ArePlansGood i → (n : ℕ) (x : Shown) → slice_get (opened i).shown n ≡ Some x → is_leaving (state_of (opened i).machine.placer x.instrument.n) ≡ false
       → x.armed ≡ Some 0
@@ -64,7 +65,7 @@ pub record VerdictsTold : Type 0 where
 abbrev pub AreBarred : Inputs → List Quantum → State → Type 0
 AreBarred i quanta s = (n : ℕ) (node : Node) (c : BarCause) → slice_get s.kept.search.nodes n ≡ Some node → node.state ≡ Barred c → WasBarred i quanta n node c
 
--- They are so after each quantum and after the end.
+-- The costs are within the limit after each quantum and after the end.
 pub record BarsTold : Type 0 where
   pub works : (i : Inputs) (quanta : List Quantum) → AreBarred i quanta (work i quanta)
   pub closes : (i : Inputs) (quanta : List Quantum) → AreBarred i quanta (closed i (work i quanta))

@@ -22,7 +22,7 @@ abbrev pub first_refused : List RefusedWish → Option RefusedWish
 first_refused [] = None
 first_refused (r ∷ rs) = Some r
 
--- The wish for which a session doesn't begin: the first of them that is refused.
+-- The wish by which a session doesn't begin: the first of them that is refused.
 abbrev pub bad_pick : Inputs → Option RefusedWish
 bad_pick i = first_refused (wished i).refused
 

@@ -23,7 +23,7 @@ read_now i m s = reading_by (instrument_at m.placer s.instrument.n) (harts_of i 
 
 -- ---- what was read last of each instrument
 
--- one that was admitted was not read yet
+-- an instrument that was just admitted was not read yet
 abbrev pub lasts_with : List Shown → List ℕ → List ℕ
 lasts_with ss lasts = lasts ++ replicate (length ss - length lasts) 0
 

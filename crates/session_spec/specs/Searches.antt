@@ -50,7 +50,7 @@ bar_of_plan (NoConstraint axis) = bar.NoConstraint axis
 bar_of_plan (TooManySites n) = bar.TooManySites n
 bar_of_plan (TooManyStmts at) = bar.TooManyStmts at
 
--- want of memory is no cause, nor is a number of instruments that is reached: such a node isn't taken
+-- running out of memory is no cause, nor is the limit of instruments: where it is reached the node isn't taken
 abbrev pub bar_of_refusal : Refused → Option BarCause
 bar_of_refusal refused.NoMemory = None
 bar_of_refusal (refused.OverCost n) = Some (bar.OverCost n)

@@ -20,7 +20,7 @@ opening_of i = record { image = i.image; harts = i.settings.harts; budget = i.se
 
 -- ---- an instrument that is or was shown
 
--- It was armed in the course of these acts, and read at a moment since at which no hart was inside a trampoline. What was read last
+-- It was armed in the course of these acts, and read at a later moment at which no hart was inside a trampoline. What was read last
 -- is its readings then.
 pub record IsRead (o : Opening) (acts : List Act) (harts : List ℕ) (s : Shown) (last : ℕ) : Type 0 where
   pub course : Course

@@ -50,7 +50,7 @@ pub record IsTested (i : Inputs) (s : State) (k : ℕ) (n : Node) : Type 0 where
 abbrev pub IsJudged : Inputs → State → ℕ → Node → Type 0
 IsJudged i s k n = IsVerdict i s.owns n × IsTested i s k n
 
--- each node that was judged is
+-- this holds for each node that was judged
 abbrev pub AreJudged : Inputs → State → Type 0
 AreJudged i s = (k : ℕ) (n : Node) → slice_get s.kept.search.nodes k ≡ Some n → (n.state ≡ Confirmed) ⊎ (n.state ≡ Rejected) → IsJudged i s k n
 

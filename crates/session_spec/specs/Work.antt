@@ -82,8 +82,8 @@ state_done i s = state_next i.settings.width (state_judged (tests_now i s) (stat
 abbrev pub state_worked : Inputs → State → State
 state_worked i s = if is_due s.kept then state_done i (state_quiet s) else s
 
--- After a quantum of so many turns of hart h: an admission, if work was done since the last; the turns; up to eight entries of the
--- agenda; and the due work, if it is time.
+-- After a quantum of at most n turns of hart h: an admission, if work was done since the last; the turns; up to eight entries
+-- of the agenda; and the due work, if it is time.
 unfoldable pub tend : Inputs → ℕ → ℕ → State → State
 tend i h n s = state_worked i (state_handed (state_turned h n (state_admitted i s)))
 
@@ -102,11 +102,11 @@ work i quanta = work_from i quanta (first_state i)
 
 -- ---- which quanta there may be
 
--- the entry of a quantum of a hart that a worker asks for: it owns as many ticks as its turns have
+-- the entry of a quantum of a hart that a worker asks for: its ticks are those of its turns
 abbrev pub quantum_of : Inputs → ℕ → ℕ → ℕ → Kept → Quantum
 quantum_of i worker h n k = record { worker = worker; hart = h; turns = n; owns = length (owns_taken h n (with_admission i k).machine.core) }
 
--- the entry is in range, its hart is runnable, and it owns what it must
+-- the entry is in range, its hart is runnable, and it has the ticks of its turns
 pub record IsAllowed (i : Inputs) (k : Kept) (q : Quantum) : Type 0 where
   pub worker : q.worker < MAX_WORKERS
   pub hart : q.hart < i.settings.harts

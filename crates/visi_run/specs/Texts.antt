@@ -33,7 +33,7 @@ abbrev pub first_count : List (List Latest) → ℕ
 first_count [] = 0
 first_count (samples ∷ lists) = length samples
 
--- the numbers of the views and of the samples, which are as many for each
+-- the numbers of the views and of the samples, of which each view has as many
 abbrev pub views_line : List (List Latest) → List ℕ
 views_line lists = codes "views " ++ (decimal (length lists) ++ (codes " samples " ++ (decimal (first_count lists) ++ codes "\n")))
 

@@ -116,7 +116,7 @@ ordered_push : (i : Inputs) (turns : ℕ) (order : Order) (s : State) (quanta : 
 ordered_push i turns order s [] q a p e = (p, e, tt)
 ordered_push i turns order s (x ∷ quanta) q a p e = (a.0, a.1, ordered_push i turns (order_after order x.hart) (tend i x.hart x.turns s) quanta q a.2 p e)
 
--- so many quanta were taken in order, and this order is next
+-- `count` quanta were taken in order, and this order is next
 pub record Running (i : Inputs) (seed turns count : ℕ) (quanta : List Quantum) (order : Order) : Type 0 where
   pub ordered : AreInOrder i turns (order_of_seed seed) (first_state i) quanta
   pub number : length quanta ≡ count

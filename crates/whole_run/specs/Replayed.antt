@@ -51,19 +51,19 @@ abbrev pub WholeFit : Type 0
 WholeFit = (i : Inputs) (quanta : List Quantum) → AllByRecursion (IsQuantum i.settings.harts) quanta → length quanta ≤ MAX_QUANTA →
     (misfit_of i quanta ≡ None → IsWhole i quanta) × (IsWhole i quanta → misfit_of i quanta ≡ None)
 
--- the number of the quantum is one of so many
+-- the number of the quantum is below a number
 abbrev pub IsWithin : ℕ → Misfit → Type 0
 IsWithin count (NotRunnable number hart) = number < count
 IsWithin count (OtherOwns number told owns) = number < count
 IsWithin count Unfinished = Unit {0}
 
--- they are none for this reason, where it isn't want of memory
+-- they are no whole run for this reason, if the reason isn't running out of memory
 abbrev pub IsMisfit : Inputs → List Quantum → ReplayFault → Type 0
 IsMisfit i quanta (fault.NotOpened NoMemory) = Unit {0}
 IsMisfit i quanta (fault.NotOpened (BadPick metric focus cause)) = ⊥
 IsMisfit i quanta (fault.Misfit misfit) = (misfit_of i quanta ≡ Some misfit) × IsWithin (length quanta) misfit
 
--- why there is no report, where it isn't for want of memory
+-- why there is no report, other than by running out of memory
 abbrev pub IsReplayFault : Inputs → List Quantum → ReplayFault → Type 0
 IsReplayFault i quanta (fault.NotOpened why) = IsStartFault i why
 IsReplayFault i quanta (fault.Misfit misfit) = (bad_pick i ≡ None) × (misfit_of i quanta ≡ Some misfit) × IsWithin (length quanta) misfit
