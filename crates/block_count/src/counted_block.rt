@@ -76,7 +76,8 @@ fn counted_from(
     requires text { text_at + 4 * length words.now ≤ SEGMENTS_TO }
     requires few { length heads.now < 2 ^ 31 }
     requires first { first < 2 ^ 32 }
-    ensures blocks { IfOk result (λ blocks. blocks.items ≡ counted_from (record { at = text_at; words = words.now }) first_slot first heads.now) }
+    ensures blocks { IfOk result
+        (λ blocks. blocks.items ≡ counted_from (record { at = text_at; words = words.now }) first_slot first heads.now) }
     ensures len { IfOk result (λ blocks. length blocks.items ≡ length heads.now) }
 {
     let mut blocks = Vec::with_capacity(alloc, heads.len())?;

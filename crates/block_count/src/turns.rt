@@ -56,7 +56,8 @@ fn take_quanta(
 ) -> Result<(), NoMemory>
     requires harts { harts ≡ length machine.old.core.harts }
     requires few { harts ≤ MAX_HARTS }
-    ensures taken { OnOk result (machine.new.core ≡ replay (all_quanta (record { harts = harts; turns = turns; seed = seed }) machine.old.core) machine.old.core) }
+    ensures taken { OnOk result
+        (machine.new.core ≡ replay (all_quanta (record { harts = harts; turns = turns; seed = seed }) machine.old.core) machine.old.core) }
     ensures harts { length machine.new.core.harts ≡ length machine.old.core.harts }
 {
     let mut order = Order::of_seed(seed);
@@ -85,7 +86,8 @@ pub fn take_turns(
 ) -> Result<(), NoMemory>
     requires harts { harts ≡ length machine.old.core.harts }
     requires few { harts ≤ MAX_HARTS }
-    ensures taken { OnOk result (machine.new.core ≡ replay (turns_of (record { harts = harts; turns = turns; seed = seed }) machine.old.core) machine.old.core) }
+    ensures taken { OnOk result
+        (machine.new.core ≡ replay (turns_of (record { harts = harts; turns = turns; seed = seed }) machine.old.core) machine.old.core) }
     ensures quiet { OnOk result (IsQuiet machine.new.core) }
     ensures harts { length machine.new.core.harts ≡ length machine.old.core.harts }
 {

@@ -63,7 +63,8 @@ impl<'a> Walk<'a> {
 
     /// Returns the walk after an option, which has its value or awaits it.
     fn option(&self, form: &Form, name: &'a str, value: Option<&'a str>) -> Option<Walk<'a>>
-        ensures { option_map walk_seen result ≡ optioned (form_seen form.now) (walk_seen self.now) name.entry.now (option_map (λ v. v.now) value.entry) }
+        ensures { option_map walk_seen result
+            ≡ optioned (form_seen form.now) (walk_seen self.now) name.entry.now (option_map (λ v. v.now) value.entry) }
     {
         if !form.has_option(name) {
             return None;

@@ -34,4 +34,5 @@ inputs_with image found settings =
 
 -- a session takes what was found, with any settings of this number of harts
 abbrev pub CanRun : Image → ℕ → Found → Type 0
-CanRun image harts found = (settings : Settings) → AreInRange settings → settings.harts ≡ harts → AreGiven (inputs_with image found settings)
+CanRun image harts found =
+    (settings : Settings) → AreInRange settings → settings.harts ≡ harts → AreGiven (inputs_with image found settings)

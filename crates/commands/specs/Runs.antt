@@ -102,7 +102,8 @@ stress_session = record {
 
 -- what the two files have
 abbrev pub stress_sight : StressRequest → Sight
-stress_sight r name content = content ≡ Ok (if bytes_eq name (codes "program") then program_text r.procs r.seed else configuration_text r.procs)
+stress_sight r name content =
+    content ≡ Ok (if bytes_eq name (codes "program") then program_text r.procs r.seed else configuration_text r.procs)
 
 -- quanta of at most 50 turns in the order of the program's own seed
 abbrev pub stress_order : StressRequest → TurnOrder

@@ -49,6 +49,7 @@ CountedAs holds faults old new (Err refusal.NoMemory) = IsCalm faults old new
 CountedAs holds faults old new (Err (refusal.Fault fault)) = Counted holds faults old new fault
 
 -- what every file holds stays the same, and the counts of faults are as the call's answer says
-pub record Looks {A F : Type 0} (holds : F → List ℕ → Holding) (faults : F → List ℕ → ℕ) (old new : F) (result : Result A Refusal) : Type 0 where
+pub record Looks {A F : Type 0}
+    (holds : F → List ℕ → Holding) (faults : F → List ℕ → ℕ) (old new : F) (result : Result A Refusal) : Type 0 where
   pub same : (name : List ℕ) → holds new name ≡ holds old name
   pub counts : CountedAs holds faults old new result

@@ -58,7 +58,8 @@ pub fn blocks<F: Files>(
     files: &mut F,
 ) -> Result<Texts, Refusal>
     requires ranges { HasRanges (blocks (asked_blocks request.now)) }
-    ensures due { Comes result (IsBlocksDue (asked_blocks request.now) (seen (F.holds files.old) (F.faults files.old) (F.faults files.new))) }
+    ensures due { Comes result
+        (IsBlocksDue (asked_blocks request.now) (seen (F.holds files.old) (F.faults files.old) (F.faults files.new))) }
     ensures looks { Looks F.holds F.faults files.old files.new result }
 {
     let image = read_program(alloc, files, request.program)?;

@@ -168,7 +168,8 @@ fn follow_directions<F: Files>(
     requires few { length inputs.conf.items ≤ 1048576 }
     requires small { AllByRecursion HasSmall inputs.conf.items }
     requires accepted { IsAccepted tree.now shipped_conf.items inputs.conf.items }
-    ensures due { Comes result (IsDirection (asked_direct request.now) (seen (F.holds files.old) (F.faults files.old) (F.faults files.new)) inputs) }
+    ensures due { Comes result
+        (IsDirection (asked_direct request.now) (seen (F.holds files.old) (F.faults files.old) (F.faults files.new)) inputs) }
     ensures looks { Looks F.holds F.faults files.old files.new result }
 {
     let directives = read_directions(alloc, files, request.directives)?;
@@ -187,7 +188,8 @@ pub fn direct<F: Files>(
     files: &mut F,
 ) -> Result<Texts, Refusal>
     requires ranges { HasRanges (direct (asked_direct request.now)) }
-    ensures due { Comes result (IsDirectDue (asked_direct request.now) (seen (F.holds files.old) (F.faults files.old) (F.faults files.new))) }
+    ensures due { Comes result
+        (IsDirectDue (asked_direct request.now) (seen (F.holds files.old) (F.faults files.old) (F.faults files.new))) }
     ensures looks { Looks F.holds F.faults files.old files.new result }
 {
     let session = request.session;

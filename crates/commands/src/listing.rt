@@ -21,7 +21,8 @@ use std::alloc::Global;
 /// Returns the text of an image's points.
 fn points_of_image(alloc: Global, image: &Image) -> Result<Vec<u8>, NoMemory>
     requires { IsImage image.now }
-    ensures { IfOk result (λ text. text.items ≡ points_text (procedures_of image.now) (points_of image.now (procedures_of image.now)) (skipped_of image.now)) }
+    ensures { IfOk result (λ text. text.items
+        ≡ points_text (procedures_of image.now) (points_of image.now (procedures_of image.now)) (skipped_of image.now)) }
 {
     let (procs, skipped) = procedures(alloc, image)?;
     let points = code_points::points(alloc, image, &procs)?;

@@ -71,7 +71,8 @@ pub fn prepare<F: Files>(
     request: &SessionRequest<'_>,
 ) -> Result<Prepared, Refusal>
     requires range { AreInRange request.now.settings }
-    ensures prepared { Comes result (Gives (IsPrepared (asked_session request.now) (seen (F.holds files.old) (F.faults files.old) (F.faults files.new)))) }
+    ensures prepared { Comes result
+        (Gives (IsPrepared (asked_session request.now) (seen (F.holds files.old) (F.faults files.old) (F.faults files.new)))) }
     ensures given { IfOk result (λ prepared. AreGiven prepared.inputs) }
     ensures skipped { IfOk result (λ prepared. prepared.skipped ≡ skipped_of prepared.inputs.image) }
     ensures settings { IfOk result (λ prepared. prepared.inputs.settings ≡ request.now.settings) }

@@ -78,7 +78,8 @@ pub fn replay<F: Files>(
     request: &ReplayRequest<'_>,
     files: &mut F,
 ) -> Result<Texts, Refusal>
-    ensures due { Comes result (IsReplayDue (asked_replay request.now) (seen (F.holds files.old) (F.faults files.old) (F.faults files.new))) }
+    ensures due { Comes result
+        (IsReplayDue (asked_replay request.now) (seen (F.holds files.old) (F.faults files.old) (F.faults files.new))) }
     ensures looks { Looks F.holds F.faults files.old files.new result }
 {
     let inputs = read_inputs(alloc, files, request.program, request.conf)?;

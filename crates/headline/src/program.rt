@@ -33,7 +33,8 @@ fn tell<R: Threads + Wait + Sync, F: Files, K: Sink, L: Sink, G: Gate + Sync>(
     log: &mut L,
     gate: &G,
 ) -> u8
-    ensures { IsTold F.holds F.faults files.old files.new (map string_bytes words.now) K.has K.faults out.old out.new L.has L.faults log.old log.new result }
+    ensures { IsTold F.holds F.faults files.old files.new
+        (map string_bytes words.now) K.has K.faults out.old out.new L.has L.faults log.old log.new result }
 {
     owed_is_honest::<F>();
     paradyn(rt, alloc, words, files, out, log, gate)
@@ -51,8 +52,10 @@ pub fn run_program<R: Threads + Wait + Sync, F: Files, K: Sink, L: Sink, G: Gate
     gate: &G,
 ) -> ExitCode
     // Where memory ran out before the words were read, nothing was read or written.
-    ensures { MatchOption (words_read words.now) ((exit_status result ≡ 8) × (out.new ≡ out.old) × (log.new ≡ log.old) × (files.new ≡ files.old))
-        (λ read. IsTold F.holds F.faults files.old files.new read K.has K.faults out.old out.new L.has L.faults log.old log.new (exit_status result)) }
+    ensures { MatchOption (words_read words.now) ((exit_status result ≡ 8)
+        × (out.new ≡ out.old) × (log.new ≡ log.old) × (files.new ≡ files.old))
+        (λ read. IsTold F.holds F.faults files.old files.new read K.has K.faults out.old out.new L.has L.faults log.old log.new
+        (exit_status result)) }
 {
     match words {
         Words::Read(words) => ExitCode::from(tell(rt, alloc, words, files, out, log, gate)),

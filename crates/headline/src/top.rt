@@ -81,7 +81,8 @@ pub fn serve<F: Files, K: Sink, L: Sink>(
     log: &mut L,
 ) -> u8
     requires { begins_threaded (map string_bytes words.now) ≡ false }
-    ensures { IsServed F.holds F.faults files.old files.new (map string_bytes words.now) K.has K.faults out.old out.new L.has L.faults log.old log.new result }
+    ensures { IsServed F.holds F.faults files.old files.new
+        (map string_bytes words.now) K.has K.faults out.old out.new L.has L.faults log.old log.new result }
 {
     one_owed::<F>();
     let answered = answer(alloc, words, files);
@@ -117,7 +118,8 @@ pub fn paradyn<R: Threads + Wait + Sync, F: Files, K: Sink, L: Sink, G: Gate + S
     log: &mut L,
     gate: &G,
 ) -> u8
-    ensures { IsServed F.holds F.faults files.old files.new (map string_bytes words.now) K.has K.faults out.old out.new L.has L.faults log.old log.new result }
+    ensures { IsServed F.holds F.faults files.old files.new
+        (map string_bytes words.now) K.has K.faults out.old out.new L.has L.faults log.old log.new result }
 {
     one_owed::<F>();
     if begin_threaded(words) {

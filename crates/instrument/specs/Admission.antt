@@ -68,7 +68,8 @@ with_base_at (Some at) program word owner point body book = with_moved (moved_of
 
 abbrev pub with_base : Option ℕ → Words → ℕ → ℕ → List MarkedWord → Book → Result Book Refused
 with_base None program owner point body book = Err (Unmovable point)
-with_base (Some word) program owner point body book = with_base_at (room_for program book.rooms (base_len word)) program word owner point body book
+with_base (Some word) program owner point body book =
+    with_base_at (room_for program book.rooms (base_len word)) program word owner point body book
 
 -- a base block is placed where the point has none
 abbrev pub with_site_by : Option Room → Words → ℕ → ℕ → List MarkedWord → Book → Result Book Refused

@@ -24,11 +24,13 @@ lowest free from units len = find (are_free free len) (range_with_len from units
 -- ---- rooms: a word of the tool text is the unit of its address divided by 4
 
 abbrev pub is_word_free : Words → List Room → ℕ → Bool
-is_word_free program rooms unit = in_range (tool_at program) TOOL_TEXT_LEN (4 * unit) && not (list_any (λ x. in_range x.at (4 * x.len) (4 * unit)) rooms)
+is_word_free program rooms unit =
+    in_range (tool_at program) TOOL_TEXT_LEN (4 * unit) && not (list_any (λ x. in_range x.at (4 * x.len) (4 * unit)) rooms)
 
 -- the address of the lowest room of a number of words
 abbrev pub room_for : Words → List Room → ℕ → Option ℕ
-room_for program rooms len = option_map (λ unit. 4 * unit) (lowest (is_word_free program rooms) (tool_at program / 4) (TOOL_TEXT_LEN / 4) len)
+room_for program rooms len =
+    option_map (λ unit. 4 * unit) (lowest (is_word_free program rooms) (tool_at program / 4) (TOOL_TEXT_LEN / 4) len)
 
 -- ---- slots: a slot is the unit of its number
 

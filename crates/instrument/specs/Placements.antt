@@ -32,7 +32,14 @@ pub record Placements : Type 0 where
 -- ---- the beginning
 
 abbrev pub no_placements : Image → ℕ → Placements
-no_placements image limit = record { program = program_of image; limit = limit; book = record { rooms = []; agenda = [] }; instruments = []; count = 0 }
+no_placements image limit =
+    record {
+      program = program_of image;
+      limit = limit;
+      book = record { rooms = []; agenda = [] };
+      instruments = [];
+      count = 0;
+    }
 
 -- ---- instruments
 
@@ -87,7 +94,11 @@ with_instrument plan slot (Err refused) p = Err refused
 with_instrument plan slot (Ok book) p =
     Ok (record p {
       book = book;
-      instruments = p.instruments ++ record { no = p.count; placed = record { vars = plan.vars; slots = slots_from slot plan.vars; sites = sites_of p.count book.rooms; opens = plan.opens }; state = Placing } ∷ [];
+      instruments = p.instruments ++ record {
+        no = p.count;
+        placed = record { vars = plan.vars; slots = slots_from slot plan.vars; sites = sites_of p.count book.rooms; opens = plan.opens };
+        state = Placing;
+      } ∷ [];
       count = p.count + 1;
     })
 

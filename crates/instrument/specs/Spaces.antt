@@ -102,7 +102,8 @@ pub record AreDistinct (rooms : List Room) : Type 0 where
 -- the lowest room of a length was taken, by its address
 pub record IsRoomTaken (before after : Rooms) (at len : ℕ) : Type 0 where
   pub found : (program : Words) (rooms : List Room) → AreRoomsOf program before rooms → room_for program rooms len ≡ Some at
-  pub kept : (program : Words) (rooms : List Room) → AreRoomsOf program before rooms → (x : Room) → x.at ≡ at → x.len ≡ len → AreRoomsOf program after (rooms ++ x ∷ [])
+  pub kept : (program : Words) (rooms : List Room)
+      → AreRoomsOf program before rooms → (x : Room) → x.at ≡ at → x.len ≡ len → AreRoomsOf program after (rooms ++ x ∷ [])
   pub aligned : at % 4 ≡ 0
   pub high : at + 4 * len ≤ 4 * before.end
   pub takes : after.takes + 1 ≡ before.takes

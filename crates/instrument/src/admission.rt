@@ -47,9 +47,20 @@ pub fn place(
     requires slots { first + admission.slot_count plan.now.vars < 2 ^ 32 }
     requires new { placements.sites_of number.n text.old.book.rooms ≡ [] }
     requires kit { kit ≡ need_of plan.now }
-    ensures ok { OnOk result (admission.with_sites text.old.program number.n (admission.slots_from first plan.now.vars) plan.now.sites text.old.book ≡ Ok text.new.book) }
-    ensures instrument { IfOk result (λ i. i ≡ record { no = number.n; placed = record { vars = plan.now.vars; slots = admission.slots_from first plan.now.vars; sites = placements.sites_of number.n text.new.book.rooms; opens = plan.now.opens }; state = Placing }) }
-    ensures refused { IfErr result (λ refused. admission.with_sites text.old.program number.n (admission.slots_from first plan.now.vars) plan.now.sites text.old.book ≡ Err refused) }
+    ensures ok { OnOk result (admission.with_sites text.old.program number.n
+        (admission.slots_from first plan.now.vars) plan.now.sites text.old.book ≡ Ok text.new.book) }
+    ensures instrument { IfOk result (λ i. i ≡ record {
+      no = number.n;
+      placed = record {
+        vars = plan.now.vars;
+        slots = admission.slots_from first plan.now.vars;
+        sites = placements.sites_of number.n text.new.book.rooms;
+        opens = plan.now.opens;
+      };
+      state = Placing;
+    }) }
+    ensures refused { IfErr result (λ refused. admission.with_sites text.old.program number.n
+        (admission.slots_from first plan.now.vars) plan.now.sites text.old.book ≡ Err refused) }
     ensures unchanged { IfErr result (λ refused. text.new.book ≡ text.old.book) }
     ensures program { text.new.program ≡ text.old.program }
     ensures rooms_left { text.old.spare_rooms ≤ text.new.spare_rooms + 2 * length plan.now.sites }

@@ -46,7 +46,8 @@ pub fn set_state(instruments: &mut [Instrument], number: InstrumentNo, state: St
 pub fn place_of_dropped(instruments: &[Instrument], number: InstrumentNo) -> Option<usize>
     requires { AreInOrder instruments.now }
     ensures within { IfSome result (λ place. place < length instruments.now) }
-    ensures some { IfSome result (λ place. take place instruments.now ++ drop (place + 1) instruments.now ≡ filter (is_kept number.n) instruments.now) }
+    ensures some { IfSome result
+        (λ place. take place instruments.now ++ drop (place + 1) instruments.now ≡ filter (is_kept number.n) instruments.now) }
     ensures none { IfNone result (instruments.now ≡ filter (is_kept number.n) instruments.now) }
 {
     let place = place_of(instruments, number)?;

@@ -14,7 +14,8 @@ pub fn give_behind(words: &mut Space, rooms: &mut Rooms, count: usize)
     requires within { count ≤ length (left rooms.old.places) }
     ensures rooms { left rooms.new.places ≡ take count (left rooms.old.places) }
     ensures spare { rooms.new.spare ≡ rooms.old.spare }
-    ensures tied { (program : Words) → AreRoomsOf program words.old (left rooms.old.places) → AreRoomsOf program words.new (left rooms.new.places) }
+    ensures tied { (program : Words)
+        → AreRoomsOf program words.old (left rooms.old.places) → AreRoomsOf program words.new (left rooms.new.places) }
     ensures takes { words.new.takes ≡ words.old.takes }
 {
     let mut place = rooms.places();

@@ -26,7 +26,10 @@ pub fn free(text: &mut ToolText, roster: &mut Roster, point: u64)
     ensures spare { text.new.spare_rooms ≡ text.old.spare_rooms }
     ensures takes { text.new.takes ≡ text.old.takes }
     ensures entries { text.old.entries ≤ text.new.entries }
-    ensures roster { roster.new ≡ record roster.old { instruments = filter (placements.is_here (filter (books.stays point) text.old.book.rooms)) roster.old.instruments } }
+    ensures roster { roster.new ≡ record roster.old {
+      instruments = filter
+          (placements.is_here (filter (books.stays point) text.old.book.rooms)) roster.old.instruments;
+    } }
 {
     while let Some(room) = text.take_unlinked(point) {
         if !room.base {

@@ -120,7 +120,8 @@ impl Ledger {
         ensures agenda { self.new.book.agenda ≡ take entries self.old.book.agenda }
         ensures spare { self.new.spare_rooms ≡ self.old.spare_rooms }
         ensures entries { self.new.spare_entries ≡ self.old.spare_entries }
-        ensures tied { (program : Words) → AreRoomsOf program words.old self.old.book.rooms → AreRoomsOf program words.new self.new.book.rooms }
+        ensures tied { (program : Words)
+            → AreRoomsOf program words.old self.old.book.rooms → AreRoomsOf program words.new self.new.book.rooms }
         ensures takes { words.new.takes ≡ words.old.takes }
     {
         give_behind(words, &mut self.rooms, rooms);
@@ -132,7 +133,8 @@ impl Ledger {
         ensures entry { result ≡ first_of self.old.book.agenda }
         ensures book { self.new.book ≡ behind_first self.old.book.agenda self.old.book }
         ensures spare { self.new.spare_rooms ≡ self.old.spare_rooms }
-        ensures entries { self.new.spare_entries ≡ (lists.without_first (record { entries = self.old.book.agenda; room = self.old.spare_entries })).room }
+        ensures entries { self.new.spare_entries
+            ≡ (lists.without_first (record { entries = self.old.book.agenda; room = self.old.spare_entries })).room }
     {
         let entry = self.agenda.take_first()?;
         if let Entry::UnlinkMini { at, .. } | Entry::UnlinkPoint { at, .. } = &entry {
@@ -159,7 +161,8 @@ impl Ledger {
         ensures rooms { self.new.book.rooms ≡ self.old.book.rooms }
         ensures agenda { self.new.book.agenda ≡ agenda_in (books.first_free [] self.old.book.agenda) self.old.book.agenda }
         ensures spare { self.new.spare_rooms ≡ self.old.spare_rooms }
-        ensures entries { self.new.spare_entries ≡ (lists.without_free (record { entries = self.old.book.agenda; room = self.old.spare_entries })).room }
+        ensures entries { self.new.spare_entries
+            ≡ (lists.without_free (record { entries = self.old.book.agenda; room = self.old.spare_entries })).room }
     {
         self.agenda.take_free()
     }

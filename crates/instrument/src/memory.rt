@@ -89,7 +89,8 @@ pub fn kit_for(
 ) -> Result<Kit, NoMemory>
     requires words { predicted plan.now < 2 ^ 32 }
     requires kit { IfSome kit (λ kit. kit ≡ need_of plan.now) }
-    requires memory { IfSome kit (λ kit. HasMemory text.old roster.old count (sites_in kits.now + length plan.now.sites) (length kits.now + 1)) }
+    requires memory { IfSome kit
+        (λ kit. HasMemory text.old roster.old count (sites_in kits.now + length plan.now.sites) (length kits.now + 1)) }
     ensures kit { IfOk result (λ kit. kit ≡ need_of plan.now) }
     ensures memory { OnOk result (HasMemory text.new roster.new count (sites_in kits.now + length plan.now.sites) (length kits.now + 1)) }
     ensures ready { IsSome kit → IsOk result }

@@ -109,7 +109,8 @@ impl Placer {
     /// Notes that an instrument is armed. It was being placed, and all entries of its placing were handed out.
     pub fn armed(&mut self, number: InstrumentNo)
         requires placing { placements.state_of self.old.placements number.n ≡ Placing }
-        requires placed { (i : Instrument) → placements.instrument_at self.old.placements number.n ≡ Some i → IsPlaced self.old.placements i }
+        requires placed { (i : Instrument)
+            → placements.instrument_at self.old.placements number.n ≡ Some i → IsPlaced self.old.placements i }
         ensures placements { self.new.placements ≡ placements.armed number.n self.old.placements }
         ensures entries { self.new.entries ≡ self.old.entries }
         ensures ready { self.new.ready ≡ self.old.ready }
@@ -119,7 +120,8 @@ impl Placer {
 
     /// Drops an instrument that wasn't dropped: the unlinking of its sites is put into the agenda, in the order of their placing.
     pub fn drop(&mut self, number: InstrumentNo)
-        requires { (placements.state_of self.old.placements number.n ≡ Placing) ⊎ (placements.state_of self.old.placements number.n ≡ Armed) }
+        requires { (placements.state_of self.old.placements number.n ≡ Placing)
+            ⊎ (placements.state_of self.old.placements number.n ≡ Armed) }
         ensures placements { self.new.placements ≡ placements.dropped number.n self.old.placements }
         ensures entries { self.old.entries ≤ self.new.entries }
         ensures ready { self.new.ready ≡ self.old.ready }
@@ -233,7 +235,8 @@ impl Placer {
         requires armable { IsArmable plan.now.opens }
         ensures number { IfOk result (λ number. number.n ≡ self.old.placements.count) }
         ensures ok { OnOk result (placements.admission self.old.placements plan.now cost ≡ Ok self.new.placements) }
-        ensures refused { IfErr result (λ refused. (refused ≡ NoMemory) ⊎ (placements.admission self.old.placements plan.now cost ≡ Err refused)) }
+        ensures refused { IfErr result (λ refused. (refused ≡ NoMemory)
+            ⊎ (placements.admission self.old.placements plan.now cost ≡ Err refused)) }
         ensures unchanged { IfErr result (λ refused. self.new.placements ≡ self.old.placements) }
         ensures memory { In (need_of plan.now) self.old.ready → result ≡ Err NoMemory → ⊥ }
         ensures ready { self.new.ready ≡ without (need_of plan.now) self.old.ready }

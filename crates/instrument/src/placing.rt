@@ -53,8 +53,12 @@ fn place_mini(
     requires room { word_count site.now.stmts < vec_capacity buffer }
     requires named { AreBelow (length slots.now) site.now.stmts }
     requires count { word_count site.now.stmts + 1 < 2 ^ 32 }
-    ensures ok { OnOk result ((program : Words) → AreRoomsOf program words.old (table.rooms_with base ledger.old.book.rooms) → (table.with_mini program owner site.now.at (body_of slots.now site.now.stmts) base ledger.old.book ≡ Ok ledger.new.book) × AreRoomsOf program words.new ledger.new.book.rooms) }
-    ensures refused { IfErr result (λ refused. (program : Words) → AreRoomsOf program words.old (table.rooms_with base ledger.old.book.rooms) → table.with_mini program owner site.now.at (body_of slots.now site.now.stmts) base ledger.old.book ≡ Err refused) }
+    ensures ok { OnOk result ((program : Words) → AreRoomsOf program words.old (table.rooms_with base ledger.old.book.rooms)
+        → (table.with_mini program owner site.now.at (body_of slots.now site.now.stmts) base ledger.old.book ≡ Ok ledger.new.book)
+        × AreRoomsOf program words.new ledger.new.book.rooms) }
+    ensures refused { IfErr result (λ refused. (program : Words)
+        → AreRoomsOf program words.old (table.rooms_with base ledger.old.book.rooms)
+        → table.with_mini program owner site.now.at (body_of slots.now site.now.stmts) base ledger.old.book ≡ Err refused) }
     ensures unchanged { IfErr result (λ refused. (ledger.new ≡ ledger.old) × (words.new ≡ words.old)) }
     ensures rooms_left { ledger.old.spare_rooms ≤ ledger.new.spare_rooms + 2 }
     ensures entries_left { ledger.old.spare_entries ≤ ledger.new.spare_entries + 4 }
@@ -92,8 +96,10 @@ fn place_based(
     requires room { word_count site.now.stmts < vec_capacity buffer }
     requires named { AreBelow (length slots.now) site.now.stmts }
     requires count { word_count site.now.stmts + 1 < 2 ^ 32 }
-    ensures ok { OnOk result (table.with_base (program_word program.now site.now.at) program.now owner site.now.at (body_of slots.now site.now.stmts) ledger.old.book ≡ Ok ledger.new.book) }
-    ensures refused { IfErr result (λ refused. table.with_base (program_word program.now site.now.at) program.now owner site.now.at (body_of slots.now site.now.stmts) ledger.old.book ≡ Err refused) }
+    ensures ok { OnOk result (table.with_base (program_word program.now site.now.at) program.now owner site.now.at
+        (body_of slots.now site.now.stmts) ledger.old.book ≡ Ok ledger.new.book) }
+    ensures refused { IfErr result (λ refused. table.with_base (program_word program.now site.now.at) program.now owner site.now.at
+        (body_of slots.now site.now.stmts) ledger.old.book ≡ Err refused) }
     ensures unchanged { IfErr result (λ refused. ledger.new ≡ ledger.old) }
     ensures tied { AreRoomsOf program.now words.new ledger.new.book.rooms }
     ensures rooms_left { ledger.old.spare_rooms ≤ ledger.new.spare_rooms + 2 }

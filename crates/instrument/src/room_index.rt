@@ -24,7 +24,12 @@ impl Model for RoomIndex {
 
     ghost Value = { RoomEntries };
 
-    ghost view = { λ i. record { points = i.points.buckets; addresses = i.addresses.buckets; owners = i.owners.buckets; room = i.points.room } };
+    ghost view = { λ i. record {
+      points = i.points.buckets;
+      addresses = i.addresses.buckets;
+      owners = i.owners.buckets;
+      room = i.points.room;
+    } };
 
     ghost invariant = { λ i. AreEntries i.points i.addresses i.owners };
 }
@@ -93,7 +98,11 @@ impl RoomIndex {
     /// Takes the entry at a place out of its buckets.
     pub fn remove(&mut self, place: usize)
         requires { place < length self.old.points }
-        ensures { self.new ≡ record self.old { points = set self.old.points place None; addresses = set self.old.addresses place None; owners = set self.old.owners place None } }
+        ensures { self.new ≡ record self.old {
+          points = set self.old.points place None;
+          addresses = set self.old.addresses place None;
+          owners = set self.old.owners place None;
+        } }
     {
         self.points.remove(place);
         self.addresses.remove(place);

@@ -95,7 +95,8 @@ impl Rooms {
     /// Returns the place of the next room in the bucket of the instrument of the one at a place.
     pub fn next_of(&self, place: usize) -> Option<usize>
         requires { place < length self.now.places }
-        ensures { (bucket : ℕ) → bucket_at (buckets_of owner_key self.now.places) place ≡ Some bucket → IsFirst bucket (place + 1) (buckets_of owner_key self.now.places) result }
+        ensures { (bucket : ℕ) → bucket_at (buckets_of owner_key self.now.places) place ≡ Some bucket
+            → IsFirst bucket (place + 1) (buckets_of owner_key self.now.places) result }
     {
         self.index.next_of(place)
     }

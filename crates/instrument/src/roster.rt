@@ -163,7 +163,8 @@ impl Roster {
         requires row { IsRow instrument }
         requires armable { IsArmable instrument.placed.opens }
         requires number { AreNumberedBelow instrument.no self.old.instruments }
-        requires free { slots_for (flat_map (λ i. places_of i.placed) self.old.instruments) (slot_count instrument.placed.vars) ≡ Some (slots_of instrument).at }
+        requires free { slots_for (flat_map (λ i. places_of i.placed) self.old.instruments) (slot_count instrument.placed.vars)
+            ≡ Some (slots_of instrument).at }
         ensures instruments { self.new.instruments ≡ self.old.instruments ++ instrument ∷ [] }
         ensures room { self.old.room ≡ self.new.room + 1 }
         ensures takes { self.old.takes ≤ self.new.takes + 1 }

@@ -28,7 +28,8 @@ pub fn give_slots(slots: &mut Space, placed: &Placed)
     requires few { slot_count placed.now.vars < 2 ^ 32 }
     requires reserved { 0 < slot_count placed.now.vars → 0 < slots.old.gives }
     requires taken { 0 < slot_count placed.now.vars → IsTaken slots.old (slots_of_placed placed.now).at (slots_of_placed placed.now).len }
-    ensures { slots.new ≡ (if nat_lt 0 (slot_count placed.now.vars) then after_give slots.old (slots_of_placed placed.now).at (slots_of_placed placed.now).len else slots.old) }
+    ensures { slots.new ≡ (if nat_lt 0 (slot_count placed.now.vars)
+        then after_give slots.old (slots_of_placed placed.now).at (slots_of_placed placed.now).len else slots.old) }
 {
     let count = slot_count(placed.vars.as_slice());
     if count > 0 {

@@ -110,7 +110,10 @@ impl ToolText {
     pub fn take_free(&mut self) -> Option<u64>
         ensures point { result ≡ point_in (books.first_free [] self.old.book.agenda) }
         ensures program { self.new.program ≡ self.old.program }
-        ensures book { self.new.book ≡ record { rooms = self.old.book.rooms; agenda = agenda_in (books.first_free [] self.old.book.agenda) self.old.book.agenda } }
+        ensures book { self.new.book ≡ record {
+          rooms = self.old.book.rooms;
+          agenda = agenda_in (books.first_free [] self.old.book.agenda) self.old.book.agenda;
+        } }
         ensures spare { self.new.spare_rooms ≡ self.old.spare_rooms }
         ensures takes { self.new.takes ≡ self.old.takes }
         ensures entries { self.old.entries ≤ self.new.entries }
@@ -233,7 +236,8 @@ impl ToolText {
         requires count { (s : Site) → In s sites.now → word_count s.stmts + 1 < 2 ^ 32 }
         requires buffers { buffers.old.items ≡ map site_words sites.now }
         ensures ok { OnOk result (table.with_sites self.old.program owner slots.now sites.now self.old.book ≡ Ok self.new.book) }
-        ensures refused { IfErr result (λ refused. table.with_sites self.old.program owner slots.now sites.now self.old.book ≡ Err refused) }
+        ensures refused { IfErr result
+            (λ refused. table.with_sites self.old.program owner slots.now sites.now self.old.book ≡ Err refused) }
         ensures program { self.new.program ≡ self.old.program }
         ensures grown { IsGrown self.old.book self.new.book }
         ensures rooms_left { self.old.spare_rooms ≤ self.new.spare_rooms + 2 * length sites.now }
@@ -283,7 +287,8 @@ impl ToolText {
         requires memory { memory ≡ map site_words sites.now }
         ensures ok { OnOk result (table.with_sites self.old.program owner slots.now sites.now self.old.book ≡ Ok self.new.book) }
         ensures sites { IfOk result (λ placed. placed.items ≡ sites_of owner self.new.book.rooms) }
-        ensures refused { IfErr result (λ refused. table.with_sites self.old.program owner slots.now sites.now self.old.book ≡ Err refused) }
+        ensures refused { IfErr result
+            (λ refused. table.with_sites self.old.program owner slots.now sites.now self.old.book ≡ Err refused) }
         ensures unchanged { IfErr result (λ refused. self.new.book ≡ self.old.book) }
         ensures program { self.new.program ≡ self.old.program }
         ensures rooms_left { self.old.spare_rooms ≤ self.new.spare_rooms + 2 * length sites.now }

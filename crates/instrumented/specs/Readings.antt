@@ -63,6 +63,9 @@ pub record IsReadable (o : Opening) (n : ℕ) (plan : Plan) (c : Course) : Type 
 -- The sum of its readings over these harts, minus that at the earlier moment, is what the plan measures between the two.
 abbrev pub ReadsMeasure : Type 0
 ReadsMeasure =
-    (o : Opening) (n : ℕ) (plan : Plan) (harts : List ℕ) (c : Course) → IsProgram o.image → o.budget ≤ MAX_BUDGET → IsMeasurable plan → 0 < length plan.vars → (r : IsReadable o n plan c)
-    → difference (readings (r.instrument).placed harts (scene_at o (to_earlier n c)).core) (readings (r.instrument).placed harts (scene_at o (to_later n c)).core)
-    ≡ measure (program_of o.image) plan harts (time_at o c.before) (time_at o (to_earlier n c)) (time_at o (to_later n c)) (owns_at o (to_later n c)) (start o.image o.harts)
+    (o : Opening) (n : ℕ) (plan : Plan) (harts : List ℕ) (c : Course)
+    → IsProgram o.image → o.budget ≤ MAX_BUDGET → IsMeasurable plan → 0 < length plan.vars → (r : IsReadable o n plan c)
+    → difference (readings (r.instrument).placed harts (scene_at o (to_earlier n c)).core)
+    (readings (r.instrument).placed harts (scene_at o (to_later n c)).core)
+    ≡ measure (program_of o.image) plan harts
+    (time_at o c.before) (time_at o (to_earlier n c)) (time_at o (to_later n c)) (owns_at o (to_later n c)) (start o.image o.harts)

@@ -53,7 +53,8 @@ impl InstrumentedMachine {
         requires there { state_of self.now.state.placer number.n ≡ Gone → ⊥ }
         requires places { length sample.old.readings ≡ length self.now.state.core.harts }
         requires harts { first + count ≤ length self.now.state.core.harts }
-        ensures sum { IfSome (instrument_at self.now.state.placer number.n) (λ i. result ≡ readings i.placed (range_with_len first count) self.now.state.core) }
+        ensures sum { IfSome (instrument_at self.now.state.placer number.n)
+            (λ i. result ≡ readings i.placed (range_with_len first count) self.now.state.core) }
         ensures places { length sample.new.readings ≡ length sample.old.readings }
     {
         let _quiet = self.machine.sample(self.placer.placed(number), sample);

@@ -21,7 +21,10 @@ use tramp_spec::Block;
 fn write_mini(machine: &mut Machine, mut block: Block)
     requires may { CanWriteMini machine.old.core block }
     requires room { 0 < machine.old.room }
-    ensures { machine.new ≡ record { core = after machine.old.core (events.Write (led machine.old.core block)); room = machine.old.room - 1 } }
+    ensures { machine.new ≡ record {
+      core = after machine.old.core (events.Write (led machine.old.core block));
+      room = machine.old.room - 1;
+    } }
 {
     let next = machine.head(block.point);
     set_next(&mut block, next);

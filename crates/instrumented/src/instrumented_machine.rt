@@ -116,7 +116,8 @@ impl InstrumentedMachine {
     /// its last word.
     pub fn at(&self, hart: HartNo) -> u64
         requires { hart < length self.now.state.core.harts }
-        ensures { option_map (program_pc self.now.state.core.code self.now.state.core.rows) (slice_get self.now.state.core.harts hart) ≡ Some result }
+        ensures { option_map (program_pc self.now.state.core.code self.now.state.core.rows) (slice_get self.now.state.core.harts hart)
+            ≡ Some result }
     {
         self.machine.at(hart)
     }

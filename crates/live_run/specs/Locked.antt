@@ -34,7 +34,8 @@ abbrev pub book_with : List Quantum → ℕ → List Quantum → View
 book_with first workers entries = keeping (a_book (length first) entries workers)
 
 -- the session has the named inputs, and the first quanta and then the entries; the badge has the book of these entries
-pub record IsUnderLock (inputs : Inputs) (first : List Quantum) (workers : ℕ) (word : TableId) (from : ℕ) (s : SessionData) (table : TableId) (views : List View) : Type 0 where
+pub record IsUnderLock (inputs : Inputs)
+    (first : List Quantum) (workers : ℕ) (word : TableId) (from : ℕ) (s : SessionData) (table : TableId) (views : List View) : Type 0 where
   pub entries : List Quantum
   pub inputs_are : s.inputs ≡ inputs
   pub open_is : s.closed ≡ false
@@ -61,7 +62,8 @@ CanEnter worker book seat made = (b : Book) × (o : OwnList) × (ns : List Note)
 
 -- the hart can be noted
 abbrev pub CanNote : Inputs → List Quantum → ℕ → Me Quantum View → Me Quantum View → ℕ → Type 0
-CanNote inputs first hart book seat made = (b : Book) × (o : OwnList) × (ns : List Note) × AreToMeet book seat made b o ns × Halted inputs (first ++ b.entries) hart
+CanNote inputs first hart book seat made =
+    (b : Book) × (o : OwnList) × (ns : List Note) × AreToMeet book seat made b o ns × Halted inputs (first ++ b.entries) hart
 
 -- what the rule says of the seat that has taken in all others
 pub record IsSettled (inputs : Inputs) (first : List Quantum) (b : Book) (v : View) : Type 0 where

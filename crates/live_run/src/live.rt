@@ -104,7 +104,8 @@ fn serve_all<I: RunName + Send + Sync, R: Threads + Wait + Sync, G: Gate + Sync>
         rt,
         seats,
         &|seat: Seat<I>| -> Result<Seat<I>, NoMemory>
-            requires { (0 < team.workers) × (team.harts ≡ I.inputs.settings.harts) × ((1 ≤ team.turns) × (team.turns ≤ MAX_QUANTUM)) × (seat ≡ fresh_seat seat.worker) }
+            requires { (0 < team.workers) × (team.harts ≡ I.inputs.settings.harts)
+                × ((1 ≤ team.turns) × (team.turns ≤ MAX_QUANTUM)) × (seat ≡ fresh_seat seat.worker) }
             ensures { IfOk result (λ served. IsServed team.harts team.workers team.turns seat.worker served) }
         { serve(rt, alloc, shared, team, gate, seat) },
     )?;

@@ -71,12 +71,15 @@ impl<I: RunName> LockedSession<I> {
         requires turns { (1 ≤ turns) × (turns ≤ MAX_QUANTUM) }
         ensures inputs { self.new.inputs ≡ self.old.inputs }
         ensures taken { IfOk result (λ answer. IfSome answer (λ r. self.new.quanta ≡ self.old.quanta ++ r.quantum ∷ [])) }
-        ensures asked { IfOk result (λ answer. IfSome answer (λ r. r.quantum ≡ quantum_of self.old.inputs seat.old.worker hart turns (state_of self.old).kept)) }
+        ensures asked { IfOk result
+            (λ answer. IfSome answer (λ r. r.quantum ≡ quantum_of self.old.inputs seat.old.worker hart turns (state_of self.old).kept)) }
         ensures number { IfOk result (λ answer. IfSome answer (λ r. (r.number ≡ length self.old.quanta) × (r.number < MAX_QUANTA))) }
-        ensures receipts { IfOk result (λ answer. IfSome answer (λ r. (seat.new ≡ record seat.old { receipts = seat.old.receipts ++ r ∷ [] }) × AreBelow r.number seat.old.receipts)) }
+        ensures receipts { IfOk result (λ answer. IfSome answer
+            (λ r. (seat.new ≡ record seat.old { receipts = seat.old.receipts ++ r ∷ [] }) × AreBelow r.number seat.old.receipts)) }
         ensures going_on { IfOk result (λ answer. IfSome answer (λ r. Halted self.old.inputs self.old.quanta hart → ⊥)) }
         ensures halted { IfOk result (λ answer. IfNone answer (Halted self.old.inputs self.old.quanta hart)) }
-        ensures none { IfOk result (λ answer. IfNone answer ((self.new ≡ self.old) × (seat.new ≡ record seat.old { noted = seat.old.noted ++ hart ∷ [] }))) }
+        ensures none { IfOk result
+            (λ answer. IfNone answer ((self.new ≡ self.old) × (seat.new ≡ record seat.old { noted = seat.old.noted ++ hart ∷ [] }))) }
         ensures failed { OnErr result ((self.new ≡ self.old) × (seat.new ≡ seat.old)) }
     {
         seat.receipts.reserve(1)?;

@@ -71,9 +71,11 @@ impl<I: RunName> Shared<I> {
     ) -> Result<Option<Receipt>, NoMemory>
         requires hart { hart < I.inputs.settings.harts }
         requires turns { (1 ≤ turns) × (turns ≤ MAX_QUANTUM) }
-        ensures asked { IfOk result (λ answer. IfSome answer (λ r. (r.quantum.worker ≡ seat.old.worker) × (r.quantum.hart ≡ hart) × (r.quantum.turns ≡ turns))) }
+        ensures asked { IfOk result
+            (λ answer. IfSome answer (λ r. (r.quantum.worker ≡ seat.old.worker) × (r.quantum.hart ≡ hart) × (r.quantum.turns ≡ turns))) }
         ensures number { IfOk result (λ answer. IfSome answer (λ r. (r.number < MAX_QUANTA) × AreBelow r.number seat.old.receipts)) }
-        ensures receipts { IfOk result (λ answer. IfSome answer (λ r. seat.new ≡ record seat.old { receipts = seat.old.receipts ++ r ∷ [] })) }
+        ensures receipts { IfOk result
+            (λ answer. IfSome answer (λ r. seat.new ≡ record seat.old { receipts = seat.old.receipts ++ r ∷ [] })) }
         ensures none { IfOk result (λ answer. IfNone answer (seat.new ≡ record seat.old { noted = seat.old.noted ++ hart ∷ [] })) }
         ensures failed { OnErr result (seat.new ≡ seat.old) }
     {

@@ -48,4 +48,5 @@ AreWholeParts i s = (part : ShownPart) → In part (parts_of i s).shown → IsWh
 pub record PartsTold : Type 0 where
   pub works : (i : Inputs) (quanta : List Quantum) → 1 ≤ i.settings.width → AreParts i (work i quanta)
   pub closes : (i : Inputs) (quanta : List Quantum) → 1 ≤ i.settings.width → AreParts i (closed i (work i quanta))
-  pub whole : (i : Inputs) (quanta : List Quantum) → 1 ≤ i.settings.width → IsProgram i.image → ArePlansGood i → AreForOpening i → AreWholeParts i (closed i (work i quanta))
+  pub whole : (i : Inputs) (quanta : List Quantum)
+      → 1 ≤ i.settings.width → IsProgram i.image → ArePlansGood i → AreForOpening i → AreWholeParts i (closed i (work i quanta))

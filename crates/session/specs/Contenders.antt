@@ -71,7 +71,8 @@ abbrev pub AreWithout : Inputs → List Node → ℕ → List ℕ → List ℕ �
 AreWithout i nodes force [] [] = Unit {0}
 AreWithout i nodes force [] (m ∷ ms) = ⊥
 AreWithout i nodes force (n ∷ ns) [] = MustWait i nodes force n × AreWithout i nodes force ns []
-AreWithout i nodes force (n ∷ ns) (m ∷ ms) = ((n ≡ m) × AreWithout i nodes force ns ms) ⊎ (MustWait i nodes force n × AreWithout i nodes force ns (m ∷ ms))
+AreWithout i nodes force (n ∷ ns) (m ∷ ms) =
+    ((n ≡ m) × AreWithout i nodes force ns ms) ⊎ (MustWait i nodes force n × AreWithout i nodes force ns (m ∷ ms))
 
 -- ---- the costs in force
 

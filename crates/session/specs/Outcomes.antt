@@ -31,7 +31,8 @@ bar_cause_of (Refused refused) = bar_of_refusal refused
 -- ---- one pair
 
 -- it has an instrument from now on
-pub record IsInstrumented (i : Inputs) (plan : Plan) (c : Candidate) (limit : Option ℕ) (old new : Table) (number : InstrumentNo) : Type 0 where
+pub record IsInstrumented
+    (i : Inputs) (plan : Plan) (c : Candidate) (limit : Option ℕ) (old new : Table) (number : InstrumentNo) : Type 0 where
   pub planned : c.fault ≡ None
   pub placed : admission old.machine.state.placer plan limit ≡ Ok new.machine.state.placer
   pub number_is : number.n ≡ old.machine.state.placer.count

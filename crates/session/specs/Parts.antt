@@ -91,7 +91,8 @@ node_part i n = record {
 -- the nodes in the order in which they were made, and whether no more could be
 abbrev pub search_part : Inputs → Option SearchDecl → List Node → Option SearchPart
 search_part i None nodes = None
-search_part i (Some decl) nodes = Some (record { full = nat_le most_nodes (length nodes); window = decl.window; nodes = map (node_part i) nodes })
+search_part i (Some decl) nodes =
+    Some (record { full = nat_le most_nodes (length nodes); window = decl.window; nodes = map (node_part i) nodes })
 
 -- ---- the whole
 

@@ -34,7 +34,8 @@ begun i = session_at i [] false
 
 -- a refused wish is told by the name of its metric, its focus, and why
 abbrev pub IsToldAs : Inputs → RefusedWish → List ℕ → List ℕ → PickCause → Type 0
-IsToldAs i wish metric focus cause = (metric ≡ name_of (metric_of i wish.metric)) × (focus ≡ canonical i.tree wish.focus) × (cause ≡ wish.cause)
+IsToldAs i wish metric focus cause =
+    (metric ≡ name_of (metric_of i wish.metric)) × (focus ≡ canonical i.tree wish.focus) × (cause ≡ wish.cause)
 
 -- why one doesn't begin, other than by running out of memory: a wish of the opening is refused
 abbrev pub IsStartFault : Inputs → StartFault → Type 0

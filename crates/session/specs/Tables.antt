@@ -123,7 +123,8 @@ table_at_first machine search marks places due = record {
 -- before any wish is looked at
 abbrev pub first_table : Inputs → Table
 first_table i =
-    table_at_first (record { state = first_instrumented i.image i.settings.harts i.settings.budget i.settings.instruments; ready = [] }) (first_search i)
+    table_at_first (record { state = first_instrumented i.image i.settings.harts i.settings.budget i.settings.instruments; ready = [] })
+    (first_search i)
     (replicate i.settings.harts 0) i.settings.harts i.settings.width
 
 -- ---- steps
@@ -171,7 +172,8 @@ table_sampled t = record t {
 }
 
 abbrev pub table_swept : Table → Table
-table_swept t = record t { machine = record t.machine { state = repeated (length t.machine.state.placer.book.agenda) Sweeps t.machine.state } }
+table_swept t =
+    record t { machine = record t.machine { state = repeated (length t.machine.state.placer.book.agenda) Sweeps t.machine.state } }
 
 -- and tests that are gone are forgotten
 abbrev pub table_freed : Table → Table
@@ -212,14 +214,16 @@ table_closed t = table_ended (if nat_lt (table_quiet t).last (table_quiet t).tim
 
 -- the whole agenda, and then each instrument is armed
 abbrev pub table_opened : Table → Table
-table_opened t = table_armed (record t { machine = record t.machine { state = repeated (length t.machine.state.placer.book.agenda) Hands t.machine.state } })
+table_opened t = table_armed
+    (record t { machine = record t.machine { state = repeated (length t.machine.state.placer.book.agenda) Hands t.machine.state } })
 
 abbrev pub table_begun : ℕ → ℕ → Table → Table
 table_begun h n t = table_handed (table_turned h n t)
 
 -- a quantum after its admission
 abbrev pub table_tended : ℕ → ℕ → ℕ → Table → Table
-table_tended width h n t = if nat_le (table_begun h n t).due (table_begun h n t).time then table_worked width (table_begun h n t) else table_begun h n t
+table_tended width h n t =
+    if nat_le (table_begun h n t).due (table_begun h n t).time then table_worked width (table_begun h n t) else table_begun h n t
 
 -- ---- a pair that is to be shown
 
@@ -252,7 +256,15 @@ IsCount time (w ∷ ws) (suc n) = (nat_le w.at time ≡ true) × IsCount time ws
 
 -- what no admission changes
 pub record IsStill (old new : Table) : Type 0 where
-  pub same : new ≡ record old { machine = new.machine; refused = new.refused; kits = new.kits; live = new.live; search = new.search; room = new.room; worked = new.worked }
+  pub same : new ≡ record old {
+    machine = new.machine;
+    refused = new.refused;
+    kits = new.kits;
+    live = new.live;
+    search = new.search;
+    room = new.room;
+    worked = new.worked;
+  }
   pub core : new.machine.state.core ≡ old.machine.state.core
   pub rules : new.search.rules ≡ old.search.rules
 

@@ -66,7 +66,8 @@ impl Desk {
         requires costs { AllByRecursion (HasCost inputs.now) self.old.kits }
         requires live { AreLive self.old.machine.state.placer self.old.kits self.old.live }
         requires known { AreKnown inputs.now costs.old }
-        ensures kept { OnOk result ((ws : List CheckedWish) → kept_of ws self.new ≡ with_tests inputs.now (with_all inputs.now wishes.now (kept_of ws self.old))) }
+        ensures kept { OnOk result ((ws : List CheckedWish)
+            → kept_of ws self.new ≡ with_tests inputs.now (with_all inputs.now wishes.now (kept_of ws self.old))) }
         ensures kits { OnOk result (IsMore inputs.now self.old.kits self.new.kits) }
         ensures few { OnOk result (length self.new.kits ≤ length self.old.kits + length wishes.now + taken_at_once) }
         ensures still { OnOk result (IsStill self.old self.new) }

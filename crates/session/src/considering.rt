@@ -104,7 +104,8 @@ impl Desk {
         requires candidate { IsCandidate inputs.now plan.now candidate }
         requires ready { In (need_of plan.now) self.old.machine.ready }
         requires live { AreLive self.old.machine.state.placer self.old.kits self.old.live }
-        ensures kept { (ws : List CheckedWish) → kept_of ws self.new ≡ with_plan (planned inputs.now wish.now.metric wish.now.focus) wish.now (kept_of ws self.old) }
+        ensures kept { (ws : List CheckedWish)
+            → kept_of ws self.new ≡ with_plan (planned inputs.now wish.now.metric wish.now.focus) wish.now (kept_of ws self.old) }
         ensures step { IsStep inputs.now plan.now self.old self.new }
         ensures search { self.new.search ≡ self.old.search }
     {
@@ -163,7 +164,8 @@ impl Desk {
         ensures live { AreLive self.new.machine.state.placer self.new.kits self.new.live }
         ensures still { IsStill self.old self.new }
         ensures search { self.new.search ≡ self.old.search }
-        ensures left { (needs : List Need) → AreReady (map need_of plans.now ++ needs) self.old.machine.ready → AreReady needs self.new.machine.ready }
+        ensures left { (needs : List Need)
+            → AreReady (map need_of plans.now ++ needs) self.old.machine.ready → AreReady needs self.new.machine.ready }
     {
         let mut candidates = candidates;
         for place in 0..wishes.len() {

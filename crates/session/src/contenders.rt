@@ -96,7 +96,8 @@ fn is_left(
 ) -> bool
     requires force { force < 2 ^ 63 }
     requires known { AreKnown inputs.now costs.now }
-    ensures { (nodes : List Node) → slice_get nodes number ≡ Some node.now → metric ≡ metric_of inputs.now node.now → IsTrue result → MustWait inputs.now nodes force number }
+    ensures { (nodes : List Node) → slice_get nodes number ≡ Some node.now
+        → metric ≡ metric_of inputs.now node.now → IsTrue result → MustWait inputs.now nodes force number }
 {
     match costs.words(number, metric, &node.focus) {
         Some(words) => must_wait(u64::from(inputs.search_decl().cost), words, force),
@@ -182,8 +183,10 @@ impl Desk {
         requires force { force < 2 ^ 63 }
         requires known { AreKnown inputs.now costs.old }
         ensures others { IfOk result (λ candidates. take (length plans.old.items) plans.new.items ≡ plans.old.items) }
-        ensures each { IfOk result (λ candidates. AreContenders inputs.now self.now.search.nodes (drop (length plans.old.items) plans.new.items) candidates.items) }
-        ensures queue { IfOk result (λ candidates. AreWithout inputs.now self.now.search.nodes force (queue_of inputs.now self.now.observed self.now.search) (numbers_in candidates.items)) }
+        ensures each { IfOk result (λ candidates.
+            AreContenders inputs.now self.now.search.nodes (drop (length plans.old.items) plans.new.items) candidates.items) }
+        ensures queue { IfOk result (λ candidates. AreWithout inputs.now self.now.search.nodes force
+            (queue_of inputs.now self.now.observed self.now.search) (numbers_in candidates.items)) }
         ensures known { AreKnown inputs.now costs.new }
     {
         let nodes = self.search.nodes();

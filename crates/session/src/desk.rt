@@ -79,7 +79,8 @@ impl Model for Desk {
       observed = d.observed;
     } };
 
-    ghost invariant = { λ d. (vec_len d.refused + d.room ≤ vec_capacity d.refused) × (vec_len d.kits.all + d.room ≤ vec_capacity d.kits.all) × (vec_len d.kits.live + d.room ≤ vec_capacity d.kits.live)
+    ghost invariant = { λ d. (vec_len d.refused + d.room ≤ vec_capacity d.refused)
+        × (vec_len d.kits.all + d.room ≤ vec_capacity d.kits.all) × (vec_len d.kits.live + d.room ≤ vec_capacity d.kits.live)
         × (vec_len d.kits.all + d.room ≤ vec_capacity d.latest) × (vec_len d.kits.all + d.room ≤ vec_capacity d.tests) };
 }
 
@@ -124,7 +125,8 @@ impl Desk {
         requires time { self.old.time < 2 ^ 63 }
         requires idle { self.old.idle < 2 ^ 63 }
         ensures table { self.new ≡ table_turned hart most self.old }
-        ensures live { AreLive self.old.machine.state.placer self.old.kits self.old.live → AreLive self.new.machine.state.placer self.new.kits self.new.live }
+        ensures live { AreLive self.old.machine.state.placer self.old.kits self.old.live
+            → AreLive self.new.machine.state.placer self.new.kits self.new.live }
         ensures owns { result ≡ length (owns (quantum_turns most hart self.old.machine.state.core) self.old.machine.state.core) }
         ensures harts { length self.new.machine.state.core.harts ≡ length self.old.machine.state.core.harts }
         ensures later { self.new.time < self.old.time + 2 ^ 32 }
@@ -152,7 +154,8 @@ impl Desk {
         requires time { self.old.time < 2 ^ 63 }
         requires idle { self.old.idle < 2 ^ 63 }
         ensures table { self.new ≡ table_quiet self.old }
-        ensures live { AreLive self.old.machine.state.placer self.old.kits self.old.live → AreLive self.new.machine.state.placer self.new.kits self.new.live }
+        ensures live { AreLive self.old.machine.state.placer self.old.kits self.old.live
+            → AreLive self.new.machine.state.placer self.new.kits self.new.live }
         ensures quiet { IsQuiet self.new.machine.state.core }
         ensures harts { length self.new.machine.state.core.harts ≡ length self.old.machine.state.core.harts }
         ensures later { self.new.time < self.old.time + 2 ^ 32 }

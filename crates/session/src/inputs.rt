@@ -43,7 +43,14 @@ impl Model for Inputs {
 
     ghost Value = { Inputs };
 
-    ghost view = { λ i. record { image = i.image; checked = i.checked; tree = i.tree; procs = i.index.procs; points = i.index.points; settings = i.settings } };
+    ghost view = { λ i. record {
+      image = i.image;
+      checked = i.checked;
+      tree = i.tree;
+      procs = i.index.procs;
+      points = i.index.points;
+      settings = i.settings;
+    } };
 }
 
 // Its drop is a function of its own, so that callers need not prove the drops of all its parts.

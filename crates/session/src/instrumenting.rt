@@ -70,7 +70,12 @@ impl Desk {
         ensures ok { IfOk result (IsInstrumented inputs.now plan.now candidate limit self.old self.new) }
         ensures err { IfErr result (IsFailed plan.now candidate.fault limit self.old self.new) }
         ensures step { IsStep inputs.now plan.now self.old self.new }
-        ensures same { self.new ≡ record self.old { machine = self.new.machine; kits = self.new.kits; live = self.new.live; room = self.new.room } }
+        ensures same { self.new ≡ record self.old {
+          machine = self.new.machine;
+          kits = self.new.kits;
+          live = self.new.live;
+          room = self.new.room;
+        } }
     {
         if let Some(fault) = candidate.fault {
             return Err(Failure::NoPlan(fault));

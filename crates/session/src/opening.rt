@@ -126,7 +126,10 @@ impl Desk {
     /// `NoMemory` where memory runs out. Then no more has changed than which plans are ready.
     pub(crate) fn reserve(&mut self, alloc: Global, plans: &[Plan]) -> Result<(), NoMemory>
         requires { (p : Plan) → In p plans.now → predicted p < 2 ^ 32 }
-        ensures same { self.new ≡ record self.old { machine = record self.old.machine { ready = self.new.machine.ready }; room = self.new.room } }
+        ensures same { self.new ≡ record self.old {
+          machine = record self.old.machine { ready = self.new.machine.ready };
+          room = self.new.room;
+        } }
         ensures room { OnOk result (self.new.room ≡ length plans.now) }
         ensures ready { OnOk result (self.new.machine.ready ≡ map need_of plans.now) }
     {

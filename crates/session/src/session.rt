@@ -68,7 +68,8 @@ impl Model for Session {
 
     ghost view = { λ s. record { inputs = s.inputs; machine = s.desk.machine.state; quanta = s.quanta.items; closed = s.closed } };
 
-    ghost invariant = { λ s. IsKept s.inputs s.quanta.items s.closed (drop s.looked s.wishes.items) s.desk × (s.looked ≤ vec_len s.wishes) × AreKnown s.inputs s.costs };
+    ghost invariant = { λ s. IsKept s.inputs s.quanta.items s.closed (drop s.looked s.wishes.items) s.desk
+        × (s.looked ≤ vec_len s.wishes) × AreKnown s.inputs s.costs };
 }
 
 // Its drop is a function of its own, so that callers need not prove the drops of all its parts.
@@ -240,7 +241,8 @@ impl Session {
     pub fn done(&self) -> bool
         requires { self.now.closed ≡ false }
         ensures whole { result ≡ true → IsWhole self.now.inputs self.now.quanta }
-        ensures open { result ≡ false → (hart : ℕ) × (hart < self.now.inputs.settings.harts) × (Halted self.now.inputs self.now.quanta hart → ⊥) }
+        ensures open { result ≡ false
+            → (hart : ℕ) × (hart < self.now.inputs.settings.harts) × (Halted self.now.inputs self.now.quanta hart → ⊥) }
     {
         for hart in 0..self.inputs.settings.harts {
             if self.runnable(hart) {
@@ -274,7 +276,8 @@ impl Session {
         ensures machine { self.new.machine ≡ (state_of self.new).kept.machine }
         // No hart has more ticks than the budget.
         ensures budget { KeepsBudget self.new.machine.core }
-        ensures asked { IfOk result (λ answer. IfSome answer (λ q. q ≡ quantum_of self.old.inputs worker hart turns (state_of self.old).kept)) }
+        ensures asked { IfOk result
+            (λ answer. IfSome answer (λ q. q ≡ quantum_of self.old.inputs worker hart turns (state_of self.old).kept)) }
         ensures halted { IfOk result (λ answer. IfNone answer (Halted self.old.inputs self.old.quanta hart)) }
         ensures none { IfOk result (λ answer. IfNone answer (self.new ≡ self.old)) }
         ensures going_on { IfOk result (λ answer. IfSome answer (λ q. Halted self.old.inputs self.old.quanta hart → ⊥)) }

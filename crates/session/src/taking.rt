@@ -137,7 +137,8 @@ impl Desk {
         requires live { AreLive self.old.machine.state.placer self.old.kits self.old.live }
         requires few { length self.old.kits + length plans.now < 2 ^ 31 }
         requires costs { AllByRecursion (HasCost inputs.now) self.old.kits }
-        ensures kept { (ws : List CheckedWish) → kept_of ws self.new ≡ with_nodes inputs.now (numbers_in candidates.items) (kept_of ws self.old) }
+        ensures kept { (ws : List CheckedWish)
+            → kept_of ws self.new ≡ with_nodes inputs.now (numbers_in candidates.items) (kept_of ws self.old) }
         ensures kits { IsMore inputs.now self.old.kits self.new.kits }
         ensures few { length self.new.kits ≤ length self.old.kits + length plans.now }
         ensures live { AreLive self.new.machine.state.placer self.new.kits self.new.live }

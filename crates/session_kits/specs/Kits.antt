@@ -36,7 +36,8 @@ kit_sampled m time k =
 
 -- the sample of a pair, if it is armed, from its last one or its arming to now
 abbrev pub kit_bin : Instrumented → ℕ → Kit → Option Bin
-kit_bin m time k = if is_armed m.placer k.shown then Some (record { from = k.shown.from; to = time; sum = difference k.last (kit_reading m k) }) else None
+kit_bin m time k =
+    if is_armed m.placer k.shown then Some (record { from = k.shown.from; to = time; sum = difference k.last (kit_reading m k) }) else None
 
 -- that of a pair which was wished, with its place among those
 unfoldable pub kit_latest : Instrumented → ℕ → ℕ → Kit → List Latest
@@ -56,7 +57,8 @@ kit_ticks m marks k = ticks_between (range_with_len k.first k.count) marks (tick
 abbrev pub kit_test_by : Option ℕ → Instrumented → List ℕ → Kit → List NodeSample
 kit_test_by None m marks k = []
 kit_test_by (Some n) m marks k =
-    if is_armed m.placer k.shown then record { node = n; from = k.shown.from; value = difference k.last (kit_reading m k); ticks = kit_ticks m marks k } ∷ [] else []
+    if is_armed m.placer k.shown
+    then record { node = n; from = k.shown.from; value = difference k.last (kit_reading m k); ticks = kit_ticks m marks k } ∷ [] else []
 
 unfoldable pub kit_test : Instrumented → List ℕ → Kit → List NodeSample
 kit_test m marks k = kit_test_by k.shown.node m marks k

@@ -53,7 +53,10 @@ fn find_tester(machine: &InstrumentedMachine, kits: &Kits, node: u32) -> Option<
 /// Drops the instrument that tests a node, if there is one.
 fn drop_test(machine: &mut InstrumentedMachine, kits: &Kits, node: u32)
     requires live { AreLiveFrom 0 machine.old.state.placer kits.now.all.items kits.now.live.items }
-    ensures machine { machine.new ≡ record machine.old { state = dropped_by (tester_of machine.old.state.placer node (map (λ k. k.shown) kits.now.all.items)) machine.old.state } }
+    ensures machine { machine.new ≡ record machine.old {
+      state = dropped_by
+          (tester_of machine.old.state.placer node (map (λ k. k.shown) kits.now.all.items)) machine.old.state;
+    } }
     ensures core { machine.new.state.core ≡ machine.old.state.core }
 {
     if let Some(number) = find_tester(machine, kits, node) {
@@ -64,7 +67,8 @@ fn drop_test(machine: &mut InstrumentedMachine, kits: &Kits, node: u32)
 /// Drops the instruments that test these nodes, one after another. It takes no memory.
 pub fn drop_tests(machine: &mut InstrumentedMachine, kits: &Kits, nodes: &[u32])
     requires live { AreLive machine.old.state.placer kits.now.all.items kits.now.live.items }
-    ensures machine { machine.new ≡ record machine.old { state = dropped_tests nodes.now (map (λ k. k.shown) kits.now.all.items) machine.old.state } }
+    ensures machine { machine.new
+        ≡ record machine.old { state = dropped_tests nodes.now (map (λ k. k.shown) kits.now.all.items) machine.old.state } }
     ensures core { machine.new.state.core ≡ machine.old.state.core }
 {
     for node in nodes {

@@ -121,7 +121,8 @@ fn put_test(
     requires small { AllByRecursion (λ x. x.ticks < 2 ^ 58) machine.now.state.core.harts }
     requires most { length machine.now.state.core.harts ≤ MAX_HARTS }
     requires harts { first + count ≤ length machine.now.state.core.harts }
-    ensures items { list.new.items ≡ list.old.items ++ test_by node (ticks_between (range_with_len first count) marks.now (ticks_of machine.now.state)) bin }
+    ensures items { list.new.items
+        ≡ list.old.items ++ test_by node (ticks_between (range_with_len first count) marks.now (ticks_of machine.now.state)) bin }
     ensures room { vec_capacity list.old ≤ vec_capacity list.new }
 {
     if let (Some(node), Some(bin)) = (node, bin) {

@@ -18,7 +18,8 @@ IsWithin i k = in_force i k.machine.placer k.shown ≤ (rules_of i).decl.cost
 -- after the admission, the turns and the entries of the agenda; and at a due work when the machine is quiet, after the samples, and
 -- after the armings.
 pub record AreWithin (i : Inputs) (s : State) : Type 0 where
-  pub taking : (before behind : List ℕ) → take taken_at_once (waiting_of (with_wishes i s.kept.wishes s.kept).search.nodes) ≡ before ++ behind
+  pub taking : (before behind : List ℕ)
+      → take taken_at_once (waiting_of (with_wishes i s.kept.wishes s.kept).search.nodes) ≡ before ++ behind
       → IsWithin i (with_nodes i before (with_wishes i s.kept.wishes s.kept))
   pub admitted : IsWithin i (state_admitted i s).kept
   pub turned : (h n : ℕ) → IsWithin i (state_turned h n (state_admitted i s)).kept

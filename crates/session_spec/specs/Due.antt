@@ -47,7 +47,8 @@ sample_of i owns time s = record { from = s.from; to = time; sum = measured i ow
 abbrev pub recorded_with : Inputs → Placements → List ℕ → ℕ → List Shown → List (List Bin) → List (List Bin)
 recorded_with i p owns time [] rs = rs
 recorded_with i p owns time (s ∷ ss) [] = []
-recorded_with i p owns time (s ∷ ss) (r ∷ rs) = (if is_armed p s then r ++ sample_of i owns time s ∷ [] else r) ∷ recorded_with i p owns time ss rs
+recorded_with i p owns time (s ∷ ss) (r ∷ rs) =
+    (if is_armed p s then r ++ sample_of i owns time s ∷ [] else r) ∷ recorded_with i p owns time ss rs
 
 -- the place after an instrument's, where only those that were wished have places
 abbrev pub place_behind : Option ℕ → ℕ → ℕ

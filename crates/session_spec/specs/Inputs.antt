@@ -31,7 +31,8 @@ pub record Inputs : Type 0 where
 
 -- these parts as inputs
 abbrev pub inputs_of : Image → Checked → Resources → List Proc → List Point → Settings → Inputs
-inputs_of image checked tree procs points settings = record { image = image; checked = checked; tree = tree; procs = procs; points = points; settings = settings }
+inputs_of image checked tree procs points settings =
+    record { image = image; checked = checked; tree = tree; procs = procs; points = points; settings = settings }
 
 -- ---- plans
 

@@ -27,4 +27,5 @@ pub record IsWholeRun (i : Inputs) (owns : List ℕ) (x : Shown) (r : List Bin) 
 -- this holds for each pair that was wished
 abbrev pub AreWholeRuns : Inputs → State → Type 0
 AreWholeRuns i s =
-    (n : ℕ) (x : Shown) (samples : List Bin) → slice_get s.kept.shown n ≡ Some x → slice_get s.recorded n ≡ Some samples → x.node ≡ None → IsWholeRun i s.owns x samples
+    (n : ℕ) (x : Shown) (samples : List Bin)
+    → slice_get s.kept.shown n ≡ Some x → slice_get s.recorded n ≡ Some samples → x.node ≡ None → IsWholeRun i s.owns x samples

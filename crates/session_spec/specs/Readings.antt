@@ -40,7 +40,8 @@ lasts_now i m (s ∷ ss) (last ∷ lasts) = last_now i m s last ∷ lasts_now i 
 abbrev pub lasts_armed : Inputs → Instrumented → List Shown → List ℕ → List ℕ
 lasts_armed i m [] lasts = []
 lasts_armed i m (s ∷ ss) [] = []
-lasts_armed i m (s ∷ ss) (last ∷ lasts) = (if is_ready m s then read_now i (machine_armed m s) s else last) ∷ lasts_armed i (machine_armed m s) ss lasts
+lasts_armed i m (s ∷ ss) (last ∷ lasts) =
+    (if is_ready m s then read_now i (machine_armed m s) s else last) ∷ lasts_armed i (machine_armed m s) ss lasts
 
 -- ---- samples as they are read
 
@@ -53,7 +54,8 @@ recorded_read i m time [] lasts rs = rs
 recorded_read i m time (s ∷ ss) [] rs = []
 recorded_read i m time (s ∷ ss) (last ∷ lasts) [] = []
 recorded_read i m time (s ∷ ss) (last ∷ lasts) (r ∷ rs) =
-    (if is_armed m.placer s then r ++ record { from = s.from; to = time; sum = sum_read i m s last } ∷ [] else r) ∷ recorded_read i m time ss lasts rs
+    (if is_armed m.placer s then r ++ record { from = s.from; to = time; sum = sum_read i m s last } ∷ []
+    else r) ∷ recorded_read i m time ss lasts rs
 
 -- ---- ticks
 

@@ -24,7 +24,8 @@ latest_read n i m time (s ∷ ss) (last ∷ lasts) =
 
 -- the samples of the nodes under test, where `marks` says how many ticks each hart had when its last sample ended
 abbrev pub node_read : Inputs → Instrumented → ℕ → List ℕ → ℕ → Shown → ℕ → NodeSample
-node_read i m time marks n s last = record { node = n; from = s.from; value = sum_read i m s last; ticks = ticks_between (harts_of i s.focus) marks (ticks_of m) }
+node_read i m time marks n s last =
+    record { node = n; from = s.from; value = sum_read i m s last; ticks = ticks_between (harts_of i s.focus) marks (ticks_of m) }
 
 abbrev pub node_read_by : Option ℕ → Inputs → Instrumented → ℕ → List ℕ → Shown → ℕ → List NodeSample
 node_read_by None i m time marks s last = []

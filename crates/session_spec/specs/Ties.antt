@@ -38,7 +38,8 @@ pub record IsShown (i : Inputs) (acts : List Act) (s : Shown) (last : ℕ) : Typ
   pub good : IsGood i plan
   pub listed : slice_get (scene_at (opening_of i) acts).plans s.instrument.n ≡ Some plan
   pub number : s.instrument.n < (scene_at (opening_of i) acts).placer.count
-  pub armed : (x : Instrument) → In x (scene_at (opening_of i) acts).placer.instruments → x.no ≡ s.instrument.n → x.state ≡ Armed → IsSome s.armed
+  pub armed : (x : Instrument)
+      → In x (scene_at (opening_of i) acts).placer.instruments → x.no ≡ s.instrument.n → x.state ≡ Armed → IsSome s.armed
   pub read : IsSome s.armed → IsRead (opening_of i) acts (harts_of i s.focus) s last
 
 abbrev pub AreShown : Inputs → List Act → List Shown → List ℕ → Type 0

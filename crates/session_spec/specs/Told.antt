@@ -52,7 +52,8 @@ IsJudged i s k n = IsVerdict i s.owns n × IsTested i s k n
 
 -- this holds for each node that was judged
 abbrev pub AreJudged : Inputs → State → Type 0
-AreJudged i s = (k : ℕ) (n : Node) → slice_get s.kept.search.nodes k ≡ Some n → (n.state ≡ Confirmed) ⊎ (n.state ≡ Rejected) → IsJudged i s k n
+AreJudged i s =
+    (k : ℕ) (n : Node) → slice_get s.kept.search.nodes k ≡ Some n → (n.state ≡ Confirmed) ⊎ (n.state ≡ Rejected) → IsJudged i s k n
 
 -- ---- each node, after the end
 
@@ -60,7 +61,8 @@ AreJudged i s = (k : ℕ) (n : Node) → slice_get s.kept.search.nodes k ≡ Som
 -- ended before its window did.
 abbrev pub IsOpenEnd : Inputs → List Quantum → ℕ → Node → Type 0
 IsOpenEnd i quanta k n =
-    ((cause : BarCause) × (n.state ≡ Barred cause) × WasBarred i quanta k n cause) ⊎ ((n.state ≡ Unfinished n.seen) × (n.seen < (rules_of i).decl.window))
+    ((cause : BarCause) × (n.state ≡ Barred cause) × WasBarred i quanta k n cause)
+    ⊎ ((n.state ≡ Unfinished n.seen) × (n.seen < (rules_of i).decl.window))
 
 -- what a session that is closed after these quanta tells of each node
 abbrev pub AreEnded : Inputs → List Quantum → State → Type 0

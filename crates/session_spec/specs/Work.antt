@@ -104,7 +104,8 @@ work i quanta = work_from i quanta (first_state i)
 
 -- the entry of a quantum of a hart that a worker asks for: its ticks are those of its turns
 abbrev pub quantum_of : Inputs → ℕ → ℕ → ℕ → Kept → Quantum
-quantum_of i worker h n k = record { worker = worker; hart = h; turns = n; owns = length (owns_taken h n (with_admission i k).machine.core) }
+quantum_of i worker h n k =
+    record { worker = worker; hart = h; turns = n; owns = length (owns_taken h n (with_admission i k).machine.core) }
 
 -- the entry is in range, its hart is runnable, and it has the ticks of its turns
 pub record IsAllowed (i : Inputs) (k : Kept) (q : Quantum) : Type 0 where
@@ -144,4 +145,5 @@ state_ended s = record s { kept = with_search_end s.kept }
 -- The closed form: the machine settles, and where time passed since the last sample, all that is armed is sampled once more, and
 -- the search judges. Then the search ends.
 unfoldable pub closed : Inputs → State → State
-closed i s = state_ended (if nat_lt (state_quiet s).kept.last (state_quiet s).kept.time then state_last i (state_quiet s) else state_quiet s)
+closed i s =
+    state_ended (if nat_lt (state_quiet s).kept.last (state_quiet s).kept.time then state_last i (state_quiet s) else state_quiet s)

@@ -30,7 +30,11 @@ impl Model for Lane {
 
     ghost Value = { Desk };
 
-    ghost view = { λ l. record { all = sent_by l.pass ++ l.waiting.items; line = sends_on l.sender; room = deque_capacity l.waiting - deque_len l.waiting } };
+    ghost view = { λ l. record {
+      all = sent_by l.pass ++ l.waiting.items;
+      line = sends_on l.sender;
+      room = deque_capacity l.waiting - deque_len l.waiting;
+    } };
 
     ghost invariant = { λ l. IsSender (sends_on l.sender) l.pass };
 }

@@ -132,7 +132,8 @@ fn stream<R: Threads + Wait + Sync, G: Gate + Sync>(
     ensures inputs { IfOk result (λ r. (r.session.inputs ≡ session.inputs) × (r.session.closed ≡ true)) }
     ensures seeded { IfOk result (λ r. IsSeeded session.inputs course.seed course.turns r.session.quanta) }
     ensures count { IfOk result (λ r. length r.lists.items ≡ course.views) }
-    ensures feed { IfOk result (λ r. AllByRecursion (λ xs. xs ≡ feed_of session.inputs r.session.quanta) (map (λ v. v.items) r.lists.items)) }
+    ensures feed { IfOk result
+        (λ r. AllByRecursion (λ xs. xs ≡ feed_of session.inputs r.session.quanta) (map (λ v. v.items) r.lists.items)) }
     ensures last { IfOk result (λ r. r.last ≡ last_reading session.inputs r.session.quanta) }
 {
     let (publisher, views) = streams(alloc, course.views, ROOM)?;

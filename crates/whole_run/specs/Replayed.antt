@@ -37,7 +37,8 @@ misfit_from i n s (q ∷ quanta) = elim (misfit_at i n s.kept q) [
 
 -- a hart could go on after the quanta
 abbrev pub goes_on : Inputs → List Quantum → Bool
-goes_on i quanta = nat_lt (length quanta) MAX_QUANTA && list_any (is_runnable (work i quanta).kept.machine.core) (range_with_len 0 i.settings.harts)
+goes_on i quanta =
+    nat_lt (length quanta) MAX_QUANTA && list_any (is_runnable (work i quanta).kept.machine.core) (range_with_len 0 i.settings.harts)
 
 -- Why the quanta are no whole run, if they aren't one: the first that isn't the run's, or that they end before the run does.
 unfoldable pub misfit_of : Inputs → List Quantum → Option Misfit

@@ -23,7 +23,8 @@ pub record IsSeeded (i : Inputs) (seed turns : ℕ) (quanta : List Quantum) : Ty
 
 -- there is at most one
 abbrev pub OneSeeded : Type 0
-OneSeeded = (i : Inputs) (seed turns : ℕ) (quanta others : List Quantum) → IsSeeded i seed turns quanta → IsSeeded i seed turns others → quanta ≡ others
+OneSeeded = (i : Inputs) (seed turns : ℕ) (quanta others : List Quantum)
+    → IsSeeded i seed turns quanta → IsSeeded i seed turns others → quanta ≡ others
 
 -- there is one
 abbrev pub SomeSeeded : Type 0

@@ -22,7 +22,8 @@ fn fill(session: &Session, harts: u32, ready: &mut Ready) -> Result<(), NoMemory
     requires harts { harts ≡ session.now.inputs.settings.harts }
     requires few { harts ≤ MAX_HARTS }
     requires going { session.now.closed ≡ false }
-    ensures { length session.now.quanta < MAX_QUANTA → OnOk result (ready.new ≡ ready_of (is_runnable (work session.now.inputs session.now.quanta).kept.machine.core) harts) }
+    ensures { length session.now.quanta < MAX_QUANTA
+        → OnOk result (ready.new ≡ ready_of (is_runnable (work session.now.inputs session.now.quanta).kept.machine.core) harts) }
 {
     ready.clear();
     for number in 0..harts {
@@ -43,8 +44,10 @@ fn refresh(session: &Session, harts: u32, hart: HartNo, ready: &mut Ready) -> Re
     requires few { harts ≤ MAX_HARTS }
     requires hart { hart < harts }
     requires going { session.now.closed ≡ false }
-    requires others { let kept = (work session.now.inputs session.now.quanta).kept in kept.worked ≡ false → ready.old ≡ ready_of (λ h. (h == hart) || is_runnable kept.machine.core h) harts }
-    ensures { length session.now.quanta < MAX_QUANTA → OnOk result (ready.new ≡ ready_of (is_runnable (work session.now.inputs session.now.quanta).kept.machine.core) harts) }
+    requires others { let kept = (work session.now.inputs session.now.quanta).kept in kept.worked ≡ false
+        → ready.old ≡ ready_of (λ h. (h == hart) || is_runnable kept.machine.core h) harts }
+    ensures { length session.now.quanta < MAX_QUANTA
+        → OnOk result (ready.new ≡ ready_of (is_runnable (work session.now.inputs session.now.quanta).kept.machine.core) harts) }
 {
     if session.worked() {
         return fill(session, harts, ready);
@@ -111,7 +114,8 @@ impl Rounds {
         ensures going { session.new.closed ≡ false }
         ensures taken { IfOk result (λ answer. IfSome answer (λ q. session.new.quanta ≡ session.old.quanta ++ q ∷ [])) }
         ensures none { IfOk result (λ answer. IfNone answer (session.new ≡ session.old)) }
-        ensures whole { IfOk result (λ answer. IfNone answer (IsSeeded session.new.inputs self.new.seed self.new.turns session.new.quanta)) }
+        ensures whole { IfOk result
+            (λ answer. IfNone answer (IsSeeded session.new.inputs self.new.seed self.new.turns session.new.quanta)) }
     {
         if session.quanta().len() >= MAX_QUANTA as usize {
             session.laws();
