@@ -46,7 +46,7 @@ module _ (j : ℕ) where
       by true rest = rest ∙ turn_same (slice_get c.harts h) c h other
       by false rest = refl
 
--- the hart was runnable, and so it is after a quantum
+-- the hart was runnable, and is after a quantum
 pub stays_ready : (was may : ℕ → Bool) (h n : ℕ) (ready : List ℕ) → ready ≡ ready_of was n → was h ≡ true → may h ≡ true → ((j : ℕ) → j ≢ h → may j ≡ was j) → ready ≡ ready_of may n
 stays_ready was may h n ready e runs goes others = e ∙ sym (filter_same was may (range_with_len 0 n) (λ j. by j (j == h) refl))
   where

@@ -53,7 +53,7 @@ fn arm(alloc: Global, machine: &mut Machine, counter: &Counter) -> Result<(), No
     ensures { OnOk result (machine.new ≡ with_core machine.old (replay (arming counter.now ∷ []) machine.old.core)) }
 {
     let placed = counter.placed(alloc)?;
-    let _armed = machine.arm(&placed);
+    machine.arm(&placed);
     Ok(())
 }
 

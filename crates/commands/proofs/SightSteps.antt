@@ -48,7 +48,7 @@ module _ (sees : Sight) (most : ℕ) (too_long : Fault) (name : List ℕ) where
 
 -- ---- what was seen before other files were read, and after
 
--- a program that was read stays so
+-- a program that was read stays read
 pub program_again : (holds : List ℕ → Holding) (before then now : List ℕ → ℕ) (name : List ℕ) (image : Image) → IsProgram (seen holds before then) name (Ok image) → IsProgram (seen holds before now) name (Ok image)
 program_again holds before then now name image (Ok bytes, (Ok whole, h, short), is) = (Ok bytes, (Ok whole, h, short), is)
 program_again holds before then now name image (Ok bytes, (Err fault, h, short), is) = absurd (cc)

@@ -25,6 +25,7 @@ pub fn text_of(alloc: Global, word: &str) -> Result<Text, NoMemory>
 fn are_bytes(bytes: &[u8])
     ensures { IsBytes bytes.now }
 {
+    // For the proof alone: once the slice is read, the range of its elements is known.
     let _count = bytes.len();
 }
 

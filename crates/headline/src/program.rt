@@ -17,7 +17,7 @@ use std::thread::Threads;
 pub enum Words {
     /// All of them.
     Read(Vec<String>),
-    /// One isn't text, so they are no command.
+    /// One of them isn't text, so they are no command.
     NotText,
     /// Memory ran out before all were read.
     NoMemory,

@@ -32,14 +32,13 @@ pub record Placements : Type 0 where
 -- ---- the beginning
 
 abbrev pub no_placements : Image → ℕ → Placements
-no_placements image limit =
-    record {
-      program = program_of image;
-      limit = limit;
-      book = record { rooms = []; agenda = [] };
-      instruments = [];
-      count = 0;
-    }
+no_placements image limit = record {
+  program = program_of image;
+  limit = limit;
+  book = record { rooms = []; agenda = [] };
+  instruments = [];
+  count = 0;
+}
 
 -- ---- instruments
 

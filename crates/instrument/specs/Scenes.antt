@@ -55,11 +55,10 @@ plans_with plan (Err refused) plans = plans
 plans_with plan (Ok placer) plans = plans ++ plan ∷ []
 
 abbrev pub admits : Plan → Result Placements Refused → Scene → Told
-admits plan answer s =
-    record {
-      events = [];
-      scene = record { core = s.core; placer = or_same s.placer answer; plans = plans_with plan answer s.plans };
-    }
+admits plan answer s = record {
+  events = [];
+  scene = record { core = s.core; placer = or_same s.placer answer; plans = plans_with plan answer s.plans };
+}
 
 abbrev pub arms : Option Instrument → Scene → Told
 arms None s = told [] s.core s.placer s

@@ -34,14 +34,13 @@ abbrev pub for_drops : List Room → ℕ
 for_drops rooms = 3 * held_minis rooms
 
 abbrev pub text_data : Words → LedgerData → Rooms → ToolTextData
-text_data program l words =
-    record {
-      program = program;
-      book = l.book;
-      spare_rooms = l.spare_rooms;
-      takes = words.takes;
-      entries = l.spare_entries - for_drops l.book.rooms;
-    }
+text_data program l words = record {
+  program = program;
+  book = l.book;
+  spare_rooms = l.spare_rooms;
+  takes = words.takes;
+  entries = l.spare_entries - for_drops l.book.rooms;
+}
 
 pub record IsToolText (program : Words) (l : LedgerData) (words : Rooms) : Type 0 where
   pub rooms : AreRoomsOf program words l.book.rooms

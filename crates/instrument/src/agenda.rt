@@ -90,13 +90,14 @@ impl Agenda {
         self.room += 1;
         Some(entry)
     }
+
     /// Removes the first Free before which no unlinking of its point stands, and returns its point.
     pub fn take_free(&mut self) -> Option<u64>
         ensures point { result ≡ point_in (first_free [] self.old.entries) }
         ensures taken { self.new ≡ lists.without_free self.old }
     {
         let FreeAt { place, point } = find_free(&self.entries)?;
-        let _free = self.entries.remove(place);
+        self.entries.remove(place);
         self.room += 1;
         Some(point)
     }

@@ -74,7 +74,7 @@ fn place_mini(
     Ok(())
 }
 
-/// Places a site whose point has no base block: one is placed too.
+/// Places a site whose point has no base block: one is placed too. `buffers` give the memory.
 fn place_based(
     program: &Program,
     ledger: &mut Ledger,
@@ -82,18 +82,14 @@ fn place_based(
     owner: u64,
     slots: &[u32],
     site: &Site,
-    base_buffer: Vec<MarkedWord>,
-    buffer: Vec<MarkedWord>,
+    buffers: Buffers,
 ) -> Result<(), Refused>
     requires tied { AreRoomsOf program.now words.old ledger.old.book.rooms }
     requires rooms { 2 ≤ ledger.old.spare_rooms }
     requires entries { 4 ≤ ledger.old.spare_entries }
     requires reserved { 2 ≤ words.old.takes }
     requires low { words.old.end < 2 ^ 60 }
-    requires empty_base { base_buffer.items ≡ [] }
-    requires room_base { 7 ≤ vec_capacity base_buffer }
-    requires empty { buffer.items ≡ [] }
-    requires room { word_count site.now.stmts < vec_capacity buffer }
+    requires buffers { buffers ≡ word_count site.now.stmts + 1 }
     requires named { AreBelow (length slots.now) site.now.stmts }
     requires count { word_count site.now.stmts + 1 < 2 ^ 32 }
     ensures ok { OnOk result (table.with_base (program_word program.now site.now.at) program.now owner site.now.at
@@ -107,6 +103,11 @@ fn place_based(
     ensures takes_left { words.old.takes ≤ words.new.takes + 2 }
     ensures end { words.new.end ≡ words.old.end }
 {
+    let Buffers {
+        base: base_words,
+        mini,
+        ..
+    } = buffers;
     let point = site.at;
     let Some(word) = program.word(point) else {
         return Err(Refused::Unmovable(point));
@@ -115,11 +116,11 @@ fn place_based(
     let Some(at) = take_room(words, len) else {
         return Err(Refused::NoRoom(len));
     };
-    let Some(base) = move_base(point, word, at, base_buffer) else {
+    let Some(base) = move_base(point, word, at, base_words) else {
         words.give(at / 4, len);
         return Err(Refused::Unmovable(point));
     };
-    match place_mini(ledger, words, owner, slots, site, Some(base), buffer) {
+    match place_mini(ledger, words, owner, slots, site, Some(base), mini) {
         Ok(()) => Ok(()),
         Err(refused) => {
             words.give(at / 4, len);
@@ -159,9 +160,9 @@ pub fn place_site(
     ensures takes_left { words.old.takes ≤ words.new.takes + 2 }
     ensures end { words.new.end ≡ words.old.end }
 {
-    let Buffers { base, mini, .. } = buffers;
     if ledger.find_base(site.at).is_some() {
+        let Buffers { mini, .. } = buffers;
         return place_mini(ledger, words, owner, slots, site, None, mini);
     }
-    place_based(program, ledger, words, owner, slots, site, base, mini)
+    place_based(program, ledger, words, owner, slots, site, buffers)
 }

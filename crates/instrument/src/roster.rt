@@ -171,7 +171,7 @@ impl Roster {
     {
         let count = costs::slot_count(instrument.placed.vars.as_slice());
         if count > 0 {
-            let _slot = self.slots.take(count);
+            self.slots.take(count);
         }
         self.instruments.push_reserved(instrument);
         self.room -= 1;

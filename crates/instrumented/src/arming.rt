@@ -57,7 +57,7 @@ impl InstrumentedMachine {
             (λ i. result ≡ readings i.placed (range_with_len first count) self.now.state.core) }
         ensures places { length sample.new.readings ≡ length sample.old.readings }
     {
-        let _quiet = self.machine.sample(self.placer.placed(number), sample);
+        self.machine.sample(self.placer.placed(number), sample);
         sum_of(sample.readings.as_slice(), first, count)
     }
 

@@ -91,7 +91,7 @@ impl InstrumentedMachine {
         let Some(point) = self.placer.next_free() else {
             return false;
         };
-        let _freed = self.machine.free(point);
+        self.machine.free(point);
         self.placer.freed(point);
         true
     }

@@ -119,7 +119,7 @@ wished_is i first t e g narrow kept kits few live still program =
       still = subst (λ (x : Table). IsStill x t) e still;
     }
 
--- a wish that is refused is so whatever nodes are taken
+-- a wish that is refused is refused whatever nodes are taken
 pub wished_refused : (i : Inputs) (first t : Table) → first ≡ first_table i → ((ws : List CheckedWish) → kept_of ws t ≡ with_tests i (with_all i (first_wishes i) (kept_of ws first))) → t.refused ≡ (wished i).refused
 unfolding wished first_search
 wished_refused i first t e kept =

@@ -142,8 +142,8 @@ impl Desk {
         }
     }
 
-    /// Looks at wishes, one after another, with what they need. For each there is room, and its plan is ready. What else is ready,
-    /// stays so.
+    /// Looks at wishes, one after another, with what they need. For each there is room, and its plan is ready. What else is ready
+    /// stays ready.
     pub(crate) fn consider_all(
         &mut self,
         alloc: Global,

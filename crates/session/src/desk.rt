@@ -237,6 +237,7 @@ impl Desk {
         ensures table { self.new ≡ table_judged self.old }
         ensures core { self.new.machine.state.core ≡ self.old.machine.state.core }
     {
+        // What this returns is read again below, where the search is shared.
         let _drops = self.search.on_sample(self.time, &self.tests);
         drop_tests(&mut self.machine, &self.kits, self.search.drops());
     }

@@ -44,6 +44,7 @@ fn metrics_are_narrow(metrics: &[Metric])
     ensures { AllByRecursion IsNarrowMetric metrics.now }
 {
     for metric in metrics {
+        // For the proof alone: `begun_at` says that the value has 32 bits.
         let _first = begun_at(metric.initially);
     }
 }
@@ -53,6 +54,7 @@ fn constraints_are_narrow(constraints: &[Constraint])
     ensures { AllByRecursion IsNarrowConstraint constraints.now }
 {
     for constraint in constraints {
+        // For the proof alone: `begun_at` says that the value has 32 bits.
         let _first = begun_at(constraint.initially);
     }
 }

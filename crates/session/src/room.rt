@@ -12,7 +12,7 @@ pub(crate) fn put_refused(list: &mut Vec<RefusedWish>, refused: RefusedWish)
     ensures len { vec_len list.new ≡ vec_len list.old + 1 }
     ensures room { vec_capacity list.old ≤ vec_capacity list.new }
 {
-    // The focus is written out here, since the prover doesn't take one that was made elsewhere.
+    // There is room, so this can't fail. The focus is written out here, since the prover doesn't take one that was made elsewhere.
     let _room = list.push(RefusedWish {
         show: refused.show,
         metric: refused.metric,
@@ -32,5 +32,6 @@ pub(crate) fn put_quantum(list: &mut Vec<Quantum>, quantum: Quantum)
     requires { vec_len list.old < vec_capacity list.old }
     ensures items { list.new.items ≡ list.old.items ++ quantum ∷ [] }
 {
+    // There is room, so this can't fail.
     let _room = list.push(quantum);
 }

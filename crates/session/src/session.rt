@@ -221,6 +221,7 @@ impl Session {
         ensures cost { IsWithin self.now.inputs (state_of self.now).kept }
         ensures moments { self.now.closed ≡ false → AreWithin self.now.inputs (state_of self.now) }
     {
+        // For the proof alone: `nodes` says that they are a history.
         let _nodes = self.desk.search.nodes();
     }
 

@@ -58,7 +58,8 @@ abbrev pub kit_test_by : Option ℕ → Instrumented → List ℕ → Kit → Li
 kit_test_by None m marks k = []
 kit_test_by (Some n) m marks k =
     if is_armed m.placer k.shown
-    then record { node = n; from = k.shown.from; value = difference k.last (kit_reading m k); ticks = kit_ticks m marks k } ∷ [] else []
+    then record { node = n; from = k.shown.from; value = difference k.last (kit_reading m k); ticks = kit_ticks m marks k } ∷ []
+    else []
 
 unfoldable pub kit_test : Instrumented → List ℕ → Kit → List NodeSample
 kit_test m marks k = kit_test_by k.shown.node m marks k

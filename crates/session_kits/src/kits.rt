@@ -55,8 +55,8 @@ impl Kits {
         ensures live_capacity { vec_capacity self.old.live ≤ vec_capacity self.new.live }
     {
         let place = self.all.len();
-        let _room = self.live.push(place);
-        let _room = self.all.push(kit);
+        self.live.push_reserved(place);
+        self.all.push_reserved(kit);
     }
 
     /// Forgets tests whose instruments are gone, so that they cost nothing from now on.

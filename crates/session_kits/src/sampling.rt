@@ -96,7 +96,7 @@ fn put_latest(list: &mut Vec<Latest>, node: Option<u32>, place: u32, bin: Option
     ensures room { vec_capacity list.old ≤ vec_capacity list.new }
 {
     if let (None, Some(bin)) = (node, bin) {
-        let _room = list.push(Latest {
+        list.push_reserved(Latest {
             shown: place,
             from: bin.from,
             to: bin.to,
@@ -127,7 +127,7 @@ fn put_test(
 {
     if let (Some(node), Some(bin)) = (node, bin) {
         let ticks = ticks_since(machine, marks, first, count);
-        let _room = list.push(NodeSample {
+        list.push_reserved(NodeSample {
             node,
             from: bin.from,
             value: bin.sum,

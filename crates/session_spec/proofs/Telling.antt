@@ -1,4 +1,4 @@
--- What is so of the nodes and their tests stays so through each quantum. So each verdict tells what it must.
+-- What holds of the nodes and their tests goes on holding through each quantum. So each verdict tells what it must.
 use Rattle.std.proofs.Common.{◌≡◌, ℕ, true, Some, ◌+◌, ◌^◌, ◌<◌, ◌≤◌, List, [], ◌∷◌, ◌++◌, length, refl, sym, subst, arith, ◌⊎◌}
 use Rattle.std.specs.Prelude.{nat_lt, slice_get}
 use Rattle.std.proofs.lemmas.Bool.{cond_both}

@@ -68,7 +68,7 @@ get_changed f (suc i) (n ∷ ns) (suc k) m e = get_changed f i ns k m e
 abbrev pub sample_on : List Hypothesis → ℕ → ℕ → NodeSample → Node → Node
 sample_on hs w t s n = cond (may_take s n) (judged hs w (sampled t s n)) n
 
--- it is as it was, or was under test, and is or was so now
+-- it is as it was, or was under test, and is now or was until now
 abbrev pub IsFrom : List Node → ℕ → Node → Type 0
 IsFrom ns k m = (y : Node) × (slice_get ns k ≡ Some y) × ((m ≡ y) ⊎ ((y.state ≡ Active) × (is_tried m.state ≡ true)))
 

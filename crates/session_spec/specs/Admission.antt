@@ -42,15 +42,14 @@ admitted plan k = record k { machine = done (Admits plan None) k.machine }
 
 -- the instrument of the next number shows the pair
 abbrev pub shown_next : CheckedWish → Kept → Shown
-shown_next w k =
-    record {
-      instrument = record { n = k.machine.placer.count };
-      node = None;
-      metric = w.metric;
-      focus = w.focus;
-      armed = None;
-      from = 0;
-    }
+shown_next w k = record {
+  instrument = record { n = k.machine.placer.count };
+  node = None;
+  metric = w.metric;
+  focus = w.focus;
+  armed = None;
+  from = 0;
+}
 
 abbrev pub with_answer : Result Placements Refused → CheckedWish → Plan → Kept → Kept
 with_answer (Err refused) w plan k = with_refused (cause_of_refusal refused) w k

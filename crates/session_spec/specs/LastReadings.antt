@@ -35,7 +35,8 @@ lasts_done i s lasts =
 abbrev pub lasts_tended : Inputs → ℕ → ℕ → State → List ℕ → List ℕ
 lasts_tended i h n s lasts =
     if is_due (handed_on i h n s).kept
-    then lasts_done i (state_quiet (handed_on i h n s)) (lasts_handed i s lasts) else lasts_handed i s lasts
+    then lasts_done i (state_quiet (handed_on i h n s)) (lasts_handed i s lasts)
+    else lasts_handed i s lasts
 
 abbrev pub lasts_from : Inputs → List Quantum → State → List ℕ → List ℕ
 lasts_from i [] s lasts = lasts

@@ -54,8 +54,8 @@ recorded_read i m time [] lasts rs = rs
 recorded_read i m time (s ∷ ss) [] rs = []
 recorded_read i m time (s ∷ ss) (last ∷ lasts) [] = []
 recorded_read i m time (s ∷ ss) (last ∷ lasts) (r ∷ rs) =
-    (if is_armed m.placer s then r ++ record { from = s.from; to = time; sum = sum_read i m s last } ∷ []
-    else r) ∷ recorded_read i m time ss lasts rs
+    (if is_armed m.placer s then r ++ record { from = s.from; to = time; sum = sum_read i m s last } ∷ [] else r)
+    ∷ recorded_read i m time ss lasts rs
 
 -- ---- ticks
 

@@ -53,15 +53,14 @@ barred (Some cause) n k = record k { search = with_state n (Barred cause) k.sear
 
 -- the instrument of the next number tests it
 abbrev pub tests_next : Inputs → ℕ → Node → Kept → Shown
-tests_next i n node k =
-    record {
-      instrument = record { n = k.machine.placer.count };
-      node = Some n;
-      metric = metric_of i node;
-      focus = node.focus;
-      armed = None;
-      from = 0;
-    }
+tests_next i n node k = record {
+  instrument = record { n = k.machine.placer.count };
+  node = Some n;
+  metric = metric_of i node;
+  focus = node.focus;
+  armed = None;
+  from = 0;
+}
 
 abbrev pub tested : Inputs → ℕ → Node → Plan → Kept → Kept
 tested i n node plan k = record k {

@@ -28,7 +28,7 @@ pub fn feed_told()
     ensures { FeedTold }
 {}
 
-/// What was wished for the opening, and wasn't dropped there, is armed at time 0, and stays so.
+/// What was wished for the opening, and wasn't dropped there, is armed at time 0, and stays armed.
 pub fn opens_at_zero()
     ensures { OpensAtZero }
 {}

@@ -25,7 +25,7 @@ fn has_at(file: &[u8], at: usize, bytes: &[u8]) -> bool {
     at <= file.len() && file[at..].starts_with(bytes)
 }
 
-/// Returns the length of the file of three words, and whether it begins as it has to, and has the place of its section headers, the
+/// Returns the length of the file of three words, and whether it begins as it must, and has the place of its section headers, the
 /// text, and zeros after that.
 fn write_words(alloc: Global) -> Result<(usize, [bool; 4]), AsmError> {
     let file = written(alloc, b"li a7, 93\nli a0, 0\necall\n")?;
