@@ -62,7 +62,7 @@ any_more q (x ∷ xs) ys e = by (q x) e (any_more q xs ys)
     by true e h = refl
     by false e h = h e
 
--- an instrument that is here is so with rooms that have its own
+-- an instrument that is here with some rooms is here with rooms that have its own
 here_with : (old new : List Room) (i : Instrument) → (list_any (is_mini_room_of i.no) old ≡ true → list_any (is_mini_room_of i.no) new ≡ true) → is_here old i ≡ true → is_here new i ≡ true
 here_with old new i f e = by (is_leaving i.state) e
   where
