@@ -18,7 +18,7 @@ use Rattle.block_count.specs.CountedBlocks.{counters_of, counted_blocks_of}
 use Rattle.block_count.proofs.Courses.{events_legal, samples_stay}
 use Rattle.block_count.proofs.Ended.{same_ends, same_ticks}
 
--- the machine with all counters armed, and behind its turns
+-- the machine with all counters armed, and after its turns
 abbrev pub begun : Image → List Proc → ℕ → Pace → Core
 begun image procs budget p = replay (beginning (counters_of image procs)) (start_core image p.harts budget)
 

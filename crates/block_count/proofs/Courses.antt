@@ -202,7 +202,7 @@ first_reached image n budget p = record { image = image; many = n; events = []; 
 pub events_legal : (image : Image) (procs : List Proc) (budget : ℕ) (p : Pace) → IsProgram image → length (counters_of image procs) ≤ 4094 → Legal (block_events image procs budget p) (start_core image p.harts budget)
 events_legal image procs budget p program few = course_legal p (counters_of image procs) (start_core image p.harts budget) (first_reached image p.harts budget program) (begins image procs p.harts budget program.image few)
 
--- behind its turns the machine is quiet
+-- after its turns the machine is quiet
 pub rests : (image : Image) (procs : List Proc) (budget : ℕ) (p : Pace) → IsProgram image → length (counters_of image procs) ≤ 4094
     → IsQuiet (replay (turns_of p (replay (beginning (counters_of image procs)) (start_core image p.harts budget))) (replay (beginning (counters_of image procs)) (start_core image p.harts budget)))
 rests image procs budget p program few =

@@ -101,7 +101,7 @@ arms_let : (k : Counter) (ks : List Counter) → ((j : Counter) → In j ks → 
 arms_let k [] apart = tt
 arms_let k (j ∷ ks) apart = (share_none k j (apart j (inl refl)), arms_let k ks (λ l h. apart l (inr h)))
 
--- what comes behind a counter's arming
+-- what comes after a counter's arming
 pub since_let : (k : Counter) (back all : List Counter) (p : Pace) (c : Core) → ((j : Counter) → In j back → j.slot ≡ k.slot → ⊥) → AllLet (placed_of k) (map arming back ++ (turns_of p c ++ map sampling all))
 since_let k back all p c apart =
     let i = placed_of k in

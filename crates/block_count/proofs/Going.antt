@@ -40,7 +40,7 @@ module _ (p at : ℕ) (c : Core) (k : Counter) (r : Ready p at c) (f : Fits p at
   new_row : (x : Row) → In x (placed k c).rows → In x c.rows ⊎ ((x ≡ base_row k) ⊎ (x ≡ mini_row k))
   new_row x h = ⊎_elim (λ old. ⊎_elim (λ o. inl o) (λ e. inr (inl e)) (in_snoc c.rows (base_row k) x old)) (λ e. inr (inr e)) (in_snoc (c.rows ++ base_row k ∷ []) (mini_row k) x h)
 
-  -- the machine behind is ready for the next
+  -- the machine after is ready for the next
   pub goes_on : Ready (k.point + 1) (end_of k) (placed k c)
   goes_on =
       let here = f.here in
@@ -107,7 +107,7 @@ pub record Stood (done : List Counter) (p at : ℕ) (c : Core) : Type 0 where
   pub all : (j : Counter) → In j done → Has j c × Below j p at c.program
   pub minis : (x : Row) → In x c.rows → x.base ≡ false → (j : Counter) × In j done × (x ≡ mini_row j)
 
--- each of these can be placed behind those before it
+-- each of these can be placed after those before it
 abbrev pub Chain : ℕ → ℕ → Words → List Counter → Type 0
 Chain p at t [] = Unit {0}
 Chain p at t (k ∷ ks) = Fits p at t k × Chain (k.point + 1) (end_of k) t ks
@@ -122,7 +122,7 @@ one_more_stands done p at c k s f low =
           (λ e. ⊎_elim (λ b. absurd (true≢false (sym (ap (λ (u : Row). u.base) b) ∙ m))) (λ i. (k, snoc_new done k, i)) e) (new_row p at c k s.ready f low x h);
     }
 
--- what holds behind the placing of counters
+-- what holds after the placing of counters
 pub record Ends (done ks : List Counter) (c : Core) : Type 0 where
   pub legal : Legal (flat_map placing ks) c
   pub p : ℕ

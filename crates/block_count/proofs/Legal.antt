@@ -1,4 +1,4 @@
--- A counter can be placed, and the next one behind it.
+-- A counter can be placed, and the next one after it.
 use Rattle.std.proofs.Common.{◌≡◌, ℕ, ◌+◌, ◌*◌, ◌≤◌, [], ◌∷◌, ◌++◌, length, Some, refl, sym, ◌∙◌, subst, arith, inl, ⊎_elim}
 use Rattle.std.specs.Prelude.{true, nat_le}
 use Rattle.std.specs.FinMap.{get}

@@ -19,7 +19,7 @@ use Rattle.machine.specs.Replays.{replay}
 use Rattle.block_count.specs.Counters.{Counter, base_of, end_of, mini_at, mini_of}
 use Rattle.block_count.specs.Course.{placing}
 
--- ---- what a machine is before and behind
+-- ---- what a machine is before and after
 
 abbrev pub base_row : Counter → Row
 base_row k = record { point = k.point; at = k.at; len = length (base_of k).words; base = true; status = Live }

@@ -1,4 +1,4 @@
--- The machine behind the quanta that are left.
+-- The machine after the quanta that are left.
 use Rattle.std.proofs.Common.{◌≡◌, ℕ, zero, suc, [], List, Option, Some, None, Bool, refl, sym, ap, ◌∙◌}
 use Rattle.pn_types.specs.declared.limits.TheConstants.{MAX_QUANTA}
 use Rattle.turn_order.specs.declared.order.Order.{Order}
@@ -10,7 +10,7 @@ use Rattle.machine.specs.Turns.{is_runnable}
 use Rattle.machine.proofs.Replaying.{replay-append}
 use Rattle.block_count.specs.Course.{Pace, all_quanta, and_then, quanta_from}
 
--- behind at most so many quanta
+-- after at most a number of quanta
 pub behind : ℕ → Pace → Order → Core → Core
 behind more p order c = replay (quanta_from more p order c) c
 

@@ -1,4 +1,4 @@
--- The harts that are runnable, before and behind turns of one of them.
+-- The harts that are runnable, before and after turns of one of them.
 use Rattle.std.proofs.Common.{◌≡◌, ◌≢◌, ℕ, zero, suc, ◌+◌, List, [], ◌∷◌, ◌++◌, Option, Some, None, refl, sym, ap, ◌∙◌, arith}
 use Rattle.std.specs.Prelude.{Bool, true, false, cond, filter, not, ◌==◌, slice_get}
 use Rattle.std.specs.List.{range_with_len}
@@ -30,7 +30,7 @@ ready_more may n old new e t f = f ∙ (ap (λ l. l ++ n ∷ []) e ∙ sym (one_
 pub ready_past : (may : ℕ → Bool) (n : ℕ) (old : List ℕ) → old ≡ ready_of may n → may n ≡ false → old ≡ ready_of may (n + 1)
 ready_past may n old e t = e ∙ (sym (append-nil (ready_of may n)) ∙ sym (one_ready may n false t))
 
--- ---- behind turns of a hart the others are as before
+-- ---- after turns of a hart the others are as before
 
 module _ (j : ℕ) where
   turn_same : (o : Option Hart) (c : Core) (h : ℕ) → j ≢ h → is_runnable (turn_by o c h) j ≡ is_runnable c j
@@ -46,7 +46,7 @@ module _ (j : ℕ) where
       by true rest = rest ∙ turn_same (slice_get c.harts h) c h other
       by false rest = refl
 
--- the hart was runnable, and so it is behind a quantum
+-- the hart was runnable, and is after a quantum
 pub stays_ready : (was may : ℕ → Bool) (h n : ℕ) (ready : List ℕ) → ready ≡ ready_of was n → was h ≡ true → may h ≡ true → ((j : ℕ) → j ≢ h → may j ≡ was j) → ready ≡ ready_of may n
 stays_ready was may h n ready e runs goes others = e ∙ sym (filter_same was may (range_with_len 0 n) (λ j. by j (j == h) refl))
   where
@@ -54,7 +54,7 @@ stays_ready was may h n ready e runs goes others = e ∙ sym (filter_same was ma
     by j true i = let same = eqb-true j h i in ap may same ∙ goes ∙ sym (ap was same ∙ runs)
     by j false i = others j (eqb-false j h i)
 
--- it isn't behind the quantum
+-- it isn't after the quantum
 pub leaves_ready : (was may : ℕ → Bool) (h n : ℕ) (old new : List ℕ) → old ≡ ready_of was n → may h ≡ false → ((j : ℕ) → j ≢ h → may j ≡ was j) → new ≡ filter (λ j. not (j == h)) old → new ≡ ready_of may n
 leaves_ready was may h n old new e out others f = f ∙ (ap (filter (λ j. not (j == h))) e ∙ sym (filter_without was may h (range_with_len 0 n) out others))
 

@@ -1,4 +1,4 @@
--- Behind its course each counter of a program reads the positions of its word.
+-- After its course each counter of a program reads the positions of its word.
 use Rattle.std.proofs.Common.{◌≡◌, ℕ, zero, suc, ◌+◌, ◌-◌, ◌%◌, ◌^◌, ◌≤◌, List, [], ◌∷◌, ◌++◌, length, Option, Some, None, refl, sym, ap, ◌∙◌, subst, arith, inl, inr, append_assoc}
 use Rattle.std.specs.Prelude.{map, slice_get, sum}
 use Rattle.std.specs.List.{flat_map, range_with_len}

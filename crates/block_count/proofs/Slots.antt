@@ -42,7 +42,7 @@ slots_apart s (x ∷ ks) j k f (inl e) (inr h) = let n = ap (λ (c : Counter). c
 slots_apart s (x ∷ ks) j k f (inr h) (inl e) = let n = ap (λ (c : Counter). c.slot) e in let z = f.0 in let r = (slot_within (s + 1) ks j f.1 h).0 in inr (λ q. omega arith)
 slots_apart s (x ∷ ks) j k f (inr h) (inr i) = slots_apart (s + 1) ks j k f.1 h i
 
--- a counter among the others: none behind it has its slot
+-- a counter among the others: none after it has its slot
 pub record Parted (k : Counter) (ks : List Counter) : Type 0 where
   pub front : List Counter
   pub back : List Counter

@@ -1,4 +1,5 @@
--- What is answered of the blocks of a program: how its own run, which the definitions run on the unpatched machine, passes them.
+-- What is counted of the blocks of a program: how often its own run, which the definitions run on the unpatched machine, passes
+-- them.
 use Rattle.std.specs.Prelude.{◌≡◌, ℕ, ◌<◌, ◌≤◌, ◌%◌, ◌^◌, ◌==◌, Option, Some, None, List, length, map}
 use Rattle.std.specs.List.{count_by}
 use Rattle.std.specs.Option.{option_map}
@@ -30,19 +31,19 @@ stop_of budget x = record { stop = hart_end x.stop (may_go (Some x) budget); pc 
 abbrev pub positions_at : ℕ → List Position → ℕ
 positions_at a trace = count_by (λ q. q.pc == a) trace
 
--- that of a block that has a counter
+-- the count of a block that has a counter
 abbrev pub passes_of : List Position → CountedBlock → Option ℕ
 passes_of trace s = option_map (λ _. positions_at s.head.at trace % 2 ^ 64) s.counter
 
--- ---- the answer
+-- ---- what is counted
 
--- a hart has slots for so many counters
+-- for how many counters a hart has slots
 abbrev pub most_counters : ℕ
 most_counters = 4094
 
--- There are at most as many counters as slots. The events can happen when they come. Their ticks are a run of the unpatched program,
--- and the patched machine is that program's state behind it. The ticks and stops are those of this run, and a block's count is the
--- number of the run's positions at the block's head, modulo 2^64. A block whose first word can't be moved has none.
+-- There are at most as many counters as slots. The events can happen when they come. Their ticks are a run of the unpatched
+-- program, and the patched machine is that program's state after it. The ticks and stops are those of this run, and a block's count
+-- is the number of the run's positions at the block's head, modulo 2^64. A block whose first word can't be moved has none.
 pub record IsCounted (image : Image) (procs : List Proc) (budget : ℕ) (p : Pace) (r : Counts) : Type 0 where
   pub few : length (counters_of image procs) ≤ most_counters
   pub legal : Legal (block_events image procs budget p) (start_core image p.harts budget)
@@ -54,7 +55,7 @@ pub record IsCounted (image : Image) (procs : List Proc) (budget : ℕ) (p : Pac
   pub stops : r.stops ≡ map (stop_of budget) (run image p.harts turns).harts
   pub counts : r.counts ≡ map (passes_of (trace image p.harts turns)) (counted_blocks_of image procs)
 
--- More blocks have counters than there are slots: there are so many.
+-- More blocks have counters than there are slots: `n` of them.
 abbrev pub IsFault : Image → List Proc → CountFault → Type 0
 IsFault image procs fault.NoMemory = Unit {0}
 IsFault image procs (fault.TooManyBlocks n) = (length (counters_of image procs) ≡ n) × (most_counters < n)

@@ -30,7 +30,7 @@ pub record Counter : Type 0 where
   pub at : ℕ
   pub moved : List MarkedWord
 
--- its mini block stands behind the three words of the base block and the moved words
+-- its mini block stands after the three words of the base block and the moved words
 abbrev pub mini_at : Counter → ℕ
 mini_at c = c.at + 4 * (3 + length c.moved)
 
@@ -42,7 +42,12 @@ abbrev pub base_of : Counter → Block
 base_of c = record { point = c.point; at = c.at; words = base_words c.at (tail_of c.at) c.moved; base = true }
 
 abbrev pub mini_of : Counter → Block
-mini_of c = record { point = c.point; at = mini_at c; words = mini_words (mini_at c) (body_of (c.slot ∷ []) one_more) (tail_of c.at); base = false }
+mini_of c = record {
+  point = c.point;
+  at = mini_at c;
+  words = mini_words (mini_at c) (body_of (c.slot ∷ []) one_more) (tail_of c.at);
+  base = false;
+}
 
 abbrev pub placed_of : Counter → Placed
 placed_of c = record { vars = passes; slots = c.slot ∷ []; sites = record { at = c.point; mini = mini_at c } ∷ []; opens = [] }

@@ -14,7 +14,7 @@ use Rattle.machine.specs.Turns.{is_runnable}
 use Rattle.block_count.specs.Counters.{Counter, base_of, mini_at, mini_of, placed_of}
 use Rattle.block_count.specs.CountedBlocks.{counters_of}
 
--- these events, and then those of the state behind them
+-- these events, and then those of the state after them
 abbrev pub and_then : List Event → (Core → List Event) → Core → List Event
 and_then es more c = es ++ more (replay es c)
 
@@ -42,7 +42,7 @@ pub record Pace : Type 0 where
   pub turns : ℕ
   pub seed : ℕ
 
--- at most so many quanta: each is of the hart that is next among those that are runnable when it comes
+-- at most a number of quanta: each is of the hart that is next among those that are runnable when it comes
 abbrev pub quanta_from : ℕ → Pace → Order → Core → List Event
 quanta_from zero p order c = []
 quanta_from (suc more) p order c = elim (picked order (is_runnable c) p.harts) [
@@ -50,7 +50,7 @@ quanta_from (suc more) p order c = elim (picked order (is_runnable c) p.harts) [
   | Some h ↦ and_then (quantum_turns p.turns h c) (quanta_from more p (order_after order h)) c
 ]
 
--- in the order of the seed, until no hart is runnable or there were so many as there may be
+-- in the order of the seed, until no hart is runnable or there are as many as there may be
 unfoldable pub all_quanta : Pace → Core → List Event
 all_quanta p c = quanta_from MAX_QUANTA p (order_of_seed p.seed) c
 

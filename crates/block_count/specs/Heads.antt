@@ -22,17 +22,17 @@ is_end (Some i) = false
 abbrev pub is_instr : ℕ → Bool
 is_instr w = is_some (decode_of w)
 
--- the word at b jumps or branches to a, or a block ends with it and a is the address behind
+-- the word at b jumps or branches to a, or a block ends with it and a is the address that follows
 abbrev pub opens : ℕ → ℕ → ℕ → Bool
 opens w b a = option_map_or (λ target. target == a) (jump_of (decode_of w) b) false || ((b + 4 == a) && is_end (decode_of w))
 
--- one of these words does so, the first of which stands at b
+-- one of these words does, the first of which stands at b
 abbrev pub is_opened : List ℕ → ℕ → ℕ → Bool
 is_opened [] b a = false
 is_opened (w ∷ ws) b a = opens w b a || is_opened ws (b + 4) a
 
--- A block begins at an address, where a word that decodes stands there: at the entry, at the start of a procedure, where a word
--- of the text leads, and behind one with which a block ends.
+-- A block begins at an address, where a word that decodes stands there: at the entry, at the start of a procedure, where a word of
+-- the text leads, and after one with which a block ends.
 abbrev pub begins : Image → List Proc → ℕ → Bool
 begins image procs a = (image.entry == a) || (list_any (λ p. p.start == a) procs || is_opened (program_of image).words image.text_at a)
 

@@ -12,9 +12,10 @@ use Rattle.report.specs.declared.parts.HartPart.{HartPart}
 -- the numbers of blocks, of harts, of their ticks together, and of the blocks whose first word can't be moved
 abbrev pub numbers_line : ℕ → ℕ → ℕ → ℕ → List ℕ
 numbers_line blocks harts ticks unmovable =
-    codes "blocks " ++ decimal blocks ++ codes " harts " ++ decimal harts ++ codes " ticks " ++ decimal ticks ++ codes " unmovable " ++ decimal unmovable ++ codes "\n"
+    codes "blocks " ++ decimal blocks
+    ++ codes " harts " ++ decimal harts ++ codes " ticks " ++ decimal ticks ++ codes " unmovable " ++ decimal unmovable ++ codes "\n"
 
--- what a report says of a hart with so many ticks, which ended so
+-- what a report says of a hart with its ticks and how it ended
 abbrev pub part_of : ℕ × HartStop → HartPart
 part_of p = record { ticks = p.0; stop = p.1.stop; pc = p.1.pc }
 
@@ -37,9 +38,11 @@ is_covered (Some n) = not (n == 0)
 
 -- how many blocks were executed, of those that are counted
 abbrev pub covered_line : List (Option ℕ) → List ℕ
-covered_line counts = codes "covered " ++ decimal (count_by is_covered counts) ++ codes " of " ++ decimal (count_by is_some counts) ++ codes "\n"
+covered_line counts =
+    codes "covered " ++ decimal (count_by is_covered counts) ++ codes " of " ++ decimal (count_by is_some counts) ++ codes "\n"
 
 -- The text of the blocks that begin at these heads, and of what was counted of them.
 abbrev pub blocks_text : List BlockHead → Counts → List ℕ
 blocks_text heads r =
-    numbers_line (length heads) (length r.ticks) (sum r.ticks) (count_by is_none r.counts) ++ hart_lines 0 (parts_of r) ++ flat_map block_line (zip heads r.counts) ++ covered_line r.counts
+    numbers_line (length heads) (length r.ticks) (sum r.ticks) (count_by is_none r.counts)
+    ++ hart_lines 0 (parts_of r) ++ flat_map block_line (zip heads r.counts) ++ covered_line r.counts

@@ -1,3 +1,5 @@
+//! The beginning and the length of a basic block.
+
 /// A basic block of a program: words that are executed one after another, from the first on.
 #[derive(Clone, Copy, PartialEq, Eq, Drop)]
 pub struct BlockHead {

@@ -28,7 +28,7 @@ pub struct CountedBlock {
     pub counter: Option<Counter>,
 }
 
-/// The word at an address, where a text that begins at `text_at` has one there.
+/// Returns the word at an address, where a text that begins at `text_at` has one there.
 fn word_at(text_at: u64, words: &[u32], at: u64) -> Option<u32>
     ensures word { result ≡ program_word (record { at = text_at; words = words.now }) at }
     ensures low { IfSome result (λ word. at < text_at + 4 * length words.now) }
@@ -39,7 +39,7 @@ fn word_at(text_at: u64, words: &[u32], at: u64) -> Option<u32>
     words.get(((at - text_at) / 4) as usize).copied()
 }
 
-/// The words that do at an address what the word at a point does: None where it can't be moved there.
+/// Returns the words that do at an address what the word at a point does: None where it can't be moved there.
 fn moved(word: u32, point: u64, to: u64) -> Option<Moved>
     ensures words { result ≡ moved_of word point to }
     ensures few { IfSome result (λ moved. length moved ≤ 4) }
@@ -47,7 +47,8 @@ fn moved(word: u32, point: u64, to: u64) -> Option<Moved>
     move_word(word, point, to).ok()
 }
 
-/// The counter of a block's first word, on a slot and with its base block at an address: None where the word can't be moved there.
+/// Returns the counter of a block's first word, on a slot and with its base block at an address: None where the word can't be moved
+/// there.
 fn counter(text_at: u64, words: &[u32], point: u64, slot: u32, at: u64) -> Option<Counter>
     requires text { text_at + 4 * length words.now ≤ SEGMENTS_TO }
     requires at { at < 2 ^ 62 }
@@ -64,7 +65,7 @@ fn counter(text_at: u64, words: &[u32], point: u64, slot: u32, at: u64) -> Optio
     })
 }
 
-/// The blocks with their counters, from an address of the tool text on.
+/// Returns the blocks with their counters, which stand from an address of the tool text on.
 fn counted_from(
     alloc: Global,
     text_at: u64,
@@ -75,7 +76,8 @@ fn counted_from(
     requires text { text_at + 4 * length words.now ≤ SEGMENTS_TO }
     requires few { length heads.now < 2 ^ 31 }
     requires first { first < 2 ^ 32 }
-    ensures blocks { IfOk result (λ blocks. blocks.items ≡ counted_from (record { at = text_at; words = words.now }) first_slot first heads.now) }
+    ensures blocks { IfOk result
+        (λ blocks. blocks.items ≡ counted_from (record { at = text_at; words = words.now }) first_slot first heads.now) }
     ensures len { IfOk result (λ blocks. length blocks.items ≡ length heads.now) }
 {
     let mut blocks = Vec::with_capacity(alloc, heads.len())?;
@@ -95,7 +97,11 @@ fn counted_from(
     Ok(blocks)
 }
 
-/// The blocks of a program with their counters.
+/// Returns the blocks of a program with their counters.
+///
+/// # Errors
+///
+/// `NoMemory` where memory runs out.
 pub fn counted_blocks(
     alloc: Global,
     image: &Image,
@@ -118,7 +124,11 @@ pub fn counted_blocks(
     )
 }
 
-/// The counters of blocks.
+/// Returns the counters of blocks.
+///
+/// # Errors
+///
+/// `NoMemory` where memory runs out.
 pub fn counters(alloc: Global, blocks: &[CountedBlock]) -> Result<Vec<&Counter>, NoMemory>
     ensures counters { IfOk result (λ counters. map (λ c. c.now) counters.items ≡ counters_in blocks.now) }
     ensures few { IfOk result (λ counters. length counters.items ≤ length blocks.now) }

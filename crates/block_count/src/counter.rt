@@ -35,7 +35,7 @@ impl Model for Counter {
 }
 
 impl Counter {
-    /// The words that do what its word does.
+    /// Returns the words that do what its word does.
     fn words(&self) -> &[MarkedWord]
         ensures words { result.now ≡ self.now.moved }
         ensures few { length result.now ≤ 4 }
@@ -43,7 +43,7 @@ impl Counter {
         self.moved.as_slice()
     }
 
-    /// The address of its mini block.
+    /// Returns the address of its mini block.
     pub fn mini_at(&self) -> u64
         ensures at { result ≡ mini_at self.now }
         ensures low { result < 2 ^ 62 + 32 }
@@ -51,14 +51,18 @@ impl Counter {
         self.at + 4 * (3 + self.words().len() as u64)
     }
 
-    /// The address behind its blocks.
+    /// Returns the address after its blocks.
     pub fn end(&self) -> u64
         ensures { result ≡ end_of self.now }
     {
         self.mini_at() + 20
     }
 
-    /// Its base block.
+    /// Makes its base block.
+    ///
+    /// # Errors
+    ///
+    /// `NoMemory` where memory runs out.
     pub fn base(&self, alloc: Global) -> Result<Block, NoMemory>
         ensures { IfOk result (λ block. block ≡ base_of self.now) }
     {
@@ -66,7 +70,11 @@ impl Counter {
         Ok(base_block(self.point, self.at, &self.moved, words))
     }
 
-    /// Its mini block.
+    /// Makes its mini block.
+    ///
+    /// # Errors
+    ///
+    /// `NoMemory` where memory runs out.
     pub fn mini(&self, alloc: Global) -> Result<Block, NoMemory>
         ensures { IfOk result (λ block. block ≡ mini_of self.now) }
     {
@@ -79,7 +87,11 @@ impl Counter {
         Ok(mini_block(self.point, self.mini_at(), words, self.at + 8))
     }
 
-    /// The instrument that it is.
+    /// Returns the counter as an instrument.
+    ///
+    /// # Errors
+    ///
+    /// `NoMemory` where memory runs out.
     pub fn placed(&self, alloc: Global) -> Result<Placed, NoMemory>
         ensures { IfOk result (λ placed. placed ≡ placed_of self.now) }
     {

@@ -20,10 +20,10 @@ use machine::Machine;
 use pn_types::{BANK_LEN, FIRST_SLOT, Image, MAX_BUDGET, MAX_HARTS, NoMemory, Proc, Seq};
 use std::alloc::Global;
 
-/// How many counters there can be: a hart has as many slots.
+/// The greatest number of counters: a hart has as many slots.
 const MAX_COUNTERS: usize = (BANK_LEN - FIRST_SLOT) as usize;
 
-/// The machine in which an image starts, with all counters placed and armed.
+/// Returns the machine in which an image starts, with all counters placed and armed.
 fn begun(
     alloc: Global,
     image: &Image,
@@ -45,7 +45,7 @@ fn begun(
     Ok(machine)
 }
 
-/// What is read off a machine that has settled.
+/// Returns what is read off a machine that has settled.
 fn read(
     alloc: Global,
     machine: &Machine,
@@ -68,14 +68,14 @@ fn read(
 }
 
 /// Counts how often each basic block of a program is executed: a counter is placed at the first word of each that can be moved and
-/// armed, the harts take quanta of at most so many turns in the order of a seed until none is runnable or there were as many quanta as
-/// there may be, the machine settles, and the counters are read. So the ticks, stops and counts are those of a run of the unpatched
-/// program.
+/// armed, the harts take quanta of at most `turns` turns in the order of a seed until none is runnable or there are as many quanta
+/// as there may be, the machine settles, and the counters are read. So the ticks, stops and counts are those of a run of the
+/// unpatched program.
 ///
 /// # Errors
 ///
-/// `TooManyBlocks` with the number of blocks that can be counted exactly where there are more than slots; `NoMemory` where memory is
-/// wanting.
+/// `TooManyBlocks` with the number of blocks that can be counted exactly where there are more than slots; `NoMemory` where memory
+/// runs out.
 pub fn count(
     alloc: Global,
     image: &Image,

@@ -1,3 +1,5 @@
+//! What is counted of a program's blocks, and why they aren't counted.
+
 use pn_types::{NoMemory, Seq, StopText};
 
 /// How a hart ended, and where.
@@ -5,7 +7,7 @@ use pn_types::{NoMemory, Seq, StopText};
 pub struct HartStop {
     /// How it ended.
     pub stop: StopText,
-    /// The address of its last word where it stopped, and else of its next one.
+    /// The address of its last word if it stopped, and else of its next one.
     pub pc: u64,
 }
 
@@ -23,9 +25,9 @@ pub struct Counts {
 /// Why the blocks of a program aren't counted.
 #[derive(Clone, Copy, Debug, PartialEq, Eq, Drop)]
 pub enum CountFault {
-    /// So many blocks have a first word that can be moved, and a hart has not as many slots.
+    /// This many blocks have a first word that can be moved, and a hart has fewer slots.
     TooManyBlocks(u32),
-    /// Memory is wanting.
+    /// Out of memory.
     NoMemory,
 }
 

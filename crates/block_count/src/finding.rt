@@ -11,7 +11,7 @@ use crate::text::{goes_on, is_head, text_words};
 use pn_types::{Image, NoMemory, Proc};
 use std::alloc::Global;
 
-/// How many words from a place on belong to the block before them: up to the next that is marked or is no instruction.
+/// Returns how many words from a place on belong to the block before them: up to the next that is marked or is no instruction.
 fn words_behind(at: u64, words: &[u32], marks: &[bool], first: usize) -> u32
     requires marks { length marks.now ≡ length words.now }
     requires first { first ≤ length words.now }
@@ -29,7 +29,7 @@ fn words_behind(at: u64, words: &[u32], marks: &[bool], first: usize) -> u32
     count
 }
 
-/// The blocks of a text whose words are marked where blocks begin.
+/// Returns the blocks of a text whose words are marked where blocks begin.
 fn marked_heads(
     alloc: Global,
     at: u64,
@@ -54,13 +54,14 @@ fn marked_heads(
     Ok(heads)
 }
 
-/// The basic blocks of a program, by ascending address. A word of the text that is an instruction begins one where it is at the
-/// entry or the start of one of these procedures, where a jump or branch of the text leads, or behind a jump, a branch or a word
-/// that is no instruction. The block goes on to the next that begins, or to a word that is no instruction, or to the text's end.
+/// Returns the basic blocks of a program, by ascending address. A word of the text that is an instruction begins one where it is at
+/// the entry or the start of one of these procedures, where a jump or branch of the text leads, or after a jump, a branch or a word
+/// that is no instruction. The block goes on to the beginning of the next one, to a word that is no instruction, or to the text's
+/// end.
 ///
 /// # Errors
 ///
-/// `NoMemory` where memory is wanting.
+/// `NoMemory` where memory runs out.
 pub fn heads(alloc: Global, image: &Image, procs: &[Proc]) -> Result<Vec<BlockHead>, NoMemory>
     requires { IsImage image.now }
     ensures heads { IfOk result (λ heads. heads.items ≡ heads_of image.now procs.now) }

@@ -1,4 +1,4 @@
-//! The basic blocks of a program, how often a run executes each, which counters at their first words tell, and the text that says so.
+//! The basic blocks of a program, how often a run executes each, which counters at their first words tell, and the text of that.
 #![tactic(auto)]
 
 mod block_head;

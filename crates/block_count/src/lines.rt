@@ -1,3 +1,5 @@
+//! The text of how often the blocks of a program were executed.
+
 ghost use Rattle.std.specs.Prelude.{◌≡◌, ◌++◌, ◌≤◌, is_none, is_some, OnOk, IfOk, count_by, flat_map, length, sum, ◌<◌, ◌^◌};
 ghost use Rattle.std.specs.List.{zip};
 ghost use Rattle.block_count.specs.Texts.{block_line, blocks_text, count_text, covered_line, is_covered, numbers_line, parts_of};
@@ -7,7 +9,7 @@ use pn_types::NoMemory;
 use report::{HartPart, add_harts};
 use std::alloc::Global;
 
-/// All ticks together.
+/// Returns all ticks together.
 fn total(ticks: &[u64]) -> u128
     ensures { result ≡ sum ticks.now }
 {
@@ -18,21 +20,21 @@ fn total(ticks: &[u64]) -> u128
     total
 }
 
-/// How many blocks aren't counted.
+/// Returns how many blocks aren't counted.
 fn unmovable(counts: &[Option<u64>]) -> usize
     ensures { result ≡ count_by is_none counts.now }
 {
     counts.iter().filter(|count| count.is_none()).count()
 }
 
-/// How many blocks are counted.
+/// Returns how many blocks are counted.
 fn movable(counts: &[Option<u64>]) -> usize
     ensures { result ≡ count_by is_some counts.now }
 {
     counts.iter().filter(|count| count.is_some()).count()
 }
 
-/// How many blocks were executed.
+/// Returns how many blocks were executed.
 fn covered(counts: &[Option<u64>]) -> usize
     ensures { result ≡ count_by is_covered counts.now }
 {
@@ -57,7 +59,7 @@ fn add_numbers(
     out.extend_from_slice(format!(in alloc; " unmovable {unmovable}\n")?.as_bytes())
 }
 
-/// What a report says of each hart.
+/// Returns what a report says of each hart.
 fn hart_parts(alloc: Global, counts: &Counts) -> Result<Vec<HartPart>, NoMemory>
     ensures parts { IfOk result (λ parts. parts.items ≡ parts_of counts.now) }
     ensures few { IfOk result (λ parts. length parts.items ≤ length counts.now.ticks) }
@@ -121,14 +123,13 @@ fn add_covered(alloc: Global, out: &mut Vec<u8>, counts: &[Option<u64>]) -> Resu
     out.extend_from_slice(line.as_bytes())
 }
 
-/// The text that says how often the blocks that begin at these heads were executed: a line
-/// `blocks N harts H ticks T unmovable U`, a line for each hart as in the report of a run, a line for each block, which is
-/// `block ADDRESS words W count C` or `block ADDRESS words W unmovable`, and `covered A of M`: A of the M blocks whose first word
-/// can be moved were executed.
+/// Returns the text that says how often the blocks that begin at these heads were executed: a line `blocks N harts H ticks T
+/// unmovable U`, a line for each hart as in the report of a run, a line for each block, which is `block ADDRESS words W count C` or
+/// `block ADDRESS words W unmovable`, and `covered A of M`: A of the M blocks whose first word can be moved were executed.
 ///
 /// # Errors
 ///
-/// `NoMemory` where memory is wanting.
+/// `NoMemory` where memory runs out.
 pub fn blocks_text(alloc: Global, heads: &[BlockHead], counts: &Counts) -> Result<Vec<u8>, NoMemory>
     requires { length counts.now.ticks < 2 ^ 32 }
     ensures { IfOk result (λ text. text.items ≡ blocks_text heads.now counts.now) }

@@ -25,7 +25,7 @@ fn mark(marks: &mut [bool], at: u64, address: u64)
     }
 }
 
-/// Marks where the word at an address leads, and the word behind it if a block ends with it.
+/// Marks where the word at an address leads, and the word after it if it ends a block.
 fn mark_opened(marks: &mut [bool], at: u64, address: u64, word: u32)
     requires text { at + 4 * length marks.old < 2 ^ 64 }
     requires address { address + 4 < 2 ^ 64 }
@@ -39,11 +39,12 @@ fn mark_opened(marks: &mut [bool], at: u64, address: u64, word: u32)
     }
 }
 
-/// Does so for each word of a text.
+/// Does the same for each word of a text.
 fn mark_all_opened(marks: &mut [bool], at: u64, words: &[u32])
     requires text { at + 4 * length marks.old < 2 ^ 64 }
     requires words { at + 4 * length words.now < 2 ^ 64 }
-    ensures { (k : ℕ) → k < length marks.old → get_or marks.new k false ≡ (get_or marks.old k false || is_opened words.now at (at + 4 * k)) }
+    ensures { (k : ℕ) → k < length marks.old
+        → get_or marks.new k false ≡ (get_or marks.old k false || is_opened words.now at (at + 4 * k)) }
 {
     for place in 0..words.len() {
         mark_opened(marks, at, at + 4 * place as u64, words[place]);
@@ -53,7 +54,8 @@ fn mark_all_opened(marks: &mut [bool], at: u64, words: &[u32])
 /// Marks the first words of procedures.
 fn mark_starts(marks: &mut [bool], at: u64, procs: &[Proc])
     requires { at + 4 * length marks.old < 2 ^ 64 }
-    ensures { (k : ℕ) → k < length marks.old → get_or marks.new k false ≡ (get_or marks.old k false || list_any (λ p. p.start == at + 4 * k) procs.now) }
+    ensures { (k : ℕ) → k < length marks.old
+        → get_or marks.new k false ≡ (get_or marks.old k false || list_any (λ p. p.start == at + 4 * k) procs.now) }
 {
     for proc in procs {
         mark(marks, at, proc.start);
@@ -61,6 +63,10 @@ fn mark_starts(marks: &mut [bool], at: u64, procs: &[Proc])
 }
 
 /// Marks the words of an image's text at which a block begins.
+///
+/// # Errors
+///
+/// `NoMemory` where memory runs out.
 pub fn marks(
     alloc: Global,
     image: &Image,
@@ -70,7 +76,8 @@ pub fn marks(
     requires words { words.now ≡ (program_of image.now).words }
     requires text { image.now.text_at + 4 * length words.now < 2 ^ 64 }
     ensures len { IfOk result (λ marks. length marks.items ≡ length words.now) }
-    ensures marks { IfOk result (λ marks. (k : ℕ) → k < length words.now → get_or marks.items k false ≡ begins image.now procs.now (image.now.text_at + 4 * k)) }
+    ensures marks { IfOk result (λ marks. (k : ℕ)
+        → k < length words.now → get_or marks.items k false ≡ begins image.now procs.now (image.now.text_at + 4 * k)) }
 {
     let mut marks = vec![in alloc; false; words.len()]?;
     mark(&mut marks, image.text_at, image.entry);

@@ -1,4 +1,4 @@
-//! Counters are placed in a machine and armed.
+//! Places counters in a machine and arms them.
 
 ghost use Rattle.std.specs.Prelude.{◌≡◌, ◌+◌, ◌*◌, ◌-◌, ◌<◌, ◌≤◌, ◌∷◌, [], length, map, OnOk};
 ghost use Rattle.std.specs.List.{flat_map};
@@ -28,6 +28,10 @@ fn place(alloc: Global, machine: &mut Machine, counter: &Counter) -> Result<(), 
 }
 
 /// Writes and links the blocks of all counters, for which there is room.
+///
+/// # Errors
+///
+/// `NoMemory` where memory runs out.
 pub fn place_all(
     alloc: Global,
     machine: &mut Machine,
@@ -49,11 +53,15 @@ fn arm(alloc: Global, machine: &mut Machine, counter: &Counter) -> Result<(), No
     ensures { OnOk result (machine.new ≡ with_core machine.old (replay (arming counter.now ∷ []) machine.old.core)) }
 {
     let placed = counter.placed(alloc)?;
-    let _armed = machine.arm(&placed);
+    machine.arm(&placed);
     Ok(())
 }
 
 /// Arms all counters.
+///
+/// # Errors
+///
+/// `NoMemory` where memory runs out.
 pub fn arm_all(alloc: Global, machine: &mut Machine, counters: &[&Counter]) -> Result<(), NoMemory>
     requires may { Legal (map arming (map (λ c. c.now) counters.now)) machine.old.core }
     ensures { OnOk result (machine.new.core ≡ replay (map arming (map (λ c. c.now) counters.now)) machine.old.core) }

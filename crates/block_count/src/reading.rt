@@ -12,7 +12,11 @@ use pn_types::{HartNo, MAX_HARTS, NoMemory, Seq};
 use report::hart_end;
 use std::alloc::Global;
 
-/// How many words each hart executed.
+/// Returns how many words each hart executed.
+///
+/// # Errors
+///
+/// `NoMemory` where memory runs out.
 pub fn ticks(alloc: Global, machine: &Machine, harts: u32) -> Result<Vec<u64>, NoMemory>
     requires harts { harts ≡ length machine.now.core.harts }
     requires few { harts ≤ MAX_HARTS }
@@ -25,7 +29,7 @@ pub fn ticks(alloc: Global, machine: &Machine, harts: u32) -> Result<Vec<u64>, N
     Ok(ticks)
 }
 
-/// How a hart ended, and where.
+/// Returns how a hart ended, and where.
 fn hart_stop(machine: &Machine, budget: u64, hart: HartNo) -> HartStop
     requires { hart < length machine.now.core.harts }
     ensures { slice_get (stops_seen budget machine.now.core) hart ≡ Some result }
@@ -37,7 +41,11 @@ fn hart_stop(machine: &Machine, budget: u64, hart: HartNo) -> HartStop
     }
 }
 
-/// How each hart ended, and where.
+/// Returns how each hart ended, and where.
+///
+/// # Errors
+///
+/// `NoMemory` where memory runs out.
 pub fn stops(
     alloc: Global,
     machine: &Machine,
@@ -55,7 +63,7 @@ pub fn stops(
     Ok(stops)
 }
 
-/// The sum of readings, modulo 2^64.
+/// Returns the sum of readings, modulo 2^64.
 fn sum_of(readings: &[u64]) -> u64
     ensures { result ≡ sum readings.now % 2 ^ 64 }
 {
@@ -66,7 +74,7 @@ fn sum_of(readings: &[u64]) -> u64
     total
 }
 
-/// What a counter reads on all harts together. `sample` has a place for each of them.
+/// Returns what a counter reads on all harts together. `sample` has a place for each of them.
 fn read(
     alloc: Global,
     machine: &Machine,
@@ -79,11 +87,15 @@ fn read(
     ensures places { length sample.new.readings ≡ length machine.now.core.harts }
 {
     let placed = counter.placed(alloc)?;
-    let _quiet = machine.sample(&placed, sample);
+    machine.sample(&placed, sample);
     Ok(sum_of(sample.readings.as_slice()))
 }
 
-/// What the counter of each block reads, if it has one.
+/// Returns what the counter of each block reads, if it has one.
+///
+/// # Errors
+///
+/// `NoMemory` where memory runs out.
 pub fn counts(
     alloc: Global,
     machine: &Machine,

@@ -12,7 +12,7 @@ use pn_types::{Image, NoMemory, SEGMENTS_TO};
 use rv_word::{Instr, decode, split_word};
 use std::alloc::Global;
 
-/// The words of bytes.
+/// Returns the words of bytes.
 fn words(alloc: Global, text: &[u8]) -> Result<Vec<u32>, NoMemory>
     ensures { IfOk result (λ words. words.items ≡ words_of text.now) }
 {
@@ -31,7 +31,11 @@ fn have_32_bits(words: &[u32])
     ensures { AllByRecursion (λ word. word < 2 ^ 32) words.now }
 {}
 
-/// The words of an image's text, which lie below where segments end.
+/// Returns the words of an image's text, which lie below the end of the segments.
+///
+/// # Errors
+///
+/// `NoMemory` where memory runs out.
 pub fn text_words(alloc: Global, image: &Image) -> Result<Vec<u32>, NoMemory>
     requires { IsImage image.now }
     ensures words { IfOk result (λ words. words.items ≡ (program_of image.now).words) }
@@ -43,21 +47,21 @@ pub fn text_words(alloc: Global, image: &Image) -> Result<Vec<u32>, NoMemory>
     Ok(words)
 }
 
-/// A block begins with the word: it is an instruction, and marked.
+/// Returns whether a block begins with the word: it is an instruction, and marked.
 pub fn is_head(marked: bool, word: u32) -> bool
     ensures { result ≡ is_instr word && marked }
 {
     marked && decode(word).is_some()
 }
 
-/// A block goes on with the word: it is an instruction, and isn't marked.
+/// Returns whether a block goes on with the word: it is an instruction, and isn't marked.
 pub fn goes_on(marked: bool, word: u32) -> bool
     ensures { result ≡ is_instr word && not marked }
 {
     !marked && decode(word).is_some()
 }
 
-/// A block ends with the word.
+/// Returns whether a block ends with the word.
 pub fn is_end(word: u32) -> bool
     ensures { result ≡ is_end (decode_of word) }
 {

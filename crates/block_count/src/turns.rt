@@ -1,4 +1,4 @@
-//! Harts take quanta in the order of a seed.
+//! Lets harts take quanta in the order of a seed.
 
 ghost use Rattle.std.specs.Prelude.{◌≡◌, ◌<◌, ◌≤◌, true, length, IfOk, OnOk};
 ghost use Rattle.machine.specs.Events.{IsQuiet};
@@ -13,7 +13,7 @@ use pn_types::{HartNo, MAX_HARTS, MAX_QUANTA, NoMemory};
 use std::alloc::Global;
 use turn_order::{Order, Ready};
 
-/// The harts that are runnable, by number.
+/// Returns the harts that are runnable, by number.
 fn ready_harts(alloc: Global, machine: &Machine, harts: u32) -> Result<Ready, NoMemory>
     requires harts { harts ≡ length machine.now.core.harts }
     requires few { harts ≤ MAX_HARTS }
@@ -29,7 +29,7 @@ fn ready_harts(alloc: Global, machine: &Machine, harts: u32) -> Result<Ready, No
     Ok(ready)
 }
 
-/// Turns of a hart, at most so many, behind which it is ready if it is runnable. No other hart can have stopped.
+/// Lets a hart take turns, at most `turns`. Afterwards it is ready if it is runnable. No other hart can have stopped.
 fn take_quantum(machine: &mut Machine, ready: &mut Ready, harts: u32, hart: HartNo, turns: u32)
     requires hart { hart < length machine.old.core.harts }
     requires harts { harts ≡ length machine.old.core.harts }
@@ -45,7 +45,7 @@ fn take_quantum(machine: &mut Machine, ready: &mut Ready, harts: u32, hart: Hart
     }
 }
 
-/// Lets the harts take quanta of at most so many turns, in the order of a seed, until none is runnable or there were as many quanta
+/// Lets the harts take quanta of at most `turns` turns, in the order of a seed, until none is runnable or there are as many quanta
 /// as there may be.
 fn take_quanta(
     alloc: Global,
@@ -56,7 +56,8 @@ fn take_quanta(
 ) -> Result<(), NoMemory>
     requires harts { harts ≡ length machine.old.core.harts }
     requires few { harts ≤ MAX_HARTS }
-    ensures taken { OnOk result (machine.new.core ≡ replay (all_quanta (record { harts = harts; turns = turns; seed = seed }) machine.old.core) machine.old.core) }
+    ensures taken { OnOk result
+        (machine.new.core ≡ replay (all_quanta (record { harts = harts; turns = turns; seed = seed }) machine.old.core) machine.old.core) }
     ensures harts { length machine.new.core.harts ≡ length machine.old.core.harts }
 {
     let mut order = Order::of_seed(seed);
@@ -71,7 +72,11 @@ fn take_quanta(
     Ok(())
 }
 
-/// Lets the harts take quanta, and the machine settle.
+/// Lets the harts take quanta as above, and then the machine settle.
+///
+/// # Errors
+///
+/// `NoMemory` where memory runs out.
 pub fn take_turns(
     alloc: Global,
     machine: &mut Machine,
@@ -81,7 +86,8 @@ pub fn take_turns(
 ) -> Result<(), NoMemory>
     requires harts { harts ≡ length machine.old.core.harts }
     requires few { harts ≤ MAX_HARTS }
-    ensures taken { OnOk result (machine.new.core ≡ replay (turns_of (record { harts = harts; turns = turns; seed = seed }) machine.old.core) machine.old.core) }
+    ensures taken { OnOk result
+        (machine.new.core ≡ replay (turns_of (record { harts = harts; turns = turns; seed = seed }) machine.old.core) machine.old.core) }
     ensures quiet { OnOk result (IsQuiet machine.new.core) }
     ensures harts { length machine.new.core.harts ≡ length machine.old.core.harts }
 {

@@ -11,7 +11,7 @@ has name taken = list_any (is_named name) taken
 abbrev pub ended : Form → Taken → Option Taken
 ended form taken = if list_all (λ place. has place taken) form.places then Some taken else None
 
--- behind `--` each word takes the next place
+-- after `--` each word takes the next place
 abbrev pub behind : Form → List Text → Taken → List Text → Option Taken
 behind form places taken [] = ended form taken
 behind form [] taken (word ∷ words) = None
@@ -53,6 +53,6 @@ read form places taken (Some name) (word ∷ words) = by_value (kind_of word) na
 read form places taken None (word ∷ words) =
     by_kind form (kind_of word) word places taken (behind form places taken words) (λ ps t awaiting. read form ps t awaiting words)
 
--- What the words of a command give, those behind the command's own.
+-- What the words of a command give, those after the command's own.
 abbrev pub machine_takes : Form → List Text → Option Taken
 machine_takes form words = read form form.places [] None words

@@ -68,7 +68,7 @@ find_option (o ∷ os) name = by (find_option os name) (bytes_eq name o) refl
         ap (λ b. cond b (Some o) (find (λ o. bytes_eq o name) os)) other ∙ later ∙ ap (λ b. cond (b || is_among os name) (Some name) None) (sym e)
 
 module _ (form : Form) where
-  -- what items give where the reading stands, with words behind them that are positional
+  -- what items give where the reading stands, with words after them that are positional
   abbrev gone : List Text → Taken → List Text → Option (List Item) → Option Taken
   gone places taken tail None = None
   gone places taken tail (Some items) = rest form places taken (filter_map word_in items ++ tail) (filter_map option_in items)
@@ -83,7 +83,7 @@ module _ (form : Form) where
       ∙ behind_same words (done ++ place ∷ []) places (taken ++ (place, word) ∷ []) (stands_placed form done places place word taken s)
       ∙ sym (rest_placed form places place word words taken [] unlike.0)
 
-  -- ---- one word, where those behind it are read as they should be
+  -- ---- one word, where those after it are read as they should be
 
   abbrev Idle : List Text → Type 0
   Idle words = (done places : List Text) (taken : Taken) → Stands form done places taken →

@@ -82,7 +82,7 @@ single_place i name = record { fault = λ v rows. refl; gives = λ v rows. refl 
 pub single_option : (name : Text) → IsSingle name (option_rule name)
 single_option name = record { fault = λ v rows. refl; gives = λ v rows. refl }
 
--- ---- what the rules answer
+-- ---- what the rules say
 
 abbrev pub NoDefaults : List Rule → Type 0
 NoDefaults [] = Unit {0}

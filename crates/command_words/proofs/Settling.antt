@@ -230,7 +230,7 @@ module _ (name : Text) (form : Form) (rules : List Rule) (fits : Fits form rules
   pub known_option : (o : Text) → arg_by_id rules o ≡ Some (option_rule o) → Known o
   known_option o e = (option_rule o, e, single_option o)
 
-  -- ---- behind `--`
+  -- ---- after `--`
 
   pub behind_agrees : (words : List Text) (places : List Text) (taken : Taken) (p : Option Use) (i : ℕ) → PlacesFit rules i places → KnownUse p →
       Agrees (cond (twice taken p) None (behind form places (together taken p) words)) (total (idle_at taken p i true) words) (end_rows (idle_at taken p i true) words)

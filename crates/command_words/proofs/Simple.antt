@@ -36,7 +36,7 @@ rest_utf8 [] = tt
 rest_utf8 (word ∷ words) = texts_utf8 words
 
 module _ {Z : Type 0} (name : CommandName) (words : List (String Z)) (app : App) (same : app ≡ app_for name) where
-  -- what clap says of the words behind a command's own
+  -- what clap says of the words after a command's own
   agrees_words : Agrees (machine_takes (form_of name) (drop 1 (map string_bytes words))) (fault_of (app_for name) (map string_bytes words)) (matches_of (app_for name) (map string_bytes words))
   agrees_words = agrees_for name (map string_bytes words) (rest_utf8 words)
 

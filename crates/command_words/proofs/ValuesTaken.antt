@@ -73,7 +73,7 @@ moved None (Some v) None d h = refl
 moved None (Some v) (Some w) d (inl e) = absurd (cc)
 moved None (Some v) (Some w) d (inr e) = absurd (cc)
 
--- a name with its value may stand before or behind names that are unlike it
+-- a name with its value may stand before or after names that are unlike it
 pub given_moved : (xs ys zs : Taken) (name value : Text) → given_in ys name ≡ None → (n : Text) → given_in ((xs ++ (name, value) ∷ []) ++ (ys ++ zs)) n ≡ given_in (xs ++ (ys ++ (name, value) ∷ zs)) n
 given_moved xs ys zs name value none n =
     given_both n (xs ++ (name, value) ∷ []) (ys ++ zs)
@@ -88,7 +88,7 @@ given_moved xs ys zs name value none n =
     by true e = inr (ap (given_in ys) (sym (same_bytes name n e)) ∙ none)
     by false e = inl (ap (λ b. option_map (λ (t : Text × Text). t.1) (cond b (Some (name, value)) None)) e)
 
--- ---- answers that give the same
+-- ---- results that give the same
 
 -- neither, or both with the same value for each name
 abbrev pub SameGiven : Option Taken → Option Taken → Type 0

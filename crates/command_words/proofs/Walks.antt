@@ -142,7 +142,7 @@ module _ (name : Text) (form : Form) (rules : List Rule) (fits : Fits form rules
   wanting_end : (taken : Taken) (o : Text) (i : ℕ) (trailing : Bool) → arg_by_id rules o ≡ Some (option_rule o) → total (waiting_at taken o i trailing) [] ≡ [] → ⊥
   wanting_end taken o i trailing e h = some_fault kind.InvalidValue [] _ _ (wanting taken o e) (sym (settling.total_end name form rules fits (waiting_at taken o i trailing)) ∙ h)
 
-  -- what the rules say where a word takes a place behind an option without its value
+  -- what the rules say where a word takes a place after an option without its value
   wanting_fault : (places : List Text) (taken : Taken) (o : Text) (i : ℕ) → PlacesFit rules i places → arg_by_id rules o ≡ Some (option_rule o) →
       (option_map_or (λ a. positional_fault rules false a (awaiting taken o)) (arg_by_index rules i) (kind.UnknownArgument ∷ []) ≡ kind.UnknownArgument ∷ [])
       ⊎ (option_map_or (λ a. positional_fault rules false a (awaiting taken o)) (arg_by_index rules i) (kind.UnknownArgument ∷ []) ≡ kind.InvalidValue ∷ [])

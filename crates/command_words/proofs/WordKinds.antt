@@ -16,7 +16,7 @@ pub data Word (word : Text) : Type 0 where
   short : kind_of word ≡ other_flag → bytes_eq word (codes "--") ≡ false → long_of word ≡ None → (b : ℕ) (rest : Text) → short_of word ≡ Some (b ∷ rest) →
       (x : ℕ) → slice_get (chars (b ∷ rest)) 0 ≡ Some x → Word word
 
--- the first character behind a hyphen
+-- the first character after a hyphen
 first_of_list : (cs : List ℕ) (c : ℕ) (rest : Text) → encode_utf8_all (45 ∷ cs) ≡ 45 ∷ c ∷ rest → (x : ℕ) × (slice_get cs 0 ≡ Some x)
 unfolding encode_utf8
 first_of_list [] c rest e = absurd (cc)

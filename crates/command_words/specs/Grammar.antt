@@ -24,14 +24,14 @@ pub data Kind : Type 0 where
 abbrev pub is_equals : ℕ → Bool
 is_equals c = c == 61
 
--- what follows `--`: the name ends before the first `=`, and the value is what stands behind it
+-- what follows `--`: the name ends before the first `=`, and the value is what stands after it
 abbrev pub option_kind : Text → Kind
 option_kind text = option (before_first is_equals text) (if list_any is_equals text then Some (after_first is_equals text) else None)
 
 abbrev pub begins : Text → Text → Bool
 begins front word = bytes_eq (take (length front) word) front
 
--- whether the word is the `--` behind which all words are positional
+-- whether the word is the `--` after which all words are positional
 abbrev pub is_separator : Text → Bool
 is_separator word = bytes_eq word (codes "--")
 
@@ -57,7 +57,7 @@ with_next name [] = None
 with_next name (positional word ∷ items) = Some (valued name word ∷ items)
 with_next name (valued other value ∷ items) = None
 
--- a word before the items of the words behind it
+-- a word before the items of the words after it
 abbrev pub with_word : Kind → Text → List Item → Option (List Item)
 with_word plain word items = Some (positional word ∷ items)
 with_word (option name (Some value)) word items = Some (valued name value ∷ items)
@@ -106,7 +106,7 @@ fits form words names = (length words == length form.places) && list_all (is_amo
 abbrev pub taken_by : Form → List Text → Taken → Option Taken
 taken_by form words options = if fits form words (map (λ o. o.0) options) then Some (zip form.places words ++ options) else None
 
--- What the words of a command give, those behind the command's own. Those behind a first `--` are positional.
+-- What the words of a command give, those after the command's own. Those after a first `--` are positional.
 abbrev pub taken_of : Form → List Text → Option Taken
 taken_of form words =
     option_and_then (λ items. taken_by form (filter_map word_in items ++ after_first is_separator words) (filter_map option_in items))

@@ -13,4 +13,5 @@ log_from name given = option_and_then (λ request. given (codes "log")) (request
 -- The value of `log` in words; none where they are no command, or give none.
 abbrev pub log_of : List Text → Option Text
 log_of [] = None
-log_of (word ∷ words) = option_and_then (λ name. option_and_then (λ taken. log_from name (given_in taken)) (taken_of (form_of name) words)) (command_named word)
+log_of (word ∷ words) =
+    option_and_then (λ name. option_and_then (λ taken. log_from name (given_in taken)) (taken_of (form_of name) words)) (command_named word)

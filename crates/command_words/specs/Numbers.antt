@@ -9,7 +9,7 @@ use Rattle.command_words.specs.Grammar.{Text, Given}
 abbrev pub number_between : ℕ → ℕ → Text → Option ℕ
 number_between least most text = option_and_then (λ n. if nat_le least n then Some n else None) (number_of text most)
 
--- an option whose value is a number: its name, its range, and the number where it isn't given
+-- an option whose value is a number: its name, its range, and the number that holds where it isn't given
 pub record NumberOption : Type 0 where
   pub name : Text
   pub least : ℕ
@@ -45,6 +45,6 @@ views_option = record { name = codes "views"; least = 1; most = 8; default = 2 }
 abbrev pub instruments_option : NumberOption
 instruments_option = record { name = codes "instruments"; least = 1; most = MAX_INSTRUMENTS; default = 64 }
 
--- the number that an option gives, and else its default
+-- the number that an option gives, or its default where it isn't given
 abbrev pub number_given : Given → NumberOption → Option ℕ
 number_given given option = option_map_or (number_between option.least option.most) (given option.name) (Some option.default)

@@ -24,7 +24,7 @@ place_in given name = unwrap_or (given name) []
 abbrev pub start_named : Text → Option Start
 start_named text = if bytes_eq text (codes "cold") then Some Cold else if bytes_eq text (codes "warm") then Some Warm else None
 
--- the start that is given, and else warm
+-- the start that is given, or `warm` where none is
 abbrev pub start_given : Given → Option Start
 start_given given = option_map_or start_named (given (codes "start")) (Some Warm)
 
@@ -117,7 +117,11 @@ pub data Request : Type 0 where
 
 abbrev pub session_of : Given → Option SessionRequest
 session_of given =
-    option_map (λ settings. record { program = place_in given (codes "program"); conf = place_in given (codes "conf"); settings = settings })
+    option_map (λ settings. record {
+      program = place_in given (codes "program");
+      conf = place_in given (codes "conf");
+      settings = settings;
+    })
     (settings_of given)
 
 abbrev pub order_of : Given → Option TurnOrder
@@ -127,7 +131,9 @@ order_of given =
 
 abbrev pub run_request : Given → Option Request
 run_request given =
-    option_and_then (λ session. option_map (λ order. run (record { session = session; order = order; log = given (codes "log") })) (order_of given))
+    option_and_then (λ session. option_map (λ order.
+    run (record { session = session; order = order; log = given (codes "log") }))
+    (order_of given))
     (session_of given)
 
 abbrev pub live_request : Given → Option Request
@@ -140,7 +146,11 @@ live_request given =
 
 abbrev pub replay_request : Given → Request
 replay_request given =
-    replay (record { program = place_in given (codes "program"); conf = place_in given (codes "conf"); log = place_in given (codes "record") })
+    replay (record {
+      program = place_in given (codes "program");
+      conf = place_in given (codes "conf");
+      log = place_in given (codes "record");
+    })
 
 abbrev pub plan_request : Given → Option Request
 plan_request given =
@@ -169,7 +179,8 @@ blocks_request given =
 
 abbrev pub visi_request : Given → Option Request
 visi_request given =
-    option_and_then (λ session. option_and_then (λ order. option_map (λ views. visi (record { session = session; order = order; views = views }))
+    option_and_then (λ session. option_and_then (λ order. option_map (λ views.
+    visi (record { session = session; order = order; views = views }))
     (number_given given views_option))
     (order_of given))
     (session_of given)
@@ -199,7 +210,10 @@ request_from Direct given = direct_request given
 abbrev pub request_of : List Text → Option Request
 request_of [] = None
 request_of (word ∷ words) =
-    option_and_then (λ name. option_and_then (λ taken. request_from name (given_in taken)) (taken_of (form_of name) words)) (command_named word)
+    option_and_then (λ name. option_and_then (λ taken.
+    request_from name (given_in taken))
+    (taken_of (form_of name) words))
+    (command_named word)
 
 -- The words begin with that of a command that begins threads.
 abbrev pub begins_threaded : List Text → Bool

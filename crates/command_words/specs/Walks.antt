@@ -29,7 +29,7 @@ value_at values (Some slot) = slice_index_or values slot None
 abbrev pub value_of : Form → Values → Given
 value_of form values name = value_at values (slot_of form name)
 
--- a value more; a name has at most one
+-- the values with one more; a name has at most one
 abbrev pub put_at : Values → Option ℕ → Text → Option Values
 put_at values None value = None
 put_at values (Some slot) value = if is_some (slice_index_or values slot None) then None else Some (slice_set values slot (Some value))
@@ -83,7 +83,7 @@ abbrev pub by_awaiting : Form → Walk → Option Text → Text → Option Walk
 by_awaiting form w None word = by_kind form w (kind_of word) word
 by_awaiting form w (Some name) word = by_value form w name (kind_of word) word
 
--- the walk behind one word more
+-- the walk after one more word
 abbrev pub step : Form → Walk → Text → Option Walk
 step form w word = if w.behind then placed form w word else by_awaiting form w w.awaiting word
 
@@ -98,6 +98,6 @@ is_full form values = list_all (λ name. is_some (value_of form values name)) fo
 abbrev pub finished : Form → Walk → Option Values
 finished form w = if is_none w.awaiting && is_full form w.values then Some w.values else None
 
--- The values that the words of a command give, those behind the command's own.
+-- The values that the words of a command give, those after the command's own.
 abbrev pub values_of : Form → List Text → Option Values
 values_of form words = option_and_then (finished form) (walked form first_step words)

@@ -1,4 +1,4 @@
-//! From words to what they ask for.
+//! Reads what words ask for.
 
 ghost use Rattle.std.specs.Prelude.{◌≡◌, ◌≤◌, MatchResult, IfOk, IfSome, Some, None, map, option_map, string_bytes};
 ghost use Rattle.command_words.specs.Asked.{asked, asked_session};
@@ -21,14 +21,14 @@ use pn_text::number;
 use pn_types::{Settings, Start};
 use std::alloc::Global;
 
-/// A positional word.
+/// Returns the positional word of this name.
 fn place<'a, G: Given<'a>>(given: &G, name: &str) -> &'a str
     ensures { result.now ≡ place_in (G.given given.now) name.now }
 {
     given.value(name).unwrap_or("")
 }
 
-/// A number of 1 to 10 digits in a range.
+/// Reads a number of 1 to 10 digits in a range.
 #[tactic(auto, using(crate::proofs::Ranges::number_is_at_most))]
 fn number_between(text: &str, least: u64, most: u64) -> Option<u64>
     ensures number { result ≡ number_between least most text.now }
@@ -38,7 +38,7 @@ fn number_between(text: &str, least: u64, most: u64) -> Option<u64>
     if least <= number { Some(number) } else { None }
 }
 
-/// The number that an option gives, and else its default.
+/// Returns the number that an option gives, or its default where it isn't given.
 fn number_given<'a, 'n, G: Given<'a>>(given: &G, option: NumberOption<'n>) -> Option<u64>
     ensures number { result ≡ number_given (G.given given.now) (option_seen option.entry) }
     ensures range { IfSome result (λ n. (option.entry.least ≤ n) × (n ≤ option.entry.most)) }
@@ -49,7 +49,7 @@ fn number_given<'a, 'n, G: Given<'a>>(given: &G, option: NumberOption<'n>) -> Op
     }
 }
 
-/// The start of this name.
+/// Returns the start of this name.
 fn start_named(text: &str) -> Option<Start>
     ensures { result ≡ start_named text.now }
 {
@@ -62,7 +62,7 @@ fn start_named(text: &str) -> Option<Start>
     None
 }
 
-/// The start that is given, and else warm.
+/// Returns the start that is given, or `warm` where none is.
 fn start_given<'a, G: Given<'a>>(given: &G) -> Option<Start>
     ensures { result ≡ start_given (G.given given.now) }
 {
@@ -212,6 +212,7 @@ fn direct_request<'a, G: Given<'a>>(given: &G) -> Option<Request<'a>>
     }))
 }
 
+/// Returns the request that the values of a command give, if each number is in its range.
 pub fn request_from<'a, G: Given<'a>>(name: CommandName, given: &G) -> Option<Request<'a>>
     ensures request { option_map asked result ≡ request_from name (G.given given.now) }
     ensures ranges { IfSome result (λ request. HasRanges (asked request)) }
@@ -236,7 +237,7 @@ pub fn request_from<'a, G: Given<'a>>(name: CommandName, given: &G) -> Option<Re
     }
 }
 
-/// The words begin with that of a command that begins threads: `live` or `visi`.
+/// Returns whether the first word is that of a command that begins threads: `live` or `visi`.
 pub fn begin_threaded(words: &[String]) -> bool
     ensures { result ≡ begins_threaded (map string_bytes words.now) }
 {
@@ -246,9 +247,12 @@ pub fn begin_threaded(words: &[String]) -> bool
     }
 }
 
-/// What the words ask for: those of the command line without the program's name. `Usage` exactly where they are no
-/// command: the first names none, the others aren't the positional words and options of that command, or a number is
-/// out of its range.
+/// Reads what the words of the command line, without the program's name, ask for. They are no command where the first names none,
+/// the others aren't the positional words and options of that command, or a number is out of its range.
+///
+/// # Errors
+///
+/// `Usage` exactly where the words are no command; `NoMemory` where memory runs out.
 pub fn read_request<'a>(alloc: Global, words: &'a [String]) -> Result<Request<'a>, WordFault>
     ensures request { MatchResult result (λ request. request_of (map string_bytes words.entry.now) ≡ Some (asked request))
         (λ fault. fault ≡ WordFault.Usage → request_of (map string_bytes words.entry.now) ≡ None) }

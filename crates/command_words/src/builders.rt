@@ -31,7 +31,7 @@ fn option<'a>(alloc: Global, name: &'a str) -> Arg<'a>
     Arg::new(alloc, name).long(name).action(ArgAction::Set)
 }
 
-/// The command with a positional word of each name.
+/// Returns the command with a positional word of each name.
 fn with_places<'a>(
     alloc: Global,
     command: Command<'a>,
@@ -46,7 +46,7 @@ fn with_places<'a>(
     Ok(command)
 }
 
-/// The command with an option of each name.
+/// Returns the command with an option of each name.
 fn with_options<'a>(
     alloc: Global,
     command: Command<'a>,
@@ -61,7 +61,11 @@ fn with_options<'a>(
     Ok(command)
 }
 
-/// The command that takes the words of a form.
+/// Returns the command that takes the words of a form.
+///
+/// # Errors
+///
+/// `AllocError` where memory runs out.
 pub fn command<'a>(alloc: Global, form: &Form) -> Result<Command<'a>, AllocError>
     ensures { IfOk result (λ command. app_of command ≡ app_with (form_seen form.now)) }
 {

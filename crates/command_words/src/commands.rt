@@ -1,3 +1,5 @@
+//! The commands, and the words that each takes.
+
 ghost use Rattle.std.specs.Prelude.{◌≡◌, find};
 ghost use Rattle.std.specs.Str.{bytes_eq};
 ghost use Rattle.command_words.specs.Commands.{command_named, form_of};
@@ -151,7 +153,7 @@ const FORMS: [Form; 12] = [
     },
 ];
 
-/// The first of some commands whose word this is.
+/// Returns the first of some commands whose word this is.
 fn first_named(commands: &[CommandName], word: &str) -> Option<CommandName>
     ensures { result ≡ find (λ name. bytes_eq (form_of name).word word.now) commands.now }
 {
@@ -159,7 +161,7 @@ fn first_named(commands: &[CommandName], word: &str) -> Option<CommandName>
 }
 
 impl CommandName {
-    /// The words that it takes.
+    /// Returns the words that it takes.
     pub(crate) fn form(self) -> Form
         ensures { form_seen result ≡ form_of self }
     {
@@ -172,7 +174,7 @@ impl CommandName {
         self.form().word
     }
 
-    /// The command of this word.
+    /// Returns the command of this word.
     pub fn of_word(word: &str) -> Option<CommandName>
         ensures { result ≡ command_named word.now }
     {

@@ -9,7 +9,7 @@ pub const MAX_NAMES: usize = 16;
 /// The words that a command takes.
 #[derive(Clone, Copy, Drop)]
 pub struct Form {
-    /// The command's own.
+    /// The command's own word.
     pub word: &'static str,
     /// The names of its positional words, in order.
     pub places: &'static [&'static str],

@@ -1,4 +1,4 @@
-//! The values of words, from wherever they were read.
+//! The values that words give, however they were read.
 
 ghost use Rattle.std.specs.Prelude.{◌≡◌, option_map};
 ghost use Rattle.command_words.specs.Asked.{given_by};
@@ -15,7 +15,7 @@ pub trait Given<'a> {
 
     ghost given: { Self → given_text };
 
-    /// The value of a name.
+    /// Returns the value of a name.
     fn value(&self, name: &str) -> Option<&'a str>
         ensures { option_map (λ s. s.now) result ≡ given self.now name.now };
 }

@@ -1,3 +1,5 @@
+//! The name that words give for the log.
+
 ghost use Rattle.std.specs.Prelude.{◌≡◌, map, option_map, string_bytes};
 ghost use Rattle.command_words.specs.Logs.{log_of};
 
@@ -6,8 +8,8 @@ use crate::commands::CommandName;
 use crate::given::{FormValues, Given};
 use crate::walking::values_of;
 
-/// The name that the words of the command line give for the log. None exactly where they are no command or have no
-/// `log` option. It takes no memory.
+/// Returns the name that the words of the command line give for the log. None exactly where they are no command or have no `log`
+/// option. It takes no memory.
 pub fn log_name(words: &[String]) -> Option<&str>
     ensures { option_map (λ s. s.now) result ≡ log_of (map string_bytes words.now) }
 {

@@ -1,3 +1,5 @@
+//! Reads the words of a command by clap.
+
 ghost use Rattle.std.specs.Prelude.{◌≡◌, IfOk, IsErrOf, None, drop, map, string_bytes};
 ghost use Rattle.command_words.specs.Asked.{Holds};
 ghost use Rattle.command_words.specs.Grammar.{taken_of};
@@ -12,13 +14,17 @@ use std::alloc::Global;
 /// Why words give no request.
 #[derive(Clone, Copy, Debug, PartialEq, Eq, Drop)]
 pub enum WordFault {
-    /// Memory was wanting.
+    /// Out of memory.
     NoMemory,
     /// They are no command.
     Usage,
 }
 
 /// Reads the words of a command, of which the first is the command's own.
+///
+/// # Errors
+///
+/// `Usage` where the words are no words of the command; `NoMemory` where memory runs out.
 pub fn matches<'a>(
     alloc: Global,
     name: CommandName,

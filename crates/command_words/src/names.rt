@@ -9,14 +9,14 @@ ghost use Rattle.command_words.specs.Walked.{form_seen};
 
 use crate::forms::{Form, MAX_NAMES};
 
-/// Whether a name is one of these.
+/// Returns whether a name is one of these.
 fn is_among(names: &[&str], name: &str) -> bool
     ensures { result ≡ list_any (λ other. bytes_eq name.now other.now) names.now }
 {
     names.iter().any(|other| name == *other)
 }
 
-/// The place of a name in these.
+/// Returns the place of a name in these.
 fn position_of(names: &[&str], name: &str) -> Option<usize>
     ensures number { result ≡ position (λ other. bytes_eq other.now name.now) names.now }
     ensures range { IfSome result (λ number. number < length names.now) }
@@ -25,21 +25,21 @@ fn position_of(names: &[&str], name: &str) -> Option<usize>
 }
 
 impl Form {
-    /// The name of a place.
+    /// Returns the name of a place.
     pub fn place(&self, place: usize) -> Option<&'static str>
         ensures { option_map (λ s. s.now) result ≡ slice_get (form_seen self.now).places place }
     {
         self.places.get(place).copied()
     }
 
-    /// Whether it has an option of this name.
+    /// Returns whether it has an option of this name.
     pub fn has_option(&self, name: &str) -> bool
         ensures { result ≡ is_among (form_seen self.now).options name.now }
     {
         is_among(self.options, name)
     }
 
-    /// The number of a name among those of the places and the options.
+    /// Returns the number of a name among those of the places and the options.
     pub fn slot_of(&self, name: &str) -> Option<usize>
         ensures number { result ≡ slot_of (form_seen self.now) name.now }
         ensures range { IfSome result (λ slot. slot < MAX_NAMES) }

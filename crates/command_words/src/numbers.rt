@@ -15,11 +15,12 @@ pub struct NumberOption<'n> {
     pub name: &'n str,
     pub least: u64,
     pub most: u64,
-    /// The number where the option isn't given.
+    /// The number that holds where the option isn't given.
     pub default: u64,
     ghost in_range: { (least ≤ default) × (default ≤ most) },
 }
 
+/// The harts of a run.
 pub const HARTS: NumberOption<'static> = NumberOption {
     name: "harts",
     least: 1,
@@ -27,6 +28,7 @@ pub const HARTS: NumberOption<'static> = NumberOption {
     default: 1,
 };
 
+/// The workers that share a run.
 pub const WORKERS: NumberOption<'static> = NumberOption {
     name: "workers",
     least: 1,
@@ -58,6 +60,7 @@ pub const BUDGET: NumberOption<'static> = NumberOption {
     default: 1_000_000,
 };
 
+/// The bins of a histogram.
 pub const BINS: NumberOption<'static> = NumberOption {
     name: "bins",
     least: MIN_BINS as u64,
@@ -81,6 +84,7 @@ pub const VIEWS: NumberOption<'static> = NumberOption {
     default: 2,
 };
 
+/// The instruments that are allowed at once.
 pub const INSTRUMENTS: NumberOption<'static> = NumberOption {
     name: "instruments",
     least: 1,

@@ -16,7 +16,7 @@ pub struct SessionRequest<'a> {
 /// An order in which harts take their turns.
 #[derive(Clone, Copy, Drop)]
 pub struct TurnOrder {
-    /// The seed from which each next hart is drawn; 0 goes round.
+    /// The seed from which each next hart is drawn. With 0 the harts take turns by number.
     pub seed: u32,
     /// The most turns of a quantum, from 1 to [`pn_types::MAX_QUANTUM`].
     pub quantum: u32,
@@ -113,7 +113,7 @@ pub struct DirectRequest<'a> {
 pub enum Request<'a> {
     /// To run a program.
     Run(RunRequest<'a>),
-    /// To run a program by workers beside each other.
+    /// To run a program by several workers.
     Live(LiveRequest<'a>),
     /// To run a program again as its log says.
     Replay(ReplayRequest<'a>),
@@ -129,7 +129,7 @@ pub enum Request<'a> {
     Stress(StressRequest),
     /// To count how often each basic block of a program is executed.
     Blocks(BlocksRequest<'a>),
-    /// To run a program before views.
+    /// To run a program that views follow.
     Visi(VisiRequest<'a>),
     /// To print the directives that the report of this name advises.
     Advise(&'a str),

@@ -13,7 +13,7 @@ pub struct Values<'a> {
 }
 
 impl<'a> Values<'a> {
-    /// No values.
+    /// Returns values of which no name has one.
     pub fn none() -> Values<'a>
         ensures { values_seen result ≡ no_values }
     {
@@ -22,14 +22,14 @@ impl<'a> Values<'a> {
         }
     }
 
-    /// The value of a name.
+    /// Returns the value of a name.
     pub fn get(&self, form: &Form, name: &str) -> Option<&'a str>
         ensures { option_map (λ s. s.now) result ≡ value_of (form_seen form.now) (values_seen self.now) name.now }
     {
         self.at_slots[form.slot_of(name)?]
     }
 
-    /// The values with one more, if the name is known and has none yet.
+    /// Returns the values with one more, if the name is known and has none yet.
     pub fn put(&self, form: &Form, name: &str, value: &'a str) -> Option<Values<'a>>
         ensures { option_map values_seen result ≡ put (form_seen form.now) (values_seen self.now) name.now value.entry.now }
     {

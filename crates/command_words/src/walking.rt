@@ -22,14 +22,14 @@ pub struct Walk<'a> {
     behind: bool,
 }
 
-/// Whether each of these names has a value.
+/// Returns whether each of these names has a value.
 fn have_values(names: &[&str], form: &Form, values: &Values<'_>) -> bool
     ensures { result ≡ list_all (λ name. is_some (value_of (form_seen form.now) (values_seen values.now) name.now)) names.now }
 {
     names.iter().all(|name| values.get(form, name).is_some())
 }
 
-/// Whether each place has its word.
+/// Returns whether each place has its word.
 fn is_full(form: &Form, values: &Values<'_>) -> bool
     ensures { result ≡ is_full (form_seen form.now) (values_seen values.now) }
 {
@@ -48,7 +48,7 @@ impl<'a> Walk<'a> {
         }
     }
 
-    /// A word takes the next place.
+    /// Returns the walk after a word that takes the next place.
     fn place(&self, form: &Form, word: &'a str) -> Option<Walk<'a>>
         ensures { option_map walk_seen result ≡ placed (form_seen form.now) (walk_seen self.now) word.entry.now }
     {
@@ -61,9 +61,10 @@ impl<'a> Walk<'a> {
         })
     }
 
-    /// An option takes its value, or awaits it.
+    /// Returns the walk after an option, which has its value or awaits it.
     fn option(&self, form: &Form, name: &'a str, value: Option<&'a str>) -> Option<Walk<'a>>
-        ensures { option_map walk_seen result ≡ optioned (form_seen form.now) (walk_seen self.now) name.entry.now (option_map (λ v. v.now) value.entry) }
+        ensures { option_map walk_seen result
+            ≡ optioned (form_seen form.now) (walk_seen self.now) name.entry.now (option_map (λ v. v.now) value.entry) }
     {
         if !form.has_option(name) {
             return None;
@@ -80,7 +81,7 @@ impl<'a> Walk<'a> {
         }
     }
 
-    /// The walk behind one word more.
+    /// Returns the walk after one more word.
     fn step(&self, form: &Form, word: &'a str) -> Option<Walk<'a>>
         ensures { option_map walk_seen result ≡ step (form_seen form.now) (walk_seen self.now) word.entry.now }
     {
@@ -107,7 +108,7 @@ impl<'a> Walk<'a> {
         }
     }
 
-    /// The values, if the words may end here.
+    /// Returns the values, if the words may end here.
     fn finish(&self, form: &Form) -> Option<Values<'a>>
         ensures { option_map values_seen result ≡ finished (form_seen form.now) (walk_seen self.now) }
     {
@@ -119,7 +120,7 @@ impl<'a> Walk<'a> {
     }
 }
 
-/// The values that the words of a command give, those behind the command's own.
+/// Returns the values that the words of a command give, of which `words` are those after the command's own.
 pub fn values_of<'a>(form: &Form, words: &'a [String]) -> Option<Values<'a>>
     ensures { option_map values_seen result ≡ values_of (form_seen form.now) (map string_bytes words.entry.now) }
 {

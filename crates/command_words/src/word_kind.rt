@@ -19,7 +19,7 @@ pub enum WordKind<'a> {
 }
 
 impl<'a> WordKind<'a> {
-    /// What follows `--`.
+    /// Returns what follows `--`.
     fn of_option(text: &'a str) -> WordKind<'a>
         ensures { kind_seen result ≡ option_kind text.now }
     {
@@ -29,7 +29,7 @@ impl<'a> WordKind<'a> {
         }
     }
 
-    /// What the word is.
+    /// Returns what the word is.
     pub fn of(word: &'a str) -> WordKind<'a>
         ensures { kind_seen result ≡ kind_of word.now }
     {

@@ -1,4 +1,4 @@
--- What was looked at of files by a step behind one that came to a value.
+-- What was looked at of files by a step after one that came to a value.
 use Rattle.std.proofs.Common.{◌≡◌, ℕ, List, Result, Ok, Err, sym, ◌∙◌, subst, arith}
 use Rattle.std.specs.Prelude.{IsSome}
 use Rattle.outside.specs.Outside.{Holding, IsCalm}

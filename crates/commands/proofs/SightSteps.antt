@@ -27,14 +27,14 @@ use Rattle.commands.specs.declared.texts.Texts.{Texts}
 zeros : (n : ℕ) → IsBytes (replicate n 0)
 zeros n i = ⊎_elim (λ (l : i < n). omega (arith, get_or-replicate {A = ℕ} n i 0 0 l)) (λ (l : n ≤ i). omega (arith, get_or_past {X = ℕ} (replicate n 0) i 0 (omega (arith, l, length-replicate {A = ℕ} n 0)))) (cases_lt i n)
 
--- a file that is longer than so many bytes has some bytes
+-- a file that is longer than a number of bytes has some bytes
 pub some_longer : (holding : Holding) (most : ℕ) → IsLonger holding most → (bytes : List ℕ) × (IsWhole holding bytes × IsBytes bytes) × (most < length bytes)
 some_longer None most h = (replicate (most + 1) 0, (tt, zeros (most + 1)), omega (arith, length-replicate {A = ℕ} (most + 1) 0))
 some_longer (Some None) most h = absurd h
 some_longer (Some (Some file)) most h = (file, (refl, h.1), h.0)
 
 module _ (sees : Sight) (most : ℕ) (too_long : Fault) (name : List ℕ) where
-  -- a file that has at most so many bytes
+  -- a file that has at most a number of bytes
   pub short_content : (bytes : List ℕ) → sees name (Ok bytes) → length bytes ≤ most → IsContent sees most too_long name (Ok bytes)
   short_content bytes h short = (Ok bytes, h, sym (cond-false (nat_lt most (length bytes)) (Err too_long) (Ok bytes) (le-ltb most (length bytes) short)))
 
@@ -48,7 +48,7 @@ module _ (sees : Sight) (most : ℕ) (too_long : Fault) (name : List ℕ) where
 
 -- ---- what was seen before other files were read, and after
 
--- a program that was read stays so
+-- a program that was read stays read
 pub program_again : (holds : List ℕ → Holding) (before then now : List ℕ → ℕ) (name : List ℕ) (image : Image) → IsProgram (seen holds before then) name (Ok image) → IsProgram (seen holds before now) name (Ok image)
 program_again holds before then now name image (Ok bytes, (Ok whole, h, short), is) = (Ok bytes, (Ok whole, h, short), is)
 program_again holds before then now name image (Ok bytes, (Err fault, h, short), is) = absurd (cc)

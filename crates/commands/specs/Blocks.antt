@@ -22,7 +22,8 @@ pace_of r = record { harts = r.harts; turns = r.order.quantum; seed = r.order.se
 -- What is counted of the image's blocks, or that more of them can be counted than a hart has slots.
 abbrev pub AreCounted : BlocksRequest → Image → Step Texts
 AreCounted r image (Ok texts) =
-    (counts : Counts) × IsCounted image (procedures_of image) r.budget (pace_of r) counts × (texts ≡ output (blocks_text (heads_of image (procedures_of image)) counts))
+    (counts : Counts) × IsCounted image (procedures_of image) r.budget (pace_of r) counts
+    × (texts ≡ output (blocks_text (heads_of image (procedures_of image)) counts))
 AreCounted r image (Err why) = (count : ℕ) × IsFault image (procedures_of image) (fault.TooManyBlocks count) × (why ≡ TooManyBlocks count)
 
 abbrev pub IsBlocksDue : BlocksRequest → Sight → Step Texts

@@ -29,7 +29,8 @@ use Rattle.commands.specs.declared.texts.Texts.{Texts}
 abbrev pub MeansDirectives : List ℕ → Step (List Directive)
 MeansDirectives text (Ok directives) = IsDirectives text directives
 MeansDirectives text (Err fault) =
-    (line : ℕ) × (col : ℕ) × (kind : DirectiveKind) × IsFault text line col kind × (fault ≡ BadDirectives (fault_at line col (directive_kind kind)))
+    (line : ℕ) × (col : ℕ) × (kind : DirectiveKind)
+    × IsFault text line col kind × (fault ≡ BadDirectives (fault_at line col (directive_kind kind)))
 
 -- what a file of directives has, at most 1,048,576 bytes
 abbrev pub IsDirectivesContent : Sight → List ℕ → Step (List ℕ)

@@ -48,7 +48,7 @@ abbrev pub is_live : Option Request → Bool
 is_live (Some (live r)) = true
 is_live asked = false
 
--- under `live` they are alike, and else the same
+-- under `live` they are alike, otherwise the same
 abbrev pub AreOne : Bool → Result Texts Fault → Result Texts Fault → Type 0
 AreOne true a b = AreAlike a b
 AreOne false a b = a ≡ b

@@ -15,7 +15,7 @@ use Rattle.refusals.specs.declared.fault.Fault.TheVariants.{BadConf}
 use Rattle.resource_tree.specs.Resources.{Resources, tree_of}
 use Rattle.commands.specs.declared.finding.Found.{Found}
 
--- the resources of a program on so many harts, where a configuration tells the beginnings of the objects' names
+-- the resources of a program on a number of harts, where a configuration tells the beginnings of the objects' names
 abbrev pub resources_of : Image → ℕ → Conf → Resources
 resources_of image harts conf = tree_of (procedures_of image) (objects_of image) harts (prefixes_of shipped_conf.items conf.items)
 
@@ -23,7 +23,8 @@ resources_of image harts conf = tree_of (procedures_of image) (objects_of image)
 abbrev pub IsCheck : Resources → Conf → Step Checked
 IsCheck t conf (Ok checked) = IsAnswer t shipped_conf.items conf.items (Ok checked)
 IsCheck t conf (Err fault) =
-    (found : CheckFault) × IsAnswer t shipped_conf.items conf.items (Err found) × (fault ≡ BadConf (fault_at found.line 0 (check_kind found.kind)))
+    (found : CheckFault) × IsAnswer t shipped_conf.items conf.items (Err found)
+    × (fault ≡ BadConf (fault_at found.line 0 (check_kind found.kind)))
 
 -- the program's procedures, how many of its symbols are none, its points and resources, and what the configuration holds, which was checked
 pub record AreFound (image : Image) (harts : ℕ) (conf : Conf) (found : Found) : Type 0 where

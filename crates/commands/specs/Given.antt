@@ -32,6 +32,7 @@ abbrev pub inputs_with : Image → Found → Settings → Inputs
 inputs_with image found settings =
     record { image = image; checked = found.checked; tree = found.tree; procs = found.procs; points = found.points; settings = settings }
 
--- a session takes what was found, with any settings of so many harts
+-- a session takes what was found, with any settings of this number of harts
 abbrev pub CanRun : Image → ℕ → Found → Type 0
-CanRun image harts found = (settings : Settings) → AreInRange settings → settings.harts ≡ harts → AreGiven (inputs_with image found settings)
+CanRun image harts found =
+    (settings : Settings) → AreInRange settings → settings.harts ≡ harts → AreGiven (inputs_with image found settings)

@@ -12,7 +12,8 @@ use Rattle.commands.specs.declared.texts.Texts.{Texts}
 -- the points of the program of a name
 abbrev pub IsPointsDue : List ℕ → Sight → Step Texts
 IsPointsDue name sees =
-    Then (IsProgram sees name) (λ image texts. texts ≡ Ok (output (points_text (procedures_of image) (points_of image (procedures_of image)) (skipped_of image))))
+    Then (IsProgram sees name)
+    (λ image texts. texts ≡ Ok (output (points_text (procedures_of image) (points_of image (procedures_of image)) (skipped_of image))))
 
 -- the ELF file of the text of a name
 abbrev pub IsAsmDue : List ℕ → Sight → Step Texts

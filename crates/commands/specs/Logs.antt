@@ -41,7 +41,8 @@ IsLogContent sees = IsContent sees 268435496 (BadLog 268435496 TooLong)
 abbrev pub IsLog : Sight → List ℕ → Step Log
 IsLog sees name = Then (IsLogContent sees name) MeansLog
 
--- Why a log's quanta are no whole run. The entry of a number begins behind as many others; they end where the log does.
+-- Why a log's quanta are no whole run. The entry of a number begins after that many others; where they end too early, that is at
+-- the log's end.
 abbrev pub misfit_fault : Log → Misfit → Fault
 misfit_fault log (misfit.NotRunnable number hart) = BadLog (log_len log.version number) (NotRunnable hart)
 misfit_fault log (misfit.OtherOwns number told owns) = BadLog (log_len log.version number) (OtherOwns told owns)

@@ -50,12 +50,14 @@ IsPlanned metric focus (Err (TooManyStmts at)) texts = texts ≡ Err (BadPick me
 
 -- the plan of a metric at a focus
 abbrev pub IsPlanAt : List ℕ → Found → Metric → Focus → Step Texts
-IsPlanAt name found m focus = IsPlanned name (canonical found.tree focus) (plan_of found.checked.constraints m focus found.tree found.procs found.points)
+IsPlanAt name found m focus =
+    IsPlanned name (canonical found.tree focus) (plan_of found.checked.constraints m focus found.tree found.procs found.points)
 
 -- The plan of the named metric at the focus of the text: first the name is looked for, then the focus.
 abbrev pub IsPlan : PlanRequest → Found → Step Texts
 IsPlan p found =
-    Then (λ m. m ≡ or_unknown (metric_named found.checked.metrics p.metric)) (λ m. Then (IsSelected found.tree p.focus) (IsPlanAt p.metric found m))
+    Then (λ m. m ≡ or_unknown (metric_named found.checked.metrics p.metric))
+    (λ m. Then (IsSelected found.tree p.focus) (IsPlanAt p.metric found m))
 
 -- what is due for words that ask for a plan
 abbrev pub IsPlanDue : PlanRequest → Sight → Step Texts

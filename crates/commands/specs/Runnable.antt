@@ -30,5 +30,6 @@ MakesOf conf made = (made ≡ conf) ⊎ ((directives : List Directive) × (appli
 -- A session takes what is found of the program and of the configuration that files hold, or of what directives make of that: the files'
 -- bytes and the check alone say so.
 abbrev pub FoundCanRun : Type 0
-FoundCanRun = (bytes text : List ℕ) (image : Image) (conf made : Conf) (harts : ℕ) (found : Found) → IsImageOf bytes image → IsConfOf text conf →
+FoundCanRun =
+    (bytes text : List ℕ) (image : Image) (conf made : Conf) (harts : ℕ) (found : Found) → IsImageOf bytes image → IsConfOf text conf →
     MakesOf conf made → AreFound image harts made found → CanRun image harts found

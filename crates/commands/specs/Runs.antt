@@ -49,7 +49,7 @@ Order = Inputs → List Quantum → Type 0
 abbrev pub IsInOrder : TurnOrder → Order
 IsInOrder order i quanta = IsSeeded i order.seed order.quantum quanta
 
--- the order in which so many workers took quanta of at most so many turns
+-- the order in which a number of workers took quanta with a limit of their turns
 abbrev pub IsByWorkers : ℕ → ℕ → Order
 IsByWorkers workers turns i quanta = IsShared i workers turns quanta
 
@@ -83,7 +83,7 @@ IsLiveDue r sees = IsSessionOf r.session sees (IsByWorkers r.workers r.quantum) 
 
 -- ---- visi
 
--- what each of so many views is given of these quanta
+-- what each of a number of views is given of these quanta
 abbrev pub views_of : ℕ → Inputs → List Quantum → Texts
 views_of views i quanta = output (visi_text (shown_of i quanta) (replicate views (feed_of i quanta)))
 
@@ -92,7 +92,7 @@ IsVisiDue r sees = IsSessionOf r.session sees (IsInOrder r.order) (views_of r.vi
 
 -- ---- stress
 
--- two files that are made; two harts, and else what is set where no option says otherwise
+-- two files that are made; two harts, and the defaults of the other options
 abbrev pub stress_session : SessionRequest
 stress_session = record {
   program = codes "program";
@@ -102,7 +102,8 @@ stress_session = record {
 
 -- what the two files have
 abbrev pub stress_sight : StressRequest → Sight
-stress_sight r name content = content ≡ Ok (if bytes_eq name (codes "program") then program_text r.procs r.seed else configuration_text r.procs)
+stress_sight r name content =
+    content ≡ Ok (if bytes_eq name (codes "program") then program_text r.procs r.seed else configuration_text r.procs)
 
 -- quanta of at most 50 turns in the order of the program's own seed
 abbrev pub stress_order : StressRequest → TurnOrder

@@ -17,11 +17,11 @@ abbrev pub seen : (List ℕ → Holding) → (List ℕ → ℕ) → (List ℕ �
 seen holds before now name (Ok bytes) = IsWhole (holds name) bytes × IsBytes bytes
 seen holds before now name (Err fault) = (fault ≡ FileFault name) × Rose (before name) (now name)
 
--- the bytes, or this fault where there are more than so many
+-- the bytes, or this fault where there are more than a number
 abbrev pub limited : ℕ → Fault → List ℕ → Result (List ℕ) Fault
 limited most too_long bytes = if nat_lt most (length bytes) then Err too_long else Ok bytes
 
--- what the file of a name has, if it has at most so many bytes
+-- what the file of a name has, if its bytes are at most a number
 abbrev pub IsContent : Sight → ℕ → Fault → List ℕ → Step (List ℕ)
 IsContent sees most too_long name = Then (sees name) (λ bytes content. content ≡ limited most too_long bytes)
 
@@ -42,13 +42,14 @@ abbrev pub CountedFor : {A F : Type 0} → (F → List ℕ → Holding) → (F �
 CountedFor holds faults old new (Ok a) = IsCalm faults old new
 CountedFor holds faults old new (Err fault) = Counted holds faults old new fault
 
--- the counts of faults after a call; where memory is wanting none rose
+-- the counts of faults after a call; where memory runs out none rose
 abbrev pub CountedAs : {A F : Type 0} → (F → List ℕ → Holding) → (F → List ℕ → ℕ) → F → F → Result A Refusal → Type 0
 CountedAs holds faults old new (Ok a) = IsCalm faults old new
 CountedAs holds faults old new (Err refusal.NoMemory) = IsCalm faults old new
 CountedAs holds faults old new (Err (refusal.Fault fault)) = Counted holds faults old new fault
 
--- what every file holds stays, and the counts of faults are as the call's answer says
-pub record Looks {A F : Type 0} (holds : F → List ℕ → Holding) (faults : F → List ℕ → ℕ) (old new : F) (result : Result A Refusal) : Type 0 where
+-- what every file holds stays the same, and the counts of faults are as the call's answer says
+pub record Looks {A F : Type 0}
+    (holds : F → List ℕ → Holding) (faults : F → List ℕ → ℕ) (old new : F) (result : Result A Refusal) : Type 0 where
   pub same : (name : List ℕ) → holds new name ≡ holds old name
   pub counts : CountedAs holds faults old new result

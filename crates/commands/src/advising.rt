@@ -16,7 +16,7 @@ use std::alloc::Global;
 /// The greatest length of a report in bytes.
 pub const REPORT_LIMIT: u64 = 33_554_432;
 
-/// What the bytes of a report advise.
+/// Returns what the bytes of a report advise.
 fn advised(alloc: Global, report: &[u8]) -> Result<Texts, Refusal>
     ensures { Comes result (λ texts. texts ≡ advised (verdicts_of report.now)) }
 {
@@ -32,7 +32,11 @@ fn advised(alloc: Global, report: &[u8]) -> Result<Texts, Refusal>
     }
 }
 
-/// What is due for `advise`.
+/// Returns what is due for `advise`.
+///
+/// # Errors
+///
+/// `Refusal::NoMemory` where memory runs out, or the first fault that is due.
 pub fn advise<F: Files>(alloc: Global, name: &str, files: &mut F) -> Result<Texts, Refusal>
     ensures due { Comes result (IsAdviseDue name.now (seen (F.holds files.old) (F.faults files.old) (F.faults files.new))) }
     ensures looks { Looks F.holds F.faults files.old files.new result }

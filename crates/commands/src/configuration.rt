@@ -15,14 +15,18 @@ use std::alloc::Global;
 /// The greatest length of a configuration in bytes.
 pub const CONFIGURATION_LIMIT: u64 = 1_048_576;
 
-/// The refusal of a configuration at a line and a column.
+/// Returns the refusal of a configuration at a line and a column.
 pub fn bad_configuration(line: u32, col: u32, kind: ConfKind) -> Refusal
     ensures { result ≡ Refusal.Fault (Fault.BadConf (fault_at line col kind)) }
 {
     Refusal::Fault(Fault::BadConf(ConfFault { line, col, kind }))
 }
 
-/// The configuration of a text.
+/// Returns the configuration of a text.
+///
+/// # Errors
+///
+/// `Refusal::NoMemory` where memory runs out, or the text's first fault.
 pub fn configuration(alloc: Global, text: &[u8]) -> Result<Conf, Refusal>
     requires { length text.now ≤ CONFIGURATION_LIMIT }
     ensures means { Comes result (MeansConf text.now) }

@@ -18,7 +18,7 @@ use pn_types::Image;
 use refusals::{Fault, Refusal};
 use std::alloc::Global;
 
-/// What is counted of an image's blocks.
+/// Returns the text of what is counted of an image's blocks.
 fn counted(alloc: Global, request: &BlocksRequest<'_>, image: &Image) -> Result<Texts, Refusal>
     requires image { IsImage image.now }
     requires unscratched { IsUnscratched image.now }
@@ -47,14 +47,19 @@ fn counted(alloc: Global, request: &BlocksRequest<'_>, image: &Image) -> Result<
     }
 }
 
-/// What is due for `blocks`.
+/// Returns what is due for `blocks`.
+///
+/// # Errors
+///
+/// `Refusal::NoMemory` where memory runs out, or the first fault that is due.
 pub fn blocks<F: Files>(
     alloc: Global,
     request: &BlocksRequest<'_>,
     files: &mut F,
 ) -> Result<Texts, Refusal>
     requires ranges { HasRanges (blocks (asked_blocks request.now)) }
-    ensures due { Comes result (IsBlocksDue (asked_blocks request.now) (seen (F.holds files.old) (F.faults files.old) (F.faults files.new))) }
+    ensures due { Comes result
+        (IsBlocksDue (asked_blocks request.now) (seen (F.holds files.old) (F.faults files.old) (F.faults files.new))) }
     ensures looks { Looks F.holds F.faults files.old files.new result }
 {
     let image = read_program(alloc, files, request.program)?;

@@ -38,14 +38,14 @@ use whole_run::run_parts;
 /// The greatest length of directives in bytes.
 pub const DIRECTIVES_LIMIT: u64 = 1_048_576;
 
-/// The refusal of directives at a line and a column.
+/// Returns the refusal of directives at a line and a column.
 fn bad_directives(line: u32, col: u32, kind: ConfKind) -> Refusal
     ensures { result ≡ Refusal.Fault (Fault.BadDirectives (fault_at line col kind)) }
 {
     Refusal::Fault(Fault::BadDirectives(ConfFault { line, col, kind }))
 }
 
-/// The directives of a text.
+/// Returns the directives of a text.
 fn directives_in(alloc: Global, text: &[u8]) -> Result<Seq<Directive>, Refusal>
     requires { length text.now ≤ DIRECTIVES_LIMIT }
     ensures { Comes result (MeansDirectives text.now) }
@@ -77,7 +77,7 @@ fn read_directions<F: Files>(
     directives_in(alloc, text.as_slice())
 }
 
-/// What directives make of a configuration that was checked over these resources.
+/// Returns what directives make of a configuration that was checked over these resources.
 fn directed(
     alloc: Global,
     conf: &Conf,
@@ -101,7 +101,7 @@ fn directed(
     }
 }
 
-/// What is due of a session in this order.
+/// Returns what is due of a session in this order.
 fn direct_prepared(alloc: Global, prepared: Prepared, order: TurnOrder) -> Result<Texts, Refusal>
     requires given { AreGiven prepared.inputs }
     requires skipped { prepared.skipped ≡ skipped_of prepared.inputs.image }
@@ -117,7 +117,7 @@ fn direct_prepared(alloc: Global, prepared: Prepared, order: TurnOrder) -> Resul
     }
 }
 
-/// What is due of a session of the image with what was found of it.
+/// Returns what is due of a session of the image with what was found of it.
 fn direct_found(
     alloc: Global,
     request: &DirectRequest<'_>,
@@ -133,7 +133,7 @@ fn direct_found(
     direct_prepared(alloc, prepared, request.order)
 }
 
-/// What is due of a run of the image under a configuration.
+/// Returns what is due of a run of the image under a configuration.
 fn run_directed(
     alloc: Global,
     request: &DirectRequest<'_>,
@@ -153,7 +153,7 @@ fn run_directed(
     direct_found(alloc, request, image, found)
 }
 
-/// What is due of a program and a configuration that was checked, under directives.
+/// Returns what is due of a program and a configuration that was checked, under directives.
 fn follow_directions<F: Files>(
     alloc: Global,
     request: &DirectRequest<'_>,
@@ -168,7 +168,8 @@ fn follow_directions<F: Files>(
     requires few { length inputs.conf.items ≤ 1048576 }
     requires small { AllByRecursion HasSmall inputs.conf.items }
     requires accepted { IsAccepted tree.now shipped_conf.items inputs.conf.items }
-    ensures due { Comes result (IsDirection (asked_direct request.now) (seen (F.holds files.old) (F.faults files.old) (F.faults files.new)) inputs) }
+    ensures due { Comes result
+        (IsDirection (asked_direct request.now) (seen (F.holds files.old) (F.faults files.old) (F.faults files.new)) inputs) }
     ensures looks { Looks F.holds F.faults files.old files.new result }
 {
     let directives = read_directions(alloc, files, request.directives)?;
@@ -176,14 +177,19 @@ fn follow_directions<F: Files>(
     run_directed(alloc, request, inputs.image, &conf)
 }
 
-/// What is due for `direct`.
+/// Returns what is due for `direct`.
+///
+/// # Errors
+///
+/// `Refusal::NoMemory` where memory runs out, or the first fault that is due.
 pub fn direct<F: Files>(
     alloc: Global,
     request: &DirectRequest<'_>,
     files: &mut F,
 ) -> Result<Texts, Refusal>
     requires ranges { HasRanges (direct (asked_direct request.now)) }
-    ensures due { Comes result (IsDirectDue (asked_direct request.now) (seen (F.holds files.old) (F.faults files.old) (F.faults files.new))) }
+    ensures due { Comes result
+        (IsDirectDue (asked_direct request.now) (seen (F.holds files.old) (F.faults files.old) (F.faults files.new))) }
     ensures looks { Looks F.holds F.faults files.old files.new result }
 {
     let session = request.session;

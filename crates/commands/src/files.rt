@@ -1,4 +1,4 @@
-//! Files that are read to their ends.
+//! Reads files to their ends.
 
 ghost use Rattle.std.specs.Prelude.{◌≡◌, ◌≤◌, IfOk, length};
 ghost use Rattle.commands.specs.Sights.{seen, IsContent, Looks};
@@ -10,21 +10,30 @@ use pn_types::{NoMemory, Seq, Text};
 use refusals::{Fault, Refusal};
 use std::alloc::Global;
 
-/// The bytes of a word as a text.
+/// Returns the bytes of a word as a text.
+///
+/// # Errors
+///
+/// `NoMemory` where memory runs out.
 pub fn text_of(alloc: Global, word: &str) -> Result<Text, NoMemory>
     ensures { IfOk result (λ text. text ≡ word.now) }
 {
     Ok(Text::from_vec(word.as_bytes().to_vec(alloc)?))
 }
 
-/// What a slice has are bytes. It is called for this alone.
+/// What holds of any slice of bytes: its elements are bytes.
 fn are_bytes(bytes: &[u8])
     ensures { IsBytes bytes.now }
 {
+    // For the proof alone: once the slice is read, the range of its elements is known.
     let _count = bytes.len();
 }
 
 /// Reads a file to its end. It is refused with the fault `too_long` where it has more than `most` bytes.
+///
+/// # Errors
+///
+/// `Refusal::NoMemory` where memory runs out; `too_long`; `FileFault` with the name where the file can't be read.
 pub fn read_file<F: Files>(
     alloc: Global,
     files: &mut F,
@@ -36,7 +45,7 @@ pub fn read_file<F: Files>(
     ensures short { IfOk result (λ bytes. length bytes ≤ most) }
     ensures looks { Looks F.holds F.faults files.old files.new result }
 {
-    // Made first, so that a file that was not read is never answered with want of memory.
+    // This is made first, so that memory can't run out once the file couldn't be read.
     let unread = text_of(alloc, name)?;
     match read_whole(alloc, files, name, most) {
         Ok(bytes) => {

@@ -25,7 +25,7 @@ use refusals::{Refusal, check_kind};
 use resource_tree::Tree;
 use std::alloc::Global;
 
-/// The resources of a program on so many harts, where the configuration tells the beginnings of the objects' names.
+/// Returns the resources of a program on `harts` harts, where the configuration tells the beginnings of the objects' names.
 fn resources(
     alloc: Global,
     image: &Image,
@@ -49,7 +49,7 @@ fn resources(
     Tree::build(alloc, procs, &objects, harts, &prefixes)
 }
 
-/// What the configuration holds of the resources.
+/// Returns what the configuration holds of the resources.
 fn checked(alloc: Global, conf: &Conf, shipped: &Conf, tree: &Tree) -> Result<Checked, Refusal>
     requires shipped { shipped.now ≡ shipped_conf }
     requires few { length (placed_items shipped.now.items conf.now.items) < 2 ^ 32 }
@@ -83,11 +83,11 @@ pub struct Found {
     pub checked: Checked,
 }
 
-/// Finds a program's procedures, points and resources on so many harts, and checks a configuration against them.
+/// Finds a program's procedures, points and resources on `harts` harts, and checks a configuration against them.
 ///
 /// # Errors
 ///
-/// Want of memory, or the fault of the configuration's first faulty item.
+/// `NoMemory` where memory runs out, or the fault of the configuration's first faulty item.
 pub fn find(alloc: Global, image: &Image, harts: u32, conf: &Conf) -> Result<Found, Refusal>
     requires image { IsImage image.now }
     requires modules { AreModulesGood image.now }
@@ -98,15 +98,15 @@ pub fn find(alloc: Global, image: &Image, harts: u32, conf: &Conf) -> Result<Fou
     ensures found { Comes result (IsFound image.now harts conf.now) }
     ensures procs { IfOk result (λ found. AreProcsOf image.now found.procs) }
     ensures skipped { IfOk result (λ found. found.skipped ≡ skipped_of image.now) }
-    // So each focus of the tree is read again from its text.
+    // With this, each focus of the tree is read again from its text.
     ensures named { IfOk result (λ found. IsNamed found.tree) }
     ensures metrics { IfOk result (λ found. length found.checked.metrics < 2 ^ 32) }
     ensures points { IfOk result (λ found. length found.points < 2 ^ 32) }
-    // So each plan is cheap, and the tool's code measures it.
+    // With this, each plan is small, and the tool's code measures it.
     ensures sound { IfOk result (λ found. IsSound found.checked) }
     ensures low { IfOk result (λ found. HasLowObjects found.tree) }
     ensures ascending { IfOk result (λ found. IsStrictlyIncreasing (map (λ p. p.at) found.points)) }
-    // So a session takes it.
+    // With this, a session takes it.
     ensures runs { IfOk result (CanRun image.now harts) }
 {
     let (procs, skipped) = procedures(alloc, image)?;

@@ -30,7 +30,11 @@ fn read_program_file<F: Files>(alloc: Global, files: &mut F, name: &str) -> Resu
     read_file(alloc, files, name, MAX_PROGRAM_LEN, too_long)
 }
 
-/// Reads a program file, and gives its image.
+/// Reads a program file, and returns its image.
+///
+/// # Errors
+///
+/// `Refusal::NoMemory` where memory runs out, or the first fault that is due.
 pub fn read_program<F: Files>(alloc: Global, files: &mut F, name: &str) -> Result<Image, Refusal>
     ensures program { Comes result (IsProgram (seen (F.holds files.old) (F.faults files.old) (F.faults files.new)) name.now) }
     ensures image { IfOk result IsImage }
@@ -42,7 +46,11 @@ pub fn read_program<F: Files>(alloc: Global, files: &mut F, name: &str) -> Resul
     load(alloc, bytes.as_slice())
 }
 
-/// Reads an assembly text, and gives its ELF file.
+/// Reads an assembly text, and returns its ELF file.
+///
+/// # Errors
+///
+/// `Refusal::NoMemory` where memory runs out, or the first fault that is due.
 pub fn read_text<F: Files>(alloc: Global, files: &mut F, name: &str) -> Result<Seq<u8>, Refusal>
     ensures file { Comes result (IsElfFile (seen (F.holds files.old) (F.faults files.old) (F.faults files.new)) name.now) }
     ensures looks { Looks F.holds F.faults files.old files.new result }
@@ -52,6 +60,10 @@ pub fn read_text<F: Files>(alloc: Global, files: &mut F, name: &str) -> Result<S
 }
 
 /// Reads a configuration.
+///
+/// # Errors
+///
+/// `Refusal::NoMemory` where memory runs out, or the first fault that is due.
 pub fn read_configuration<F: Files>(
     alloc: Global,
     files: &mut F,
@@ -84,7 +96,7 @@ pub struct Inputs {
 ///
 /// # Errors
 ///
-/// Want of memory, or the first fault that is due.
+/// `NoMemory` where memory runs out, or the first fault that is due.
 pub fn read_inputs<F: Files>(
     alloc: Global,
     files: &mut F,

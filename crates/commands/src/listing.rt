@@ -18,17 +18,22 @@ use refusals::Refusal;
 use report::points_text;
 use std::alloc::Global;
 
-/// The text of an image's points.
+/// Returns the text of an image's points.
 fn points_of_image(alloc: Global, image: &Image) -> Result<Vec<u8>, NoMemory>
     requires { IsImage image.now }
-    ensures { IfOk result (λ text. text.items ≡ points_text (procedures_of image.now) (points_of image.now (procedures_of image.now)) (skipped_of image.now)) }
+    ensures { IfOk result (λ text. text.items
+        ≡ points_text (procedures_of image.now) (points_of image.now (procedures_of image.now)) (skipped_of image.now)) }
 {
     let (procs, skipped) = procedures(alloc, image)?;
     let points = code_points::points(alloc, image, &procs)?;
     points_text(alloc, &procs, &points, skipped)
 }
 
-/// What is due for `points`.
+/// Returns what is due for `points`.
+///
+/// # Errors
+///
+/// `Refusal::NoMemory` where memory runs out, or the first fault that is due.
 pub fn points<F: Files>(alloc: Global, program: &str, files: &mut F) -> Result<Texts, Refusal>
     ensures due { Comes result (IsPointsDue program.now (seen (F.holds files.old) (F.faults files.old) (F.faults files.new))) }
     ensures looks { Looks F.holds F.faults files.old files.new result }
@@ -38,7 +43,11 @@ pub fn points<F: Files>(alloc: Global, program: &str, files: &mut F) -> Result<T
     Ok(Texts::output(alloc, text))
 }
 
-/// What is due for `asm`.
+/// Returns what is due for `asm`.
+///
+/// # Errors
+///
+/// `Refusal::NoMemory` where memory runs out, or the first fault that is due.
 pub fn asm<F: Files>(alloc: Global, text: &str, files: &mut F) -> Result<Texts, Refusal>
     ensures due { Comes result (IsAsmDue text.now (seen (F.holds files.old) (F.faults files.old) (F.faults files.new))) }
     ensures looks { Looks F.holds F.faults files.old files.new result }

@@ -17,21 +17,21 @@ use refusals::{Fault, ProgramFault, Refusal};
 use rv_asm::{AsmError, assemble};
 use std::alloc::Global;
 
-/// The refusal of a program.
+/// Returns the refusal of a program.
 pub fn bad_program(fault: ProgramFault) -> Refusal
     ensures { result ≡ Refusal.Fault (Fault.BadProgram fault) }
 {
     Refusal::Fault(Fault::BadProgram(fault))
 }
 
-/// Whether the bytes begin as those of an ELF file.
+/// Returns whether the bytes begin as those of an ELF file.
 fn begins_elf(bytes: &[u8]) -> bool
     ensures { result ≡ begins_elf bytes.now }
 {
     4 <= bytes.len() && &bytes[..4] == b"\x7fELF".as_slice()
 }
 
-/// The image of an ELF file.
+/// Returns the image of an ELF file.
 fn load_elf(alloc: Global, bytes: &[u8]) -> Result<Image, Refusal>
     requires { length bytes.now ≤ MAX_PROGRAM_LEN }
     ensures loads { Comes result (λ image. image ≡ or_bad_elf (meaning_of bytes.now)) }
@@ -46,7 +46,7 @@ fn load_elf(alloc: Global, bytes: &[u8]) -> Result<Image, Refusal>
     }
 }
 
-/// The image of an assembly text.
+/// Returns the image of an assembly text.
 fn load_text(alloc: Global, bytes: &[u8]) -> Result<Image, Refusal>
     requires { length bytes.now ≤ MAX_PROGRAM_LEN }
     ensures loads { Comes result (λ image. image ≡ or_bad_text (assembled bytes.now)) }
@@ -61,7 +61,11 @@ fn load_text(alloc: Global, bytes: &[u8]) -> Result<Image, Refusal>
     }
 }
 
-/// The image of a program's bytes.
+/// Returns the image of a program's bytes.
+///
+/// # Errors
+///
+/// `Refusal::NoMemory` where memory runs out, or the program's first fault.
 pub fn load(alloc: Global, bytes: &[u8]) -> Result<Image, Refusal>
     requires { length bytes.now ≤ MAX_PROGRAM_LEN }
     ensures loads { Comes result (λ image. image ≡ image_of bytes.now) }
@@ -76,7 +80,11 @@ pub fn load(alloc: Global, bytes: &[u8]) -> Result<Image, Refusal>
     }
 }
 
-/// The ELF file of an assembly text.
+/// Returns the ELF file of an assembly text.
+///
+/// # Errors
+///
+/// `Refusal::NoMemory` where memory runs out, or the text's first fault.
 pub fn make_file(alloc: Global, text: &[u8]) -> Result<Seq<u8>, Refusal>
     requires { length text.now ≤ MAX_PROGRAM_LEN }
     ensures { Comes result (λ file. file ≡ file_of text.now) }

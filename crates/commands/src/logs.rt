@@ -33,14 +33,14 @@ pub struct Log {
     pub version: Version,
 }
 
-/// Whether bytes begin as a log of the version that is written, as far as they go.
+/// Returns whether bytes begin as a log of the version that is written, or are the beginning of one.
 fn is_written_now(bytes: &[u8]) -> bool
     ensures { result ≡ begins_as version.Two bytes.now }
 {
     b"PDYNLOG2".starts_with(&bytes[..bytes.len().min(8)])
 }
 
-/// The version of a log's bytes.
+/// Returns the version of a log's bytes.
 fn version(bytes: &[u8]) -> Version
     ensures { result ≡ version_in bytes.now }
 {
@@ -51,7 +51,7 @@ fn version(bytes: &[u8]) -> Version
     }
 }
 
-/// The log of bytes.
+/// Returns the log of bytes.
 fn log_of(alloc: Global, bytes: &[u8]) -> Result<Log, Refusal>
     ensures log { Comes result (MeansLog bytes.now) }
     ensures spelled { IfOk result (λ log. CanSpell version.Two log.settings log.quanta) }
@@ -68,6 +68,10 @@ fn log_of(alloc: Global, bytes: &[u8]) -> Result<Log, Refusal>
 }
 
 /// Reads a log.
+///
+/// # Errors
+///
+/// `Refusal::NoMemory` where memory runs out, or the first fault that is due.
 pub fn read_log<F: Files>(alloc: Global, files: &mut F, name: &str) -> Result<Log, Refusal>
     ensures log { Comes result (IsLog (seen (F.holds files.old) (F.faults files.old) (F.faults files.new)) name.now) }
     ensures spelled { IfOk result (λ log. CanSpell version.Two log.settings log.quanta) }
@@ -78,7 +82,7 @@ pub fn read_log<F: Files>(alloc: Global, files: &mut F, name: &str) -> Result<Lo
     log_of(alloc, bytes.as_slice())
 }
 
-/// The lengths in bytes of a version's head and entries.
+/// Returns the lengths in bytes of a version's head and entries.
 fn lengths(version: Version) -> (u64, u64)
     ensures { (result.0 ≡ head_len version) × (result.1 ≡ entry_len version) }
 {
@@ -88,7 +92,7 @@ fn lengths(version: Version) -> (u64, u64)
     }
 }
 
-/// The first byte of the entry of a number.
+/// Returns the place of the first byte of the entry of a number.
 fn entry_place(version: Version, number: u64) -> u64
     requires { number ≤ MAX_QUANTA }
     ensures { result ≡ log_len version number }
@@ -97,7 +101,7 @@ fn entry_place(version: Version, number: u64) -> u64
     head + number * entry
 }
 
-/// Why a log's quanta are no whole run.
+/// Returns why a log's quanta are no whole run.
 pub fn misfit_fault(log: &Log, misfit: Misfit) -> Fault
     requires few { length log.now.quanta ≤ MAX_QUANTA }
     requires within { IsWithin (length log.now.quanta) misfit }

@@ -1,4 +1,4 @@
-//! What follows where a session can't be opened.
+//! Refusals where a session can't be opened.
 
 ghost use Rattle.std.specs.Prelude.{◌≡◌};
 ghost use Rattle.commands.specs.Given.{IsPickFault};
@@ -10,14 +10,14 @@ use pn_types::{PickCause, Text};
 use refusals::{Fault, Refusal};
 use session::StartFault;
 
-/// The refusal of a metric at a focus.
+/// Returns the refusal of a metric at a focus.
 pub fn bad_pick(metric: Text, focus: Text, cause: PickCause) -> Refusal
     ensures { result ≡ Refusal.Fault (Fault.BadPick metric focus cause) }
 {
     Refusal::Fault(Fault::BadPick(metric, focus, cause))
 }
 
-/// The refusal where a session can't be opened: that of the first wish at tick 0 that is refused, or want of memory.
+/// Returns the refusal where a session can't be opened: that of the first wish at tick 0 that is refused, or `NoMemory`.
 pub fn unopened(fault: StartFault) -> Refusal
     ensures { (i : inputs) → IsStartFault i fault → Refuses result (IsPickFault i) }
 {

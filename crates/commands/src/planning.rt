@@ -27,7 +27,7 @@ use refusals::{ConfKind, Refusal};
 use report::plan_text;
 use std::alloc::Global;
 
-/// The number of the first metric of this name.
+/// Returns the number of the first metric of this name.
 fn metric_number(metrics: &[Metric], name: &[u8]) -> Option<u32>
     requires { length metrics.now < 2 ^ 32 }
     ensures { MatchOption result (metric_named metrics.now name.now ≡ None)
@@ -41,7 +41,7 @@ fn metric_number(metrics: &[Metric], name: &[u8]) -> Option<u32>
     None
 }
 
-/// What a text selects.
+/// Returns the focus that a text selects.
 fn select(found: &Found, text: &str) -> Result<Focus, Refusal>
     ensures { Comes result (IsSelected found.now.tree text.now) }
 {
@@ -51,7 +51,7 @@ fn select(found: &Found, text: &str) -> Result<Focus, Refusal>
     }
 }
 
-/// The plan of a metric, which has this name and number, at a focus.
+/// Returns the plan of a metric, which has this name and number, at a focus.
 fn plan_at(
     alloc: Global,
     found: Found,
@@ -87,7 +87,7 @@ fn plan_at(
     }
 }
 
-/// The plan of the named metric at the focus of the text. First the name is looked for, and then what the text selects.
+/// Returns the plan of the named metric at the focus of the text. First the name is looked for, and then what the text selects.
 fn plan_found(alloc: Global, request: &PlanRequest<'_>, found: Found) -> Result<Texts, Refusal>
     requires procs { length found.procs < 2 ^ 32 }
     requires points { length found.points < 2 ^ 32 }
@@ -103,7 +103,11 @@ fn plan_found(alloc: Global, request: &PlanRequest<'_>, found: Found) -> Result<
     plan_at(alloc, found, request.metric, number, &focus)
 }
 
-/// What is due for `plan`.
+/// Returns what is due for `plan`.
+///
+/// # Errors
+///
+/// `Refusal::NoMemory` where memory runs out, or the first fault that is due.
 pub fn plan<F: Files>(
     alloc: Global,
     request: &PlanRequest<'_>,

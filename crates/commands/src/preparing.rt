@@ -29,11 +29,11 @@ pub struct Prepared {
     pub skipped: u32,
 }
 
-/// What a session is given: an image, what was found of it, and settings.
+/// Puts together what a session is given: an image, what was found of it, and settings.
 ///
 /// # Errors
 ///
-/// `NoMemory` where there isn't enough memory.
+/// `NoMemory` where memory runs out.
 pub fn prepare_found(
     alloc: Global,
     image: Image,
@@ -60,14 +60,19 @@ pub fn prepare_found(
     })
 }
 
-/// Reads a program and a configuration, and gives what a session is given of them.
+/// Reads a program and a configuration, and puts together what a session is given.
+///
+/// # Errors
+///
+/// `Refusal::NoMemory` where memory runs out, or the first fault that is due.
 pub fn prepare<F: Files>(
     alloc: Global,
     files: &mut F,
     request: &SessionRequest<'_>,
 ) -> Result<Prepared, Refusal>
     requires range { AreInRange request.now.settings }
-    ensures prepared { Comes result (Gives (IsPrepared (asked_session request.now) (seen (F.holds files.old) (F.faults files.old) (F.faults files.new)))) }
+    ensures prepared { Comes result
+        (Gives (IsPrepared (asked_session request.now) (seen (F.holds files.old) (F.faults files.old) (F.faults files.new)))) }
     ensures given { IfOk result (λ prepared. AreGiven prepared.inputs) }
     ensures skipped { IfOk result (λ prepared. prepared.skipped ≡ skipped_of prepared.inputs.image) }
     ensures settings { IfOk result (λ prepared. prepared.inputs.settings ≡ request.now.settings) }

@@ -28,7 +28,7 @@ use refusals::{Fault, Refusal};
 use std::alloc::Global;
 use whole_run::{ReplayFault, replay_run};
 
-/// What is due of a session along a log's quanta.
+/// Returns what is due of a session along a log's quanta.
 fn replay_prepared(alloc: Global, log: &Log, prepared: Prepared) -> Result<Texts, Refusal>
     requires given { AreGiven prepared.inputs }
     requires skipped { prepared.skipped ≡ skipped_of prepared.inputs.image }
@@ -43,7 +43,7 @@ fn replay_prepared(alloc: Global, log: &Log, prepared: Prepared) -> Result<Texts
     }
 }
 
-/// What is due of a run along a log's quanta of the image with what was found of it.
+/// Returns what is due of a run along a log's quanta of the image with what was found of it.
 fn replay_found(alloc: Global, log: &Log, image: Image, found: Found) -> Result<Texts, Refusal>
     requires skipped { found.skipped ≡ skipped_of image }
     requires spelled { CanSpell version.Two log.now.settings log.now.quanta }
@@ -54,7 +54,7 @@ fn replay_found(alloc: Global, log: &Log, image: Image, found: Found) -> Result<
     replay_prepared(alloc, log, prepared)
 }
 
-/// What is due of a program and a configuration along a log's quanta.
+/// Returns what is due of a program and a configuration along a log's quanta.
 fn replay_log(alloc: Global, log: &Log, inputs: Inputs) -> Result<Texts, Refusal>
     requires spelled { CanSpell version.Two log.now.settings log.now.quanta }
     requires image { IsImage inputs.image }
@@ -68,13 +68,18 @@ fn replay_log(alloc: Global, log: &Log, inputs: Inputs) -> Result<Texts, Refusal
     replay_found(alloc, log, inputs.image, found)
 }
 
-/// What is due for `replay`.
+/// Returns what is due for `replay`.
+///
+/// # Errors
+///
+/// `Refusal::NoMemory` where memory runs out, or the first fault that is due.
 pub fn replay<F: Files>(
     alloc: Global,
     request: &ReplayRequest<'_>,
     files: &mut F,
 ) -> Result<Texts, Refusal>
-    ensures due { Comes result (IsReplayDue (asked_replay request.now) (seen (F.holds files.old) (F.faults files.old) (F.faults files.new))) }
+    ensures due { Comes result
+        (IsReplayDue (asked_replay request.now) (seen (F.holds files.old) (F.faults files.old) (F.faults files.new))) }
     ensures looks { Looks F.holds F.faults files.old files.new result }
 {
     let inputs = read_inputs(alloc, files, request.program, request.conf)?;
@@ -82,7 +87,11 @@ pub fn replay<F: Files>(
     replay_log(alloc, &log, inputs)
 }
 
-/// What is due for `relog`.
+/// Returns what is due for `relog`.
+///
+/// # Errors
+///
+/// `Refusal::NoMemory` where memory runs out, or the first fault that is due.
 pub fn relog<F: Files>(alloc: Global, name: &str, files: &mut F) -> Result<Texts, Refusal>
     ensures due { Comes result (IsRelogDue name.now (seen (F.holds files.old) (F.faults files.old) (F.faults files.new))) }
     ensures looks { Looks F.holds F.faults files.old files.new result }

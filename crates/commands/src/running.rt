@@ -19,7 +19,7 @@ use refusals::Refusal;
 use std::alloc::Global;
 use whole_run::{Course, Recorded, record_run};
 
-/// The texts of what is left of a run.
+/// Returns the texts of what is left of a run.
 pub fn texts_of(recorded: Recorded) -> Texts
     ensures { result ≡ record { out = recorded.report.items; log = recorded.log.items } }
 {
@@ -29,7 +29,7 @@ pub fn texts_of(recorded: Recorded) -> Texts
     }
 }
 
-/// What is due of a session in this order.
+/// Returns what is due of a session in this order.
 fn run_prepared(alloc: Global, prepared: Prepared, order: TurnOrder) -> Result<Texts, Refusal>
     requires given { AreGiven prepared.inputs }
     requires skipped { prepared.skipped ≡ skipped_of prepared.inputs.image }
@@ -47,7 +47,11 @@ fn run_prepared(alloc: Global, prepared: Prepared, order: TurnOrder) -> Result<T
     }
 }
 
-/// What is due for `run`.
+/// Returns what is due for `run`.
+///
+/// # Errors
+///
+/// `Refusal::NoMemory` where memory runs out, or the first fault that is due.
 pub fn run<F: Files>(
     alloc: Global,
     request: &RunRequest<'_>,

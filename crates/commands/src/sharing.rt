@@ -22,7 +22,7 @@ use std::alloc::Global;
 use std::sync::Wait;
 use std::thread::Threads;
 
-/// What is due of a session that a team shares.
+/// Returns what is due of a session that a team shares.
 fn share_prepared<R: Threads + Wait + Sync, G: Gate + Sync>(
     rt: &R,
     alloc: Global,
@@ -47,7 +47,11 @@ fn share_prepared<R: Threads + Wait + Sync, G: Gate + Sync>(
     }
 }
 
-/// What is due for `live`.
+/// Returns what is due for `live`.
+///
+/// # Errors
+///
+/// `Refusal::NoMemory` where memory runs out, also for one worker alone, or the first fault that is due.
 pub fn live<F: Files, R: Threads + Wait + Sync, G: Gate + Sync>(
     rt: &R,
     alloc: Global,

@@ -23,7 +23,7 @@ use std::alloc::Global;
 use stress_run::{configuration_text, program_text, summary_text};
 use whole_run::run_parts;
 
-/// What the session is made of.
+/// Returns what the session is made of.
 fn session() -> SessionRequest<'static>
     ensures { asked_session result ≡ stress_session }
 {
@@ -41,7 +41,7 @@ fn session() -> SessionRequest<'static>
     }
 }
 
-/// The program's text and the configuration's, as files.
+/// Returns the program's text and the configuration's, as files.
 fn made_files(alloc: Global, request: StressRequest) -> Result<SureFiles, NoMemory>
     ensures program { IfOk result (λ files. content_of files (codes "program") ≡ program_text request.procs request.seed) }
     ensures conf { IfOk result (λ files. content_of files (codes "configuration") ≡ configuration_text request.procs) }
@@ -54,7 +54,7 @@ fn made_files(alloc: Global, request: StressRequest) -> Result<SureFiles, NoMemo
     Ok(files)
 }
 
-/// What the session is given.
+/// Returns what the session is given.
 fn prepare_made(alloc: Global, request: StressRequest) -> Result<Prepared, Refusal>
     ensures prepared { Comes result (Gives (IsPrepared stress_session (stress_sight (asked_stress request)))) }
     ensures given { IfOk result (λ prepared. AreGiven prepared.inputs) }
@@ -63,7 +63,7 @@ fn prepare_made(alloc: Global, request: StressRequest) -> Result<Prepared, Refus
     prepare(alloc, &mut files, &session())
 }
 
-/// The line that sums up a session in this order.
+/// Returns the line that sums up a session in this order.
 fn sum_up(alloc: Global, inputs: Inputs, order: TurnOrder, procs: u32) -> Result<Texts, Refusal>
     requires given { AreGiven inputs }
     requires order { IsOrderInRange order }
@@ -78,7 +78,11 @@ fn sum_up(alloc: Global, inputs: Inputs, order: TurnOrder, procs: u32) -> Result
     }
 }
 
-/// What is due for `stress`.
+/// Returns what is due for `stress`.
+///
+/// # Errors
+///
+/// `Refusal::NoMemory` where memory runs out, or the first fault that is due.
 pub fn stress(alloc: Global, request: StressRequest) -> Result<Texts, Refusal>
     ensures { Comes result (IsStressDue (asked_stress request)) }
 {

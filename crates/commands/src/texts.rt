@@ -1,3 +1,5 @@
+//! The texts of an answer.
+
 ghost use Rattle.std.specs.Prelude.{◌≡◌};
 ghost use Rattle.commands.specs.Output.{output};
 
@@ -12,7 +14,7 @@ pub struct Texts {
 }
 
 impl Texts {
-    /// A text for the output, and nothing for the log.
+    /// Returns a text for the output, and nothing for the log.
     pub fn output(alloc: Global, text: Vec<u8>) -> Texts
         ensures { result ≡ output text.items }
     {

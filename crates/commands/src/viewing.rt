@@ -20,7 +20,7 @@ use std::sync::Wait;
 use std::thread::Threads;
 use visi_run::{ViewedCourse, view_run};
 
-/// What is due of a session in this order before so many views.
+/// Returns what is due of a session in this order before `views` views.
 fn view_prepared<R: Threads + Wait + Sync, G: Gate + Sync>(
     rt: &R,
     alloc: Global,
@@ -45,7 +45,11 @@ fn view_prepared<R: Threads + Wait + Sync, G: Gate + Sync>(
     }
 }
 
-/// What is due for `visi`.
+/// Returns what is due for `visi`.
+///
+/// # Errors
+///
+/// `Refusal::NoMemory` where memory runs out, also for one view alone, or the first fault that is due.
 pub fn visi<F: Files, R: Threads + Wait + Sync, G: Gate + Sync>(
     rt: &R,
     alloc: Global,

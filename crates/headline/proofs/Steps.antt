@@ -11,7 +11,7 @@ use Rattle.commands.specs.Runs.{IsOpened}
 use Rattle.commands.specs.Sights.{IsContent, Sight, limited}
 use Rattle.commands.specs.declared.texts.Texts.{Texts}
 
--- where two steps came to a value, the first came to one, and the second behind it
+-- where two steps came to a value, the first came to one, and the second after it
 pub record Came {A B : Type 0} (one : Step A) (two : A → Step B) (b : B) : Type 0 where
   pub a : A
   pub first : one (Ok a)

@@ -15,7 +15,7 @@ use Rattle.report.specs.declared.parts.SearchPart.{SearchPart}
 use Rattle.w3_axes.specs.Testing.{holds}
 use Rattle.w3_search.specs.declared.node.NodeState.TheVariants.{Confirmed, Rejected}
 
--- two foci with one part on an axis
+-- two foci with the same part on an axis
 abbrev pub AreSameOn : Axis → Focus → Focus → Type 0
 AreSameOn Code f g = f.code ≡ g.code
 AreSameOn Machine f g = f.hart ≡ g.hart

@@ -1,4 +1,4 @@
--- What `paradyn` tells with status 0: for each command what its texts are to the files that it names.
+-- What `paradyn` tells with status 0: for each command what its texts say of the files that it names.
 use Rattle.std.specs.Prelude.{◌≡◌, IfSome, ℕ, List, [], Option, None, Some, Ok, replicate, slice_get}
 use Rattle.advice.specs.Directives.{advice}
 use Rattle.advice.specs.Reading.{verdicts_of}
@@ -87,7 +87,7 @@ report_of r = report_text r.parts (skipped_of r.inputs.image)
 abbrev pub IsLogOf : List ℕ → Run → Type 0
 IsLogOf bytes r = meaning_of bytes ≡ Ok (r.inputs.settings, r.quanta)
 
--- Each of so many views was given the same samples. Those of a pair are, in the place of its bins, what its plan measures.
+-- Each of a number of views was given the same samples. Those of a pair are, in place of its bins, what its plan measures.
 pub record AreViews (views : ℕ) (r : Run) (text : List ℕ) : Type 0 where
   pub feed : List Latest
   pub is : text ≡ visi_text r.parts.shown (replicate views feed)

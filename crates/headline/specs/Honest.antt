@@ -1,4 +1,4 @@
--- When a report is honest: what it tells of a run with instruments is so of the program alone, which was never patched.
+-- When a report is honest: what it tells of a run with instruments is true of the program alone, which was never patched.
 use Rattle.std.specs.Prelude.{◌≡◌, IfSome, List, ◌++◌, map}
 use Rattle.machine.specs.Cores.{In}
 use Rattle.pn_types.specs.declared.quantum.Quantum.{Quantum}
@@ -36,9 +36,10 @@ pub record AreVerdicts (i : Inputs) (quanta : List Quantum) (printed : SearchPar
   pub verdicts : AreEnded i quanta (end_of i quanta)
   pub costs : (before after : List Quantum) → quanta ≡ before ++ after → AreWithin i (work i before)
 
--- Each event of the patched machine could happen when it came, and its ticks are turns that the harts of the program alone could take.
--- It has that program's memory, output, ticks and stops. The printed harts and output are that program's. The bins of a pair follow one
--- another from its arming on, and each is what its metric's plan at its focus measures over its ticks. What is printed of a search is so too.
+-- Each event of the patched machine could happen when it came, and its ticks are turns that the harts of the program alone could
+-- take. It has that program's memory, output, ticks and stops. The printed harts and output are that program's. The bins of a pair
+-- follow one another from its arming on, and each is what its metric's plan at its focus measures over its ticks. What is printed
+-- of a search is honest too.
 pub record IsHonest (i : Inputs) (quanta : List Quantum) (printed : ReportParts) : Type 0 where
   pub run : IsRun i (end_of i quanta)
   pub harts : printed.harts ≡ map (hart_part i.settings.budget) (alone i quanta).harts

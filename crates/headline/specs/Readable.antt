@@ -25,7 +25,7 @@ pub record HasNames (i : Inputs) : Type 0 where
   pub hypotheses : All (λ h. is_name h.name ≡ true) i.checked.hypotheses
   pub phases : All (λ p. is_name p.name ≡ true) i.checked.phases
 
--- a node of a phase and of a hypothesis that there are
+-- a node whose phase and hypothesis there are
 pub record IsNodeOf (i : Inputs) (n : Node) : Type 0 where
   pub phase : n.phase ≤ length i.checked.phases
   pub hypothesis : n.hypothesis < length i.checked.hypotheses

@@ -13,9 +13,10 @@ use Rattle.commands.specs.Sights.{seen, CountedFor}
 use Rattle.commands.specs.declared.texts.Texts.{Texts}
 use Rattle.headline.specs.declared.top.Reply.{Reply}
 
--- An answer is due for words and what was seen of the files. What these hold stays, and no count of faults rose but that
--- of a file which the answer names as unread.
-pub record IsOwed {F : Type 0} (holds : F → List ℕ → Holding) (faults : F → List ℕ → ℕ) (old new : F) (words : List (List ℕ)) (answer : Result Texts Fault) : Type 0 where
+-- An answer is due for words and what was seen of the files. What the files hold stays the same, and no count of faults rose but
+-- that of a file which the answer names as unread.
+pub record IsOwed {F : Type 0} (holds : F → List ℕ → Holding)
+    (faults : F → List ℕ → ℕ) (old new : F) (words : List (List ℕ)) (answer : Result Texts Fault) : Type 0 where
   pub due : IsDue words (seen (holds old) (faults old) (faults new)) answer
   pub same : (name : List ℕ) → holds new name ≡ holds old name
   pub counts : CountedFor holds faults old new answer
@@ -27,7 +28,8 @@ AreTold holds faults files = (name : List ℕ) → IsSome (holds files name) × 
 -- Over files that are told one answer is owed; under `live` the texts may be others.
 abbrev pub OneOwed : {F : Type 0} → (F → List ℕ → Holding) → (F → List ℕ → ℕ) → Type 0
 OneOwed {F} holds faults = (old new : F) (words : List (List ℕ)) (a b : Result Texts Fault) →
-    AreTold holds faults old → IsOwed holds faults old new words a → IsOwed holds faults old new words b → AreOne (is_live (request_of words)) a b
+    AreTold holds faults old → IsOwed holds faults old new words a
+    → IsOwed holds faults old new words b → AreOne (is_live (request_of words)) a b
 
 -- Nothing was read beyond what is due: no count of faults rose, or the answer that is due names a file as unread.
 abbrev pub IsUntold : {F : Type 0} → (F → List ℕ → Holding) → (F → List ℕ → ℕ) → F → F → List (List ℕ) → Type 0
@@ -38,10 +40,11 @@ abbrev pub AreGained : {K L : Type 0} → (K → Option (List ℕ)) → (K → �
 AreGained hasK faultsK oldK newK hasL faultsL oldL newL texts =
     Gained hasK faultsK oldK newK texts.out × Gained hasL faultsL oldL newL texts.log
 
--- one sink has a part of its text only: the log, and the output nothing; or the output, and the log all
+-- one sink has only a part of its text: the log, and then the output has nothing; or the output, and then the log has all
 abbrev pub AreTorn : {K L : Type 0} → (K → Option (List ℕ)) → (K → ℕ) → K → K → (L → Option (List ℕ)) → (L → ℕ) → L → L → Texts → Type 0
 AreTorn hasK faultsK oldK newK hasL faultsL oldL newL texts =
-    ((newK ≡ oldK) × IsTorn hasL faultsL oldL newL texts.log) ⊎ (Gained hasL faultsL oldL newL texts.log × IsTorn hasK faultsK oldK newK texts.out)
+    ((newK ≡ oldK) × IsTorn hasL faultsL oldL newL texts.log)
+    ⊎ (Gained hasL faultsL oldL newL texts.log × IsTorn hasK faultsK oldK newK texts.out)
 
 -- a count of faults is below the end of its type, and didn't rise
 abbrev pub IsSpared : ℕ → ℕ → Type 0
@@ -49,21 +52,25 @@ IsSpared before now = (before < 2 ^ 64 - 1) × (now ≡ before)
 
 -- What a call does that serves words, by its status.
 pub record IsServed {F K L : Type 0} (holds : F → List ℕ → Holding) (faults : F → List ℕ → ℕ) (old new : F) (words : List (List ℕ))
-    (hasK : K → Option (List ℕ)) (faultsK : K → ℕ) (oldK newK : K) (hasL : L → Option (List ℕ)) (faultsL : L → ℕ) (oldL newL : L) (status : ℕ) : Type 0 where
+    (hasK : K → Option (List ℕ))
+    (faultsK : K → ℕ) (oldK newK : K) (hasL : L → Option (List ℕ)) (faultsL : L → ℕ) (oldL newL : L) (status : ℕ) : Type 0 where
   -- All but 7 and 8: the answer that is due was given, and both sinks gained its bytes.
   pub answered : (status ≡ 7 → ⊥) → (status ≡ 8 → ⊥)
-      → (answer : Result Texts Fault) × IsOwed holds faults old new words answer × (status ≡ status_of answer) × AreGained hasK faultsK oldK newK hasL faultsL oldL newL (texts_of answer)
+      → (answer : Result Texts Fault) × IsOwed holds faults old new words answer
+      × (status ≡ status_of answer) × AreGained hasK faultsK oldK newK hasL faultsL oldL newL (texts_of answer)
   -- 7: a sink lacks a part of what was due, and its count of faults rose.
-  pub torn : status ≡ 7 → (answer : Result Texts Fault) × IsOwed holds faults old new words answer × AreTorn hasK faultsK oldK newK hasL faultsL oldL newL (texts_of answer)
+  pub torn : status ≡ 7 → (answer : Result Texts Fault)
+      × IsOwed holds faults old new words answer × AreTorn hasK faultsK oldK newK hasL faultsL oldL newL (texts_of answer)
   -- 8: nothing was written, and nothing was read beyond what is due.
   pub memory : status ≡ 8 → (newK ≡ oldK) × (newL ≡ oldL) × IsUntold holds faults old new words
-  -- Complete: where texts are due and no sink failed, they were given, or memory was wanting.
-  pub complete : AreTold holds faults old → (due : Texts) → IsOwed holds faults old new words (Ok due) → IsSpared (faultsK oldK) (faultsK newK) → IsSpared (faultsL oldL) (faultsL newL) → (status ≡ 0) ⊎ (status ≡ 8)
-  -- A file that could not be read, and a sink that failed, tell themselves by the status.
+  -- Complete: where texts are due and no sink failed, they were given, or memory ran out.
+  pub complete : AreTold holds faults old → (due : Texts) → IsOwed holds faults old new words (Ok due)
+      → IsSpared (faultsK oldK) (faultsK newK) → IsSpared (faultsL oldL) (faultsL newL) → (status ≡ 0) ⊎ (status ≡ 8)
+  -- The status tells of a file that could not be read and of a sink that failed.
   pub unread : (name : List ℕ) → (faults new name ≡ faults old name → ⊥) → (status ≡ 3) ⊎ ((status ≡ 7) ⊎ (status ≡ 8))
   pub unwritten : (faultsK newK ≡ faultsK oldK → ⊥) ⊎ (faultsL newL ≡ faultsL oldL → ⊥) → status ≡ 7
 
--- for proofs alone: what an answer comes to, where memory wasn't wanting
+-- for proofs alone: what an answer comes to, where memory didn't run out
 abbrev pub told_of : Result Texts Refusal → Option (Result Texts Fault)
 told_of (Ok texts) = Some (Ok texts)
 told_of (Err (refusal.Fault fault)) = Some (Err fault)

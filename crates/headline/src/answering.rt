@@ -1,4 +1,4 @@
-//! The answers for requests and words.
+//! What is due for requests and words.
 
 ghost use Rattle.std.specs.Prelude.{◌≡◌, false, Some, map, string_bytes};
 ghost use Rattle.command_words.specs.Asked.{asked};
@@ -17,7 +17,7 @@ use std::alloc::Global;
 use std::sync::Wait;
 use std::thread::Threads;
 
-/// What is due for a request that begins no threads.
+/// Returns what is due for a request that begins no threads.
 fn answer_request<F: Files>(
     alloc: Global,
     request: &Request<'_>,
@@ -43,7 +43,7 @@ fn answer_request<F: Files>(
     }
 }
 
-/// What is due for words that begin no threads.
+/// Returns what is due for words that begin no threads.
 pub(crate) fn answer<F: Files>(
     alloc: Global,
     words: &[String],
@@ -60,7 +60,7 @@ pub(crate) fn answer<F: Files>(
     }
 }
 
-/// What is due for words, of which some begin threads.
+/// Returns what is due for words, of which some begin threads.
 pub(crate) fn answer_threaded<F: Files, R: Threads + Wait + Sync, G: Gate + Sync>(
     rt: &R,
     alloc: Global,

@@ -1,3 +1,5 @@
+//! The program as a call: words, files and sinks in, a status out.
+
 ghost use Rattle.std.specs.Prelude.{◌≡◌, MatchOption, map, string_bytes};
 ghost use Rattle.std.specs.Process.{exit_status};
 ghost use Rattle.headline.specs.Program.{IsTold, words_read};
@@ -15,13 +17,13 @@ use std::thread::Threads;
 pub enum Words {
     /// All of them.
     Read(Vec<String>),
-    /// One isn't text, so they are no command.
+    /// One of them isn't text, so they are no command.
     NotText,
-    /// Memory for them was wanting.
+    /// Memory ran out before all were read.
     NoMemory,
 }
 
-/// What `paradyn` does, and what its texts tell.
+/// Does what `paradyn` does, and proves what its texts tell.
 fn tell<R: Threads + Wait + Sync, F: Files, K: Sink, L: Sink, G: Gate + Sync>(
     rt: &R,
     alloc: Global,
@@ -31,14 +33,15 @@ fn tell<R: Threads + Wait + Sync, F: Files, K: Sink, L: Sink, G: Gate + Sync>(
     log: &mut L,
     gate: &G,
 ) -> u8
-    ensures { IsTold F.holds F.faults files.old files.new (map string_bytes words.now) K.has K.faults out.old out.new L.has L.faults log.old log.new result }
+    ensures { IsTold F.holds F.faults files.old files.new
+        (map string_bytes words.now) K.has K.faults out.old out.new L.has L.faults log.old log.new result }
 {
     owed_is_honest::<F>();
     paradyn(rt, alloc, words, files, out, log, gate)
 }
 
-/// Serves the words of a command line, and gives the status with which the program ends. With status 0 the texts that the sinks gained
-/// tell of the files that the words name what the headline says of the command.
+/// Serves the words of a command line, and returns the status with which the program ends. With status 0 the texts that the sinks
+/// gained tell of the files that the words name what the headline says of the command.
 pub fn run_program<R: Threads + Wait + Sync, F: Files, K: Sink, L: Sink, G: Gate + Sync>(
     rt: &R,
     alloc: Global,
@@ -48,9 +51,11 @@ pub fn run_program<R: Threads + Wait + Sync, F: Files, K: Sink, L: Sink, G: Gate
     log: &mut L,
     gate: &G,
 ) -> ExitCode
-    // Where the words could not be read for want of memory, nothing was read or written.
-    ensures { MatchOption (words_read words.now) ((exit_status result ≡ 8) × (out.new ≡ out.old) × (log.new ≡ log.old) × (files.new ≡ files.old))
-        (λ read. IsTold F.holds F.faults files.old files.new read K.has K.faults out.old out.new L.has L.faults log.old log.new (exit_status result)) }
+    // Where memory ran out before the words were read, nothing was read or written.
+    ensures { MatchOption (words_read words.now) ((exit_status result ≡ 8)
+        × (out.new ≡ out.old) × (log.new ≡ log.old) × (files.new ≡ files.old))
+        (λ read. IsTold F.holds F.faults files.old files.new read K.has K.faults out.old out.new L.has L.faults log.old log.new
+        (exit_status result)) }
 {
     match words {
         Words::Read(words) => ExitCode::from(tell(rt, alloc, words, files, out, log, gate)),

@@ -1,3 +1,5 @@
+//! The top call.
+
 ghost use Rattle.std.specs.Prelude.{◌≡◌, ◌≢◌, false, IfOk, Result, Err, Some, map, string_bytes};
 ghost use Rattle.command_words.specs.Requests.{begins_threaded};
 ghost use Rattle.headline.specs.Answers.{status_of, texts_of};
@@ -24,7 +26,7 @@ pub struct Reply {
     pub texts: Texts,
 }
 
-/// The reply of a fault.
+/// Returns the reply of a fault.
 fn refuse(alloc: Global, fault: &Fault) -> Result<Reply, NoMemory>
     ensures { IfOk result (IsReply (Err fault.now)) }
 {
@@ -34,7 +36,7 @@ fn refuse(alloc: Global, fault: &Fault) -> Result<Reply, NoMemory>
     })
 }
 
-/// The reply for an answer.
+/// Returns the reply for an answer.
 fn reply_to(alloc: Global, answered: Result<Texts, Refusal>) -> Result<Reply, NoMemory>
     ensures { IfOk result (λ reply. (answer : Result texts fault) × (told_of answered ≡ Some answer) × IsReply answer reply) }
 {
@@ -45,7 +47,7 @@ fn reply_to(alloc: Global, answered: Result<Texts, Refusal>) -> Result<Reply, No
     }
 }
 
-/// Gives an answer to the sinks, and tells the status.
+/// Writes an answer to the sinks, and returns the status.
 fn give<K: Sink, L: Sink>(
     alloc: Global,
     answered: Result<Texts, Refusal>,
@@ -70,7 +72,7 @@ fn give<K: Sink, L: Sink>(
     }
 }
 
-/// What [`paradyn`] does, for words that begin with neither `live` nor `visi`. It waits for nothing.
+/// Does what [`paradyn`] does, for words that begin with neither `live` nor `visi`. It never waits.
 pub fn serve<F: Files, K: Sink, L: Sink>(
     alloc: Global,
     words: &[String],
@@ -79,15 +81,16 @@ pub fn serve<F: Files, K: Sink, L: Sink>(
     log: &mut L,
 ) -> u8
     requires { begins_threaded (map string_bytes words.now) ≡ false }
-    ensures { IsServed F.holds F.faults files.old files.new (map string_bytes words.now) K.has K.faults out.old out.new L.has L.faults log.old log.new result }
+    ensures { IsServed F.holds F.faults files.old files.new
+        (map string_bytes words.now) K.has K.faults out.old out.new L.has L.faults log.old log.new result }
 {
     one_owed::<F>();
     let answered = answer(alloc, words, files);
     give(alloc, answered, out, log)
 }
 
-/// All that the program does: it takes the words of the command line without the program's name, reads the files that
-/// they name, and writes to the output and the log. It answers the program's status:
+/// Does all that the program does: takes the words of the command line without the program's name, reads the files that they name,
+/// and writes to the output and the log. Returns the program's status:
 ///
 /// - 0: the output gained what was asked for: the report of the program's whole run in the order of a seed, of one that workers share
 ///   or of one along the quanta of a log, the plan of a metric, the program's points, the ELF file of an assembly text, a log as it is
@@ -101,7 +104,7 @@ pub fn serve<F: Files, K: Sink, L: Sink>(
 /// - 6: a metric can't be measured at a focus, the plan's or one of the configuration at tick 0, and the output gained the line of
 ///   that fault.
 /// - 7: a sink failed; each sink has a prefix of what was due, and the log came first.
-/// - 8: memory was wanting; both sinks are as before.
+/// - 8: memory ran out; both sinks are as before.
 /// - 9: the log is faulty, or its quanta aren't those of a whole run, and the output gained the line of that fault.
 /// - 11: more basic blocks have a first word that can be moved than a hart has slots, and the output gained the line of that fault.
 /// - 12: the directives are faulty, and the output gained the line of that fault.
@@ -115,7 +118,8 @@ pub fn paradyn<R: Threads + Wait + Sync, F: Files, K: Sink, L: Sink, G: Gate + S
     log: &mut L,
     gate: &G,
 ) -> u8
-    ensures { IsServed F.holds F.faults files.old files.new (map string_bytes words.now) K.has K.faults out.old out.new L.has L.faults log.old log.new result }
+    ensures { IsServed F.holds F.faults files.old files.new
+        (map string_bytes words.now) K.has K.faults out.old out.new L.has L.faults log.old log.new result }
 {
     one_owed::<F>();
     if begin_threaded(words) {

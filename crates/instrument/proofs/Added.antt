@@ -1,4 +1,4 @@
--- An instrument with the lowest slots is put behind the others; and slots are looked for.
+-- An instrument with the lowest slots is put after the others; and slots are looked for.
 use Rattle.std.proofs.Common.{◌≡◌, ℕ, zero, suc, ◌+◌, ◌<◌, ◌≤◌, ◌^◌, ◌-◌, List, [], ◌∷◌, ◌++◌, Option, Some, None, refl, sym, ap, ◌∙◌, subst, arith, ⊎_elim, inl, inr, cond, length}
 use Rattle.std.specs.Prelude.{Bool, true, false, not, nat_lt, nat_le, ◌&&◌, ◌||◌, IfNone, IfSome}
 use Rattle.std.specs.List.{list_any, flat_map, sum_by}
@@ -22,7 +22,7 @@ use Rattle.instrument.proofs.Fitted.{slots_given, no_slots, slots_for_none}
 use Rattle.instrument.proofs.Folds.{in_append, append_nil}
 use Rattle.instrument.proofs.Holdings.{space_take, space_give, distant_append, owed_append, middle, taken}
 
--- ---- a thing that takes no units is put behind the others
+-- ---- a thing that takes no units is put after the others
 
 none_within : (at len unit : ℕ) → len ≡ 0 → is_within at len unit ≡ true → ⊥
 none_within at len unit e w =
@@ -47,9 +47,9 @@ space_none {A} s from units space xs k x none low high = record {
   within = λ u h. ⊎_elim (λ i. k.within u i) (λ j. ⊎_elim (λ e. subst (λ (w : A). (from ≤ (s w).at) × ((s w).at + (s w).len ≤ from + units)) (sym e) (low, omega (arith, none, high))) (λ n. absurd n) j) (in_append xs (x ∷ []) u h);
 }
 
--- ---- an instrument is put behind the others
+-- ---- an instrument is put after the others
 
--- the first of the lowest so many slots beside those of instruments
+-- the first of the lowest slots of a number beside those of instruments
 abbrev pub found_in : List Instrument → ℕ → Option ℕ
 found_in instruments count = slots_for (flat_map (λ i. places_of i.placed) instruments) count
 

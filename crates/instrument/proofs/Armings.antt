@@ -134,7 +134,7 @@ module _ (first : Core) (s : Scene) (es : List Event) (w : Whole first s es) (i 
             (o.slots a.0 b.0 a.1 b.1 (λ e. n (ap (λ (u : Instrument). u.no) a.2 ∙ (e ∙ sym (ap (λ (u : Instrument). u.no) b.2))))));
       }
 
-  -- whatever is so of i and of those that were armed is so of those that are
+  -- what holds of i and of those that were armed holds of those that are armed
   each : (P : Instrument → Type 0) → P (with_state i.no Armed i) → ((j : Instrument) → In j s.placer.instruments → j.state ≡ Armed → P (with_state i.no Armed j))
       → (j : Instrument) → In j (map (with_state i.no Armed) s.placer.instruments) → j.state ≡ Armed → P j
   each P a b j h e =

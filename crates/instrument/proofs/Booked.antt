@@ -33,7 +33,7 @@ SiteFits t rooms (Some d) m = BaseFits t rooms d m
 abbrev pub Based : List Room → Type 0
 Based rooms = (x : Room) → In x rooms → x.base ≡ false → is_held x.hold ≡ true → (b : Room) × (find (is_base_of x.point) rooms ≡ Some b)
 
--- the book and the agenda, behind a core with these rows
+-- the book and the agenda, after a core with these rows
 pub record Booked (t : Words) (rows : List Row) (fr : Fresh) (rooms : List Room) (agenda : List Entry) : Type 0 where
   pub sound : Sound t (stage (filter is_now rows) fr) agenda
   pub ends : ending (stage (filter is_now rows) fr) agenda ≡ stage (standing rooms) Idle

@@ -92,7 +92,7 @@ len_without x es =
 
 -- ---- the places of the rooms that are left
 
--- those behind a place
+-- those after a place
 rank_drop : (i : ℕ) (es : List (Option Room)) → drop (length (left (take i es))) (left es) ≡ left (drop i es)
 rank_drop zero es = refl
 rank_drop (suc i) [] = refl

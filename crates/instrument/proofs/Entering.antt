@@ -17,7 +17,7 @@ use Rattle.instrument.proofs.Folds.{sound_append, ending_append, append_assoc, a
 use Rattle.instrument.proofs.Claims.{Of, Claimed}
 use Rattle.instrument.proofs.Booked.{Based, Booked, SiteFits, claimed_hold, gone_cond, held_cond, in_standing, live_map, live_row, row_opt, set_hit, set_miss, standing_append, standing_find, standing_in, standing_less}
 
--- more entries behind, in the words of what will stand
+-- more entries after, in the words of what will stand
 module _ (t : Words) (rows : List Row) (fr : Fresh) (rooms : List Room) (agenda : List Entry) (b : Booked t rows fr rooms agenda) where
   more_sound : (new : List Entry) → Sound t (stage (standing rooms) Idle) new → Sound t (stage (filter is_now rows) fr) (agenda ++ new)
   more_sound new s = sound_append t (stage (filter is_now rows) fr) agenda new b.sound (subst (λ k. Sound t k new) (sym b.ends) s)

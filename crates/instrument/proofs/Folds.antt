@@ -1,4 +1,4 @@
--- Agendas behind one another, rows that are kept, and ranges.
+-- Agendas after one another, rows that are kept, and ranges.
 use Rattle.std.proofs.Common.{◌≡◌, List, [], ◌∷◌, ◌++◌, Some, None, refl, sym, ap, ◌∙◌, subst, ⊎_elim, inl, inr}
 use Rattle.std.specs.Prelude.{map, filter, find, Bool, true, false, cond, ◌⊎◌}
 use Rattle.std.proofs.lemmas.Bool.{true≢false, cond-true, cond-false}
@@ -102,7 +102,7 @@ pub map_append : {A B : Type 0} (f : A → B) (xs ys : List A) → map f (xs ++ 
 map_append f [] ys = refl
 map_append f (x ∷ xs) ys = ap (λ l. f x ∷ l) (map_append f xs ys)
 
--- the rows that aren't retired, where no row begins or ends to be so
+-- the rows that aren't retired, where no row begins or ceases to be retired
 pub now_map : (f : Row → Status) (xs : List Row) → ((x : Row) → In x xs → is_current (f x) ≡ is_current x.status) → filter is_now (map (with_status f) xs) ≡ map (with_status f) (filter is_now xs)
 now_map f xs h = map_filter (with_status f) is_now xs ∙ ap (map (with_status f)) (filter_same (λ x. is_now (with_status f x)) is_now xs h)
 

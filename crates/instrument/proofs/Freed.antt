@@ -62,7 +62,7 @@ any_more q (x ∷ xs) ys e = by (q x) e (any_more q xs ys)
     by true e h = refl
     by false e h = h e
 
--- an instrument that is here is so with rooms that have its own
+-- an instrument that is here with some rooms is here with rooms that have its own
 here_with : (old new : List Room) (i : Instrument) → (list_any (is_mini_room_of i.no) old ≡ true → list_any (is_mini_room_of i.no) new ≡ true) → is_here old i ≡ true → is_here new i ≡ true
 here_with old new i f e = by (is_leaving i.state) e
   where
@@ -137,7 +137,7 @@ all_settled rooms n is e = sym (filter_all (is_settled rooms n) is (λ i h. by i
     by i true q = or_right (not (is_leaving i.state)) _ (ap (λ m. list_any (is_mini_room_of m) rooms) (eqb-true i.no n q) ∙ e)
     by i false q = refl
 
--- where no other can have gone, all are here behind it
+-- where no other can have gone, all are here after it
 settled_of : (new : List Room) (n : ℕ) (is : List Instrument) → ((i : Instrument) → In i is → (i.no == n) ≡ false → is_here new i ≡ true) → filter (is_settled new n) is ≡ filter (is_here new) is
 settled_of new n is f = filter_same (is_settled new n) (is_here new) is (λ i h. by i h (i.no == n) refl)
   where

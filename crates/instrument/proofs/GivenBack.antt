@@ -1,4 +1,4 @@
--- The rooms behind so many are given back, from the last one on.
+-- All rooms but a number of the first are given back, from the last one on.
 use Rattle.std.proofs.Common.{◌≡◌, ℕ, zero, suc, add-one, ◌/◌, ◌<◌, ◌≤◌, Option, Some, None, List, [], ◌∷◌, ◌++◌, length, take, drop, set, get_or, refl, sym, ap, subst, ◌∙◌, arith}
 use Rattle.std.proofs.lemmas.List.{append-nil, length-append, length-set, take-set, take_more, take_all}
 use Rattle.bucket_chains.specs.Left.{left}

@@ -123,7 +123,7 @@ to_front t rows fr rooms agenda f q b =
 pub to_back : (t : Words) (rows : List Row) (fr : Fresh) (rooms : List Room) (p : ℕ) (es : List Entry) → Booked t rows fr rooms (Free p ∷ es) → Booked t rows fr rooms (es ++ Free p ∷ [])
 to_back t rows fr rooms p es b = give_free t rows fr rooms es [] p (subst (Booked t rows fr rooms) (sym (append_nil es)) (take_free t rows fr rooms [] es p b))
 
--- what is to be shown where an entry is done, whether it was the first one or a Free behind others
+-- what is to be shown where an entry is done, whether it was the first one or a Free after others
 abbrev pub Doing : (Out → Type 0) → State → Type 0
 Doing P st =
     (k : Kept st) (e : Entry) (es : List Entry) → Booked st.core.program st.core.rows k.fr st.book.rooms (e ∷ es) → ((p : ℕ) → e ≡ Free p → May st.core (events.Free p))

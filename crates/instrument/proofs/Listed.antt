@@ -49,7 +49,7 @@ at_get [] k d l = absurd (omega arith)
 at_get (x ∷ xs) zero d l = refl
 at_get (x ∷ xs) (suc k) d l = at_get xs k d (omega arith)
 
--- what the search answers
+-- what the search returns
 pub record IsPlace (xs : List Instrument) (n : ℕ) (o : Option ℕ) : Type 0 where
   pub within : IfSome o (λ place. place < length xs)
   pub some : IfSome o (λ place. option_map (λ i. i.no) (slice_get xs place) ≡ Some n)
@@ -80,7 +80,7 @@ away_found : (xs : List Instrument) (n : ℕ) → ((i : Instrument) → In i xs 
 away_found [] n away = refl
 away_found (x ∷ xs) n away = cond-false (x.no == n) _ _ (ne_eqb _ _ (away x (inl refl))) ∙ away_found xs n (λ i h. away i (inr h))
 
--- one that stands behind another has another number
+-- one that stands after another has another number
 behind : (m n : ℕ) (xs : List Instrument) (k : ℕ) → ((j : Instrument) → In j xs → m < j.no) → option_map (λ (i : Instrument). i.no) (slice_get xs k) ≡ Some n → m ≡ n → ⊥
 behind m n [] k b e q = absurd cc
 behind m n (x ∷ xs) zero b e q = let z : x.no ≡ n = cc in let l = b x (inl refl) in absurd (omega (arith, l, z, q))
@@ -129,7 +129,7 @@ pub none_dropped : (xs : List Instrument) (n : ℕ) → ((i : Instrument) → In
 none_dropped [] n away = refl
 none_dropped (x ∷ xs) n away = ap (λ ys. x ∷ ys) (none_dropped xs n (λ i h. away i (inr h))) ∙ sym (cond-true (is_kept n x) _ _ (kept_away n x (away x (inl refl))))
 
--- those behind the instrument of a number have other numbers
+-- those after the instrument of a number have other numbers
 behind_stay : (x : Instrument) (xs : List Instrument) (n : ℕ) → ((j : Instrument) → In j xs → x.no < j.no) → x.no ≡ n → xs ≡ filter (is_kept n) xs
 behind_stay x xs n b q = none_dropped xs n (λ i h p. let l = b i h in absurd (omega (arith, l, p, q)))
 

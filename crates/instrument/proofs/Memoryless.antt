@@ -1,4 +1,4 @@
--- The definitions refuse no site for want of memory.
+-- The definitions never refuse a site because memory runs out.
 use Rattle.std.proofs.Common.{◌≡◌, ℕ, ◌+◌, List, [], ◌∷◌, Option, Some, None, ap, sym, subst, ◌∙◌, length}
 use Rattle.std.specs.Prelude.{find, Result, Ok, Err}
 use Rattle.std.specs.Result.{IsErrAnd}
@@ -45,7 +45,7 @@ sites_memoryless t owner slots (s ∷ sites) book e =
     by (Err x) n ih q = n q
     by (Ok b) n ih q = ih b q
 
--- who is refused as the definitions say isn't refused for want of memory
+-- where the definitions refuse a plan, it isn't because memory runs out
 pub refused_memoryless : {A : Type 0} (t : Words) (owner : ℕ) (slots : List ℕ) (sites : List Site) (book : Book) (x : Refused) (r : Result A Refused) → with_sites t owner slots sites book ≡ Err x → IsErrAnd r (λ y. y ≡ x) → r ≡ Err NoMemory → ⊥
 refused_memoryless {A = A} t owner slots sites book x r e f g =
     sites_memoryless t owner slots sites book (e ∙ ap (λ z. Err z) (sym (subst (λ (q : Result A Refused). IsErrAnd q (λ y. y ≡ x)) g f)))

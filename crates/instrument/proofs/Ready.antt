@@ -176,7 +176,7 @@ placer_kept t u r s count ready k a b h rooms takes entries room slots = record 
   here = h;
 }
 
--- who was here is so
+-- who was here is here
 pub same_here : (t u : ToolTextData) (r s : RosterData) → u.book ≡ t.book → s.instruments ≡ r.instruments → AreHere t.book.rooms r.instruments → AreHere u.book.rooms s.instruments
 same_here t u r s e f k = subst (λ (is : List Instrument). AreHere u.book.rooms is) (sym f) (subst (λ (b : Book). AreHere b.rooms r.instruments) (sym e) k)
 

@@ -49,7 +49,7 @@ sites_skip n x xs e = ap (λ c. map site_of (cond c (x ∷ filter (is_mini_room_
 pub sites_take : (n : ℕ) (x : Room) (xs : List Room) → is_mini_room_of n x ≡ true → sites_of n (x ∷ xs) ≡ site_of x ∷ sites_of n xs
 sites_take n x xs e = ap (λ c. map site_of (cond c (x ∷ filter (is_mini_room_of n) xs) (filter (is_mini_room_of n) xs))) e
 
--- the sites that are listed, and those at the next place and behind it, are all, and there is room for them
+-- the sites that are listed, and those at the next place and after it, are all, and there is room for them
 pub record IsListing (owner : ℕ) (places : List (Option Room)) (next : Option ℕ) (sites : List PlacedSite) (capacity : ℕ) : Type 0 where
   pub rest : List PlacedSite
   pub seeks : Seeks owner_key (bucket_of owner) (sites_of owner) places next rest

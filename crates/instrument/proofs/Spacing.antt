@@ -47,13 +47,13 @@ find_no p from (suc n) f =
     let no : p from ≡ false = ⊎_elim (λ k. absurd (f from k)) (λ k. k) (cases_Bool (p from)) in
     cond-false (p from) (Some from) (find p (range_with_len (from + 1) n)) no ∙ find_no p (from + 1) n f
 
--- a room that a space answers is the lowest
+-- a room that a space returns is the lowest
 pub lowest_room : (space : Rooms) (free : ℕ → Bool) → Tied space free → (from units at len : ℕ) → from ≤ at → at < from + units → IsLowestRoom space at len → lowest free from units len ≡ Some at
 unfolding lowest
 lowest_room space free t from units at len lo hi r =
     find_least (are_free free len) from units at lo hi (room_free space free t at len r.free) (λ y l e. r.lowest y l (free_room space free t y len e))
 
--- and where it answers none, there is none
+-- and where it returns none, there is none
 pub no_lowest : (space : Rooms) (free : ℕ → Bool) → Tied space free → (from units len : ℕ) → ((at : ℕ) → IsRoom space at len → ⊥) → lowest free from units len ≡ None
 unfolding lowest
 no_lowest space free t from units len r = find_no (are_free free len) from units (λ y e. r y (free_room space free t y len e))
@@ -77,7 +77,7 @@ one_of_filter p (x ∷ xs) unit = by (p x) (x == unit) (p unit) refl refl refl (
     by false true false i j k ih = ih ∙ (ap (λ v. v && is_one_of xs unit) k ∙ sym (ap (λ v. v && ((x == unit) || is_one_of xs unit)) k))
     by false false c i j k ih = ih ∙ sym (ap (λ v. p unit && (v || is_one_of xs unit)) j)
 
--- what is free behind a take is what was free and isn't in the room
+-- what is free after a take is what was free and isn't in the room
 pub taken_tied : (space : Rooms) (free : ℕ → Bool) → Tied space free → (at len unit : ℕ) → is_free (after_take space at len) unit ≡ (not (is_within at len unit) && free unit)
 taken_tied space free t at len unit = one_of_filter (λ u. not (is_within at len u)) space.free unit ∙ ap (λ v. not (is_within at len unit) && v) (t unit)
 
@@ -104,7 +104,7 @@ range_has at len unit = ⊎_elim
     (cases_lt unit (at + len)))
     (cases_lt unit at)
 
--- what is free behind a give is what was free, and the room
+-- what is free after a give is what was free, and the room
 pub given_tied : (space : Rooms) (free : ℕ → Bool) → Tied space free → (at len unit : ℕ) → 0 < len → IsTaken space at len → is_free (after_give space at len) unit ≡ (is_within at len unit || free unit)
 given_tied space free t at len unit some k =
     one_of_append (filter (λ u. nat_lt u at) space.free) (range_with_len at len ++ filter (λ u. nat_lt at u) space.free) unit

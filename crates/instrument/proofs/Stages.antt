@@ -127,7 +127,7 @@ room_row x = a_row x.point x.at x.len x.base Live
 abbrev pub standing : List Room → List Row
 standing xs = map room_row (filter is_held_room xs)
 
--- ---- the rooms behind an entry that was done, where a freeing gives rooms back
+-- ---- the rooms after an entry that was done, where a freeing gives rooms back
 
 abbrev pub rooms_done : Entry → List Room → List Room
 rooms_done (UnlinkMini p m) rooms = map (with_hold (unlinked_at m)) rooms

@@ -168,7 +168,7 @@ module _ (st : State) (instruments : List Instrument) (plans : List Plan) (count
       (λ (n : i.no ≡ (a.j).no → ⊥). inr (subst (Spares i.placed) (sym ((a.holds).written r hr b (sym x.2))) (spared_by i a.j hi a.is_in n a.q (o.carried a.j a.is_in) a.listed)))
       (cases_eq i.no (a.j).no)
 
--- what is in force stays so, where the next events let it be
+-- what is in force stays in force, where the next events let it be
 pub still_force : (i : Placed) (es more : List Event) (c : Core) → InForce i es c → AllLet i more → InForce i (es ++ more) c
 still_force i es more c f l = record {
   before = f.before;

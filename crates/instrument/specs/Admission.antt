@@ -38,7 +38,7 @@ slots_from slot (v ∷ vars) = slot ∷ slots_from (slot + slots_of_var v) vars
 abbrev pub a_base : ℕ → ℕ → List MarkedWord → Block
 a_base point at moved = record { point = point; at = at; words = base_words at (tail_of at) moved; base = true }
 
--- where it leads on to is set when it is written; until then it is its own address
+-- where it leads on to is set when it is written; until then this is its own address
 abbrev pub a_mini : ℕ → ℕ → List MarkedWord → Block
 a_mini point at body = record { point = point; at = at; words = mini_words at body at; base = false }
 
@@ -48,7 +48,7 @@ abbrev pub rooms_with : Option Block → List Room → List Room
 rooms_with None rooms = rooms
 rooms_with (Some b) rooms = rooms ++ base_room b ∷ []
 
--- the mini block, behind the base block
+-- the mini block, after the base block
 abbrev pub with_mini_at : Option ℕ → ℕ → ℕ → List MarkedWord → Option Block → Book → Result Book Refused
 with_mini_at None owner point body base book = Err (NoRoom (length body + 1))
 with_mini_at (Some at) owner point body base book = Ok (with_blocks owner (record { base = base; mini = a_mini point at body }) book)
@@ -68,9 +68,10 @@ with_base_at (Some at) program word owner point body book = with_moved (moved_of
 
 abbrev pub with_base : Option ℕ → Words → ℕ → ℕ → List MarkedWord → Book → Result Book Refused
 with_base None program owner point body book = Err (Unmovable point)
-with_base (Some word) program owner point body book = with_base_at (room_for program book.rooms (base_len word)) program word owner point body book
+with_base (Some word) program owner point body book =
+    with_base_at (room_for program book.rooms (base_len word)) program word owner point body book
 
--- a base block is taken where the point has none
+-- a base block is placed where the point has none
 abbrev pub with_site_by : Option Room → Words → ℕ → ℕ → List MarkedWord → Book → Result Book Refused
 with_site_by (Some base) program owner point body book = with_mini program owner point body None book
 with_site_by None program owner point body book = with_base (program_word program point) program owner point body book
@@ -84,7 +85,7 @@ abbrev pub and_then : Result Book Refused → (Book → Result Book Refused) →
 and_then (Err refused) more = Err refused
 and_then (Ok book) more = more book
 
--- Each site in turn; the first that is refused refuses all.
+-- Each site in turn; where one is refused, all are.
 abbrev pub with_sites : Words → ℕ → List ℕ → List Site → Book → Result Book Refused
 with_sites program owner slots [] book = Ok book
 with_sites program owner slots (s ∷ sites) book = and_then (with_site program owner slots s book) (with_sites program owner slots sites)

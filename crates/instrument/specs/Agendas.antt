@@ -1,4 +1,4 @@
--- The agenda with the room that it has: so many more entries need no memory.
+-- The agenda with the room that it has: for how many more entries there is memory.
 use Rattle.std.specs.Prelude.{◌≡◌, ℕ, ◌+◌, ◌-◌, max, if◌then◌else◌, Option, Some, None, List, [], ◌∷◌, ◌++◌, remove}
 use Rattle.std.specs.List.{list_any}
 use Rattle.instrument.specs.Books.{FoundFree, unlinks, freed_point, first_free}
@@ -11,14 +11,14 @@ pub record AgendaData : Type 0 where
 abbrev pub no_entries : AgendaData
 no_entries = record { entries = []; room = 0 }
 
--- there is room for at least so many
+-- there is room for at least `count` more entries
 abbrev pub with_room : ℕ → AgendaData → AgendaData
 with_room count a = record a { room = max a.room count }
 
 abbrev pub with_entry : Entry → AgendaData → AgendaData
 with_entry e a = record { entries = a.entries ++ e ∷ []; room = a.room - 1 }
 
--- the place of an entry that is taken is room again
+-- an entry that is taken out leaves room for another
 abbrev pub without_first_of : List Entry → AgendaData → AgendaData
 without_first_of [] a = a
 without_first_of (e ∷ es) a = record { entries = es; room = a.room + 1 }

@@ -44,7 +44,7 @@ mini_room owner m = record { point = m.point; at = m.at; len = length m.words; b
 abbrev pub is_base_of : ℕ → Room → Bool
 is_base_of p x = x.base && ((x.point == p) && is_held x.hold)
 
--- so it is of a mini block
+-- the same of a mini block
 abbrev pub is_mini_of : ℕ → Room → Bool
 is_mini_of p x = not x.base && ((x.point == p) && is_held x.hold)
 
@@ -62,7 +62,7 @@ abbrev pub rooms_of : Option Block → ℕ → Block → List Room
 rooms_of None owner m = mini_room owner m ∷ []
 rooms_of (Some b) owner m = base_room b ∷ mini_room owner m ∷ []
 
--- both are written before the point is linked, and the mini block is linked right behind its writing
+-- both are written before the point is linked, and the mini block is linked right after its writing
 abbrev pub placing : Option Block → Block → List Entry
 placing None m = WriteMini m ∷ LinkMini m.point m.at ∷ []
 placing (Some b) m = WriteBase b ∷ WriteMini m ∷ LinkMini m.point m.at ∷ LinkPoint b.point b.at ∷ []
@@ -79,7 +79,7 @@ mini_leaves m x = if not x.base && (x.at == m) then leaving x.hold else x.hold
 abbrev pub base_leaves : ℕ → Room → Hold
 base_leaves p x = if x.base && (x.point == p) then leaving x.hold else x.hold
 
--- The point is unlinked behind its last mini block: where another is held there, the base block stays. Then the point is freed.
+-- The point is unlinked after its last mini block: where another is held there, the base block stays. Then the point is freed.
 abbrev pub removing : Option Room → Option Room → ℕ → ℕ → List Entry
 removing (Some other) base p m = UnlinkMini p m ∷ Free p ∷ []
 removing None None p m = UnlinkMini p m ∷ Free p ∷ []
@@ -107,7 +107,7 @@ without_site x book = removed_at x.point x.at (map (with_hold (mini_leaves x.at)
 abbrev pub unlinked_at : ℕ → Room → Hold
 unlinked_at m x = if x.at == m then Unlinked else x.hold
 
--- the rooms behind an entry that was handed out
+-- the rooms after an entry that was handed out
 abbrev pub rooms_behind : Entry → List Room → List Room
 rooms_behind (UnlinkMini p m) rooms = map (with_hold (unlinked_at m)) rooms
 rooms_behind (UnlinkPoint p m) rooms = map (with_hold (unlinked_at m)) rooms

@@ -1,4 +1,4 @@
--- Two instruments at one point come and go, and a third comes behind them: what the book then is.
+-- Two instruments at one point come and go, and a third comes after them: what the book then is.
 use Rattle.std.specs.Prelude.{◌≡◌, ℕ, true, false, Some, None, [], ◌∷◌}
 use Rattle.tramp_spec.specs.Marks.{tool}
 use Rattle.tramp_spec.specs.declared.block.Block.{Block}
@@ -13,7 +13,7 @@ a_base at = record { point = 0x10000; at = at; words = tool 0 ∷ []; base = tru
 abbrev pub a_mini : ℕ → Block
 a_mini at = record { point = 0x10000; at = at; words = tool 0 ∷ []; base = false }
 
--- the first gets a base block, the second has it; then both are dropped
+-- the first gets a base block, which the second uses too; then both are dropped
 abbrev pub two_come : Book
 two_come =
     with_blocks 1 (record { base = None; mini = a_mini 0x11008 })
@@ -29,10 +29,11 @@ third_comes = with_blocks 2 (record { base = Some (a_base 0x1100c); mini = a_min
 abbrev pub left : Room → Room
 left x = with_hold (λ y. leaving y.hold) x
 
--- The point is unlinked with the second dropping alone.
+-- The point is unlinked at the second dropping, and not at the first.
 pub record ComesAndGoes : Type 0 where
   pub rooms : third_comes.rooms
-      ≡ left (base_room (a_base 0x11000)) ∷ left (mini_room 0 (a_mini 0x11004)) ∷ left (mini_room 1 (a_mini 0x11008)) ∷ base_room (a_base 0x1100c) ∷ mini_room 2 (a_mini 0x11010) ∷ []
+      ≡ left (base_room (a_base 0x11000)) ∷ left (mini_room 0 (a_mini 0x11004))
+      ∷ left (mini_room 1 (a_mini 0x11008)) ∷ base_room (a_base 0x1100c) ∷ mini_room 2 (a_mini 0x11010) ∷ []
   pub agenda : third_comes.agenda
       ≡ WriteBase (a_base 0x11000) ∷ WriteMini (a_mini 0x11004) ∷ LinkMini 0x10000 0x11004 ∷ LinkPoint 0x10000 0x11000
       ∷ WriteMini (a_mini 0x11008) ∷ LinkMini 0x10000 0x11008

@@ -1,4 +1,4 @@
--- For proofs alone: a point is freed room by room, and the instruments go whose last rooms these were.
+-- For proofs alone: a point is freed room by room, and the instruments whose last rooms these were go.
 use Rattle.std.specs.Prelude.{◌≡◌, ℕ, ◌==◌, ◌&&◌, ◌||◌, not, Bool, true, false, List, ◌∷◌, ◌++◌, filter}
 use Rattle.machine.specs.Cores.{In}
 use Rattle.instrument.specs.Books.{stays}
@@ -23,11 +23,11 @@ pub record IsTakenOut (point : ℕ) (room : Room) (old new : List Room) : Type 0
 
 -- ---- instruments
 
--- it stays where the instrument of a number goes if it was dropped
+-- an instrument stays where that of a number goes if it was dropped
 abbrev pub is_kept : ℕ → Instrument → Bool
 is_kept n i = not ((i.no == n) && is_leaving i.state)
 
--- and where it goes if it has no room either
+-- the same where that one goes only if it has no room
 abbrev pub is_settled : List Room → ℕ → Instrument → Bool
 is_settled rooms n i = not (i.no == n) || is_here rooms i
 

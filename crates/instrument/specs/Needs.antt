@@ -9,7 +9,7 @@ use Rattle.pn_types.specs.declared.plan.Var.{Var}
 use Rattle.prim_code.specs.Counts.{site_words}
 use Rattle.instrument.specs.Opens.{is_open}
 
--- a copy of its variables and of its Opens, and for each site a mini block of so many words
+-- a copy of its variables and of its Opens, and how many words the mini block of each site has
 pub record Need : Type 0 where
   pub vars : List Var
   pub words : List ℕ
@@ -33,7 +33,7 @@ abbrev pub sites_in : List Need → ℕ
 sites_in [] = 0
 sites_in (n ∷ needs) = length n.words + sites_in needs
 
--- those without the first that is this, if there is one
+-- the needs without the first that is this one, if there is one
 abbrev pub without : Need → List Need → List Need
 without need [] = []
 without need (n ∷ needs) = if is_need need n then needs else (n ∷ without need needs)

@@ -45,10 +45,11 @@ pub record IsNumbered (p : Placements) : Type 0 where
 pub record StatesStay : Type 0 where
   pub first : (image : Image) (limit : ℕ) → IsNumbered (no_placements image limit)
   pub numbered : (k : Call) (p : Placements) → IsNumbered p → IsNumbered (called k p)
-  -- one that is gone stays so
+  -- one that is gone stays gone
   pub gone : (k : Call) (p : Placements) (n : ℕ) → IsNumbered p → n < p.count → state_of p n ≡ Gone → state_of (called k p) n ≡ Gone
   -- one that wasn't dropped is placing or armed, until it is
-  pub held : (k : Call) (p : Placements) (n : ℕ) → IsNumbered p → is_leaving (state_of p n) ≡ false → IsNoDrop n k → is_leaving (state_of (called k p) n) ≡ false
+  pub held : (k : Call) (p : Placements) (n : ℕ)
+      → IsNumbered p → is_leaving (state_of p n) ≡ false → IsNoDrop n k → is_leaving (state_of (called k p) n) ≡ false
 
 -- what an admission makes: an instrument of the next number, whose cost is within the limit
 pub record IsAdmission (p : Placements) (plan : Plan) (cost : Option ℕ) (q : Placements) : Type 0 where
@@ -58,4 +59,5 @@ pub record IsAdmission (p : Placements) (plan : Plan) (cost : Option ℕ) (q : P
   pub within : (limit : ℕ) → cost ≡ Some limit → predicted plan ≤ limit
 
 abbrev pub AdmissionsTell : Type 0
-AdmissionsTell = (p : Placements) (plan : Plan) (cost : Option ℕ) (q : Placements) → IsNumbered p → admission p plan cost ≡ Ok q → IsAdmission p plan cost q
+AdmissionsTell = (p : Placements) (plan : Plan) (cost : Option ℕ) (q : Placements)
+    → IsNumbered p → admission p plan cost ≡ Ok q → IsAdmission p plan cost q

@@ -1,4 +1,4 @@
--- The same Opens: all that they are made of is the same.
+-- That two Opens are the same: all parts of them are.
 use Rattle.std.specs.Prelude.{ℕ, ◌==◌, ◌&&◌, Bool, List, [], ◌∷◌}
 use Rattle.std.specs.Cmp.Lexicographic.{pointwise}
 use Rattle.std.specs.Str.{bytes_eq}

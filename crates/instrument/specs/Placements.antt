@@ -20,8 +20,8 @@ use Rattle.instrument.specs.declared.number.State.{State}
 use Rattle.instrument.specs.declared.number.State.TheVariants.{Placing, Armed, Leaving, Gone}
 use Rattle.instrument.specs.declared.room.Room.{Room}
 
--- The program's words and the number of instruments that are allowed at once, which stay; the book; the instruments that aren't
--- gone, by number; and how many were admitted ever.
+-- The program's words and the number of instruments that are allowed at once, neither of which changes; the book; the instruments
+-- that aren't gone, by number; and how many were admitted so far.
 pub record Placements : Type 0 where
   pub program : Words
   pub limit : ℕ
@@ -32,7 +32,13 @@ pub record Placements : Type 0 where
 -- ---- the beginning
 
 abbrev pub no_placements : Image → ℕ → Placements
-no_placements image limit = record { program = program_of image; limit = limit; book = record { rooms = []; agenda = [] }; instruments = []; count = 0 }
+no_placements image limit = record {
+  program = program_of image;
+  limit = limit;
+  book = record { rooms = []; agenda = [] };
+  instruments = [];
+  count = 0;
+}
 
 -- ---- instruments
 
@@ -46,7 +52,7 @@ is_leaving Gone = true
 abbrev pub is_mini_room_of : ℕ → Room → Bool
 is_mini_room_of n x = not x.base && (x.owner == n)
 
--- so it is, and its unlinking wasn't asked for
+-- the same, and its unlinking wasn't asked for
 abbrev pub is_site_of : ℕ → Room → Bool
 is_site_of n x = not x.base && ((x.owner == n) && is_held x.hold)
 
@@ -87,7 +93,11 @@ with_instrument plan slot (Err refused) p = Err refused
 with_instrument plan slot (Ok book) p =
     Ok (record p {
       book = book;
-      instruments = p.instruments ++ record { no = p.count; placed = record { vars = plan.vars; slots = slots_from slot plan.vars; sites = sites_of p.count book.rooms; opens = plan.opens }; state = Placing } ∷ [];
+      instruments = p.instruments ++ record {
+        no = p.count;
+        placed = record { vars = plan.vars; slots = slots_from slot plan.vars; sites = sites_of p.count book.rooms; opens = plan.opens };
+        state = Placing;
+      } ∷ [];
       count = p.count + 1;
     })
 

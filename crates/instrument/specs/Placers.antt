@@ -1,4 +1,4 @@
--- The placements with the memory that they have: so many entries of the agenda can be put in beside those that drops need, and the
+-- The placements with the memory that they have: how many entries of the agenda can be put in beside those that drops need, and the
 -- needs of plans whose admissions take no more memory.
 use Rattle.std.specs.Prelude.{◌≡◌, ℕ, ◌+◌, ◌-◌, ◌*◌, ◌<◌, ◌≤◌, ◌^◌, false, List, [], length}
 use Rattle.machine.specs.Cores.{In}
@@ -27,7 +27,7 @@ placer_data text roster limit count ready = record {
   ready = ready;
 }
 
--- there is memory, and there are numbers, for the admission of so many plans with so many sites
+-- there is memory, and there are numbers, for the admission of `plans` plans that have `sites` sites together
 pub record HasMemory (text : ToolTextData) (roster : RosterData) (count sites plans : ℕ) : Type 0 where
   pub rooms : 2 * sites ≤ text.spare_rooms
   pub takes : 2 * sites ≤ text.takes

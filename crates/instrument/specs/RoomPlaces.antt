@@ -41,7 +41,7 @@ pub record AreEntries (points addresses owners : Entries) : Type 0 where
 
 -- ---- the rooms
 
--- in the order of their taking, none where one was given back; and for how many more there is memory
+-- what each place has, in the order of taking: none where a room was given back; and for how many more rooms there is memory
 pub record RoomPlaces : Type 0 where
   pub places : List (Option Room)
   pub spare : ℕ

@@ -37,10 +37,10 @@ pub data Act : Type 0 where
   Drops : (n : ℕ) → Act
   -- the first entry of the agenda is handed out and done; a Free that a hart bars goes to the back
   Hands : Act
-  -- the first Free that no unlinking of its point stands before is done
+  -- the first Free before which no unlinking of its point stands is done
   Sweeps : Act
 
--- the events that were done, and the scene behind them
+-- the events that were done, and the scene after them
 pub record Told : Type 0 where
   pub events : List Event
   pub scene : Scene
@@ -55,7 +55,10 @@ plans_with plan (Err refused) plans = plans
 plans_with plan (Ok placer) plans = plans ++ plan ∷ []
 
 abbrev pub admits : Plan → Result Placements Refused → Scene → Told
-admits plan answer s = record { events = []; scene = record { core = s.core; placer = or_same s.placer answer; plans = plans_with plan answer s.plans } }
+admits plan answer s = record {
+  events = [];
+  scene = record { core = s.core; placer = or_same s.placer answer; plans = plans_with plan answer s.plans };
+}
 
 abbrev pub arms : Option Instrument → Scene → Told
 arms None s = told [] s.core s.placer s

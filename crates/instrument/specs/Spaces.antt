@@ -17,7 +17,7 @@ use Rattle.instrument.specs.declared.room.Room.{Room}
 
 -- ---- any things that take units
 
--- so many units from one on
+-- a number of units from one on
 pub record Span : Type 0 where
   pub at : ℕ
   pub len : ℕ
@@ -25,7 +25,7 @@ pub record Span : Type 0 where
 abbrev pub covers : {A : Type 0} → (A → Span) → ℕ → A → Bool
 covers span unit x = is_within (span x).at (span x).len unit
 
--- no unit is of both
+-- no unit belongs to both
 abbrev pub AreDistant : Span → Span → Type 0
 AreDistant s t = (unit : ℕ) → is_within s.at s.len unit ≡ true → is_within t.at t.len unit ≡ true → ⊥
 
@@ -87,14 +87,14 @@ pub record AreSlotsOf (space : Rooms) (instruments : List Instrument) : Type 0 w
 
 -- ---- the parts of a placer
 
--- The space is of the instruments' slots, the instruments are in order and can be armed, and there is memory for so many more.
+-- The space is that of the instruments' slots, the instruments are in order and can be armed, and there is memory for `room` more.
 pub record IsRoster (space : Rooms) (instruments : List Instrument) (len capacity room : ℕ) : Type 0 where
   pub slots : AreSlotsOf space instruments
   pub order : AreInOrder instruments
   pub armable : AreArmable instruments
   pub memory : len + room ≤ capacity
 
--- no word is of two rooms, and each room is whole
+-- no word belongs to two rooms, and each room is whole
 pub record AreDistinct (rooms : List Room) : Type 0 where
   pub apart : AllDistant words_of_room rooms
   pub whole : (x : Room) → In x rooms → IsWhole x
@@ -102,7 +102,8 @@ pub record AreDistinct (rooms : List Room) : Type 0 where
 -- the lowest room of a length was taken, by its address
 pub record IsRoomTaken (before after : Rooms) (at len : ℕ) : Type 0 where
   pub found : (program : Words) (rooms : List Room) → AreRoomsOf program before rooms → room_for program rooms len ≡ Some at
-  pub kept : (program : Words) (rooms : List Room) → AreRoomsOf program before rooms → (x : Room) → x.at ≡ at → x.len ≡ len → AreRoomsOf program after (rooms ++ x ∷ [])
+  pub kept : (program : Words) (rooms : List Room)
+      → AreRoomsOf program before rooms → (x : Room) → x.at ≡ at → x.len ≡ len → AreRoomsOf program after (rooms ++ x ∷ [])
   pub aligned : at % 4 ≡ 0
   pub high : at + 4 * len ≤ 4 * before.end
   pub takes : after.takes + 1 ≡ before.takes

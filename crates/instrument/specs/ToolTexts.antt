@@ -1,5 +1,5 @@
--- The program, the book, and the memory that the book has: for so many more rooms, so many takes of words, and so many more entries of
--- the agenda beside those that the dropping of each site needs.
+-- The program, the book, and the memory that the book has: for how many more rooms, how many takes of words, and how many more
+-- entries of the agenda beside those that the dropping of each site needs.
 use Rattle.std.specs.Prelude.{◌≡◌, ◌++◌, ℕ, ◌+◌, ◌-◌, ◌*◌, ◌≤◌, ◌&&◌, not, if◌then◌else◌, Bool, List, [], ◌∷◌}
 use Rattle.pn_types.specs.declared.image.Image.{Image}
 use Rattle.rv_mem.specs.Start.{program_of}
@@ -34,13 +34,19 @@ abbrev pub for_drops : List Room → ℕ
 for_drops rooms = 3 * held_minis rooms
 
 abbrev pub text_data : Words → LedgerData → Rooms → ToolTextData
-text_data program l words = record { program = program; book = l.book; spare_rooms = l.spare_rooms; takes = words.takes; entries = l.spare_entries - for_drops l.book.rooms }
+text_data program l words = record {
+  program = program;
+  book = l.book;
+  spare_rooms = l.spare_rooms;
+  takes = words.takes;
+  entries = l.spare_entries - for_drops l.book.rooms;
+}
 
 pub record IsToolText (program : Words) (l : LedgerData) (words : Rooms) : Type 0 where
   pub rooms : AreRoomsOf program words l.book.rooms
   pub entries : for_drops l.book.rooms ≤ l.spare_entries
 
--- the book has more behind what it had
+-- the new book is the old one with more at its end
 pub record IsGrown (before after : Book) : Type 0 where
   pub more_rooms : List Room
   pub more_entries : List Entry

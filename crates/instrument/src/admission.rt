@@ -1,4 +1,4 @@
-//! A plan is admitted.
+//! Admits a plan.
 
 ghost use Rattle.std.specs.Prelude.{◌≡◌, ◌+◌, ◌*◌, ◌<◌, ◌≤◌, ◌^◌, [], Ok, Err, IfErr, IfOk, OnOk, length};
 ghost use Rattle.machine.specs.Cores.{In};
@@ -17,7 +17,7 @@ use crate::slots::slots_from;
 use crate::tool_text::ToolText;
 use pn_types::{Placed, Plan, Seq};
 
-/// The cost in words is over the search's limit, if there is one.
+/// Returns whether the cost in words is above the search's limit, if there is one.
 pub fn is_over(limit: Option<u64>, cost: u64) -> bool
     ensures { result ≡ placements.is_over limit cost }
 {
@@ -27,7 +27,11 @@ pub fn is_over(limit: Option<u64>, cost: u64) -> bool
     }
 }
 
-/// Places the sites of a plan whose slots were found, from `first` on, with the memory of its kit, and answers the instrument.
+/// Places the sites of a plan whose slots were found, from `first` on, with the memory of its kit, and returns the instrument.
+///
+/// # Errors
+///
+/// Why the first site that is refused has no room. Then nothing was placed.
 pub fn place(
     text: &mut ToolText,
     number: InstrumentNo,
@@ -43,9 +47,20 @@ pub fn place(
     requires slots { first + admission.slot_count plan.now.vars < 2 ^ 32 }
     requires new { placements.sites_of number.n text.old.book.rooms ≡ [] }
     requires kit { kit ≡ need_of plan.now }
-    ensures ok { OnOk result (admission.with_sites text.old.program number.n (admission.slots_from first plan.now.vars) plan.now.sites text.old.book ≡ Ok text.new.book) }
-    ensures instrument { IfOk result (λ i. i ≡ record { no = number.n; placed = record { vars = plan.now.vars; slots = admission.slots_from first plan.now.vars; sites = placements.sites_of number.n text.new.book.rooms; opens = plan.now.opens }; state = Placing }) }
-    ensures refused { IfErr result (λ refused. admission.with_sites text.old.program number.n (admission.slots_from first plan.now.vars) plan.now.sites text.old.book ≡ Err refused) }
+    ensures ok { OnOk result (admission.with_sites text.old.program number.n
+        (admission.slots_from first plan.now.vars) plan.now.sites text.old.book ≡ Ok text.new.book) }
+    ensures instrument { IfOk result (λ i. i ≡ record {
+      no = number.n;
+      placed = record {
+        vars = plan.now.vars;
+        slots = admission.slots_from first plan.now.vars;
+        sites = placements.sites_of number.n text.new.book.rooms;
+        opens = plan.now.opens;
+      };
+      state = Placing;
+    }) }
+    ensures refused { IfErr result (λ refused. admission.with_sites text.old.program number.n
+        (admission.slots_from first plan.now.vars) plan.now.sites text.old.book ≡ Err refused) }
     ensures unchanged { IfErr result (λ refused. text.new.book ≡ text.old.book) }
     ensures program { text.new.program ≡ text.old.program }
     ensures rooms_left { text.old.spare_rooms ≤ text.new.spare_rooms + 2 * length plan.now.sites }

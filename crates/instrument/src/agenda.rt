@@ -1,3 +1,5 @@
+//! The agenda: what is to be done in the machine, in order.
+
 ghost use Rattle.std.specs.Prelude.{◌≡◌, ◌<◌, [], OnErr, OnOk, length, take};
 ghost use Rattle.instrument.specs.Agendas as lists;
 ghost use Rattle.instrument.specs.Books.{first_free};
@@ -31,7 +33,7 @@ impl Model for Agenda {
 }
 
 impl Agenda {
-    /// An agenda with no entries.
+    /// Makes an agenda with no entries.
     pub fn new(alloc: Global) -> Agenda
         ensures { result ≡ lists.no_entries }
     {
@@ -41,11 +43,11 @@ impl Agenda {
         }
     }
 
-    /// Takes the memory of at least `count` more entries.
+    /// Reserves memory for at least `count` more entries.
     ///
     /// # Errors
     ///
-    /// `NoMemory` where memory is wanting. Then nothing has changed.
+    /// `NoMemory` where memory runs out. Then nothing has changed.
     pub fn reserve(&mut self, count: usize) -> Result<(), NoMemory>
         ensures ok { OnOk result (self.new ≡ lists.with_room count self.old) }
         ensures err { OnErr result (self.new ≡ self.old) }
@@ -56,7 +58,7 @@ impl Agenda {
         Ok(())
     }
 
-    /// Puts an entry at the back.
+    /// Appends an entry.
     pub fn push(&mut self, entry: Entry)
         requires { 0 < self.old.room }
         ensures { self.new ≡ lists.with_entry entry self.old }
@@ -65,21 +67,21 @@ impl Agenda {
         self.room -= 1;
     }
 
-    /// How many entries there are.
+    /// Returns how many entries there are.
     pub fn len(&self) -> usize
         ensures { result ≡ length self.now.entries }
     {
         self.entries.len()
     }
 
-    /// Keeps so many entries from the front, and no others.
+    /// Keeps the first `len` entries, and no others.
     pub fn truncate(&mut self, len: usize)
         ensures { self.new ≡ record self.old { entries = take len self.old.entries } }
     {
         self.entries.truncate(len);
     }
 
-    /// Takes the first entry.
+    /// Removes the first entry and returns it.
     pub fn take_first(&mut self) -> Option<Entry>
         ensures entry { result ≡ first_of self.old.entries }
         ensures taken { self.new ≡ lists.without_first self.old }
@@ -88,13 +90,14 @@ impl Agenda {
         self.room += 1;
         Some(entry)
     }
-    /// Takes the first Free before which no unlinking of its point stands, and answers its point.
+
+    /// Removes the first Free before which no unlinking of its point stands, and returns its point.
     pub fn take_free(&mut self) -> Option<u64>
         ensures point { result ≡ point_in (first_free [] self.old.entries) }
         ensures taken { self.new ≡ lists.without_free self.old }
     {
         let FreeAt { place, point } = find_free(&self.entries)?;
-        let _free = self.entries.remove(place);
+        self.entries.remove(place);
         self.room += 1;
         Some(point)
     }

@@ -15,8 +15,8 @@ use relocate::move_word;
 use tramp_build::{base_block, mini_block};
 use tramp_spec::{Block, MarkedWord, Moved};
 
-/// The base block of a point at a room, out of the moved words of the program's word, which were moved to where they stand in
-/// the block. `words` gives the memory.
+/// Returns the base block of a point at a room, made of the moved words of the program's word. These were moved to where they stand
+/// in the block. `words` gives the memory.
 pub fn build_base(point: u64, at: u64, moved: &Moved, words: Vec<MarkedWord>) -> Block
     requires empty { words.items ≡ [] }
     requires room { 7 ≤ vec_capacity words }
@@ -26,7 +26,7 @@ pub fn build_base(point: u64, at: u64, moved: &Moved, words: Vec<MarkedWord>) ->
     base_block(point, at, moved, words)
 }
 
-/// The base block of a point at a room, of the program's word: None where the word can't be moved there.
+/// Returns the base block of a point at a room, made of the program's word: None where the word can't be moved there.
 pub fn move_base(point: u64, word: u32, at: u64, words: Vec<MarkedWord>) -> Option<Block>
     requires empty { words.items ≡ [] }
     requires room { 7 ≤ vec_capacity words }
@@ -40,7 +40,8 @@ pub fn move_base(point: u64, word: u32, at: u64, words: Vec<MarkedWord>) -> Opti
     }
 }
 
-/// The mini block of a site at a room, on these slots. `words` gives the memory. Where it leads on to is set when it is written.
+/// Returns the mini block of a site at a room, on these slots. `words` gives the memory. Where it leads on to is set when it is
+/// written.
 pub fn build_mini(site: &Site, slots: &[u32], at: u64, words: Vec<MarkedWord>) -> Block
     requires empty { words.items ≡ [] }
     requires room { word_count site.now.stmts < vec_capacity words }

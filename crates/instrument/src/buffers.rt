@@ -1,3 +1,5 @@
+//! The memory for the words of a site's blocks.
+
 ghost use Rattle.std.specs.Prelude.{◌≡◌, IfOk};
 
 use pn_types::NoMemory;
@@ -5,12 +7,12 @@ use std::alloc::Global;
 use std::marker::Model;
 use tramp_spec::MarkedWord;
 
-/// The memory of the words of a site's blocks: of a mini block of so many words, which contracts see, and of any base block.
+/// The memory for the words of a site's blocks: those of a base block, and those of a mini block, whose number contracts see.
 #[derive(Drop)]
 pub struct Buffers {
-    /// That of the base block, which has seven words at most.
+    /// The memory for the base block, which has seven words at most.
     pub base: Vec<MarkedWord>,
-    /// That of the mini block.
+    /// The memory for the mini block.
     pub mini: Vec<MarkedWord>,
     /// How many words the mini block has.
     pub words: u32,
@@ -28,11 +30,11 @@ impl Model for Buffers {
 }
 
 impl Buffers {
-    /// Takes the memory for a mini block of so many words.
+    /// Takes the memory for a mini block of `words` words, and for a base block.
     ///
     /// # Errors
     ///
-    /// `NoMemory` where memory is wanting.
+    /// `NoMemory` where memory runs out.
     pub fn new(alloc: Global, words: u32) -> Result<Buffers, NoMemory>
         ensures { IfOk result (λ buffers. buffers ≡ words) }
     {
@@ -43,7 +45,7 @@ impl Buffers {
         })
     }
 
-    /// How many words the mini block has.
+    /// Returns how many words the mini block has.
     pub fn words(&self) -> u32
         ensures { result ≡ self.now }
     {

@@ -7,7 +7,7 @@ ghost use Rattle.instrument.specs.Admission as table;
 use pn_types::Var;
 use relocate::moved_len;
 
-/// How many slots a plan's variables have: a counter one, a timer two.
+/// Returns how many slots a plan's variables have: a counter one, a timer two.
 pub fn slot_count(vars: &[Var]) -> u32
     requires { table.slot_count vars.now < 2 ^ 32 }
     ensures { result ≡ table.slot_count vars.now }
@@ -19,7 +19,7 @@ pub fn slot_count(vars: &[Var]) -> u32
     slots
 }
 
-/// How many words the base block of a word has.
+/// Returns how many words the base block of a word has.
 pub fn base_len(word: u32) -> u32
     ensures len { result ≡ table.base_len word }
     ensures short { result < 8 }
@@ -27,8 +27,8 @@ pub fn base_len(word: u32) -> u32
     3 + moved_len(word)
 }
 
-/// How many entries of the agenda are enough to place so many sites, and to drop them and all that have one of so many rooms: four to
-/// place a site, and three to drop it. None where they are more than can be counted.
+/// Returns how many entries of the agenda are enough to place `sites` sites, and to drop them and the sites of `rooms` rooms: four
+/// to place a site, and three to drop it. None where they are more than can be counted.
 pub fn entries_for(rooms: usize, sites: usize) -> Option<usize>
     ensures { IfSome result (λ entries. entries ≡ 3 * rooms + 7 * sites) }
 {
@@ -36,8 +36,8 @@ pub fn entries_for(rooms: usize, sites: usize) -> Option<usize>
     drops.checked_add(sites.checked_mul(7)?)
 }
 
-/// How many takes of a space are needed for so many sites or instruments: two each. None where they are more than a space can
-/// reserve.
+/// Returns how many takes of a space are needed for `count` sites or instruments: two each. None where they are more than a space
+/// can reserve.
 pub fn takes_for(count: usize) -> Option<u32>
     ensures { IfSome result (λ takes. takes ≡ 2 * count) }
 {

@@ -1,4 +1,4 @@
-//! The sites of an instrument are dropped.
+//! Drops the sites of instruments.
 
 ghost use Rattle.std.specs.Prelude.{◌≡◌, ◌+◌, ◌≤◌, filter};
 ghost use Rattle.bucket_chains.specs.Left.{left};
@@ -37,7 +37,8 @@ fn drop_site(rooms: &mut Rooms, agenda: &mut Agenda, room: Room)
 pub fn drop_sites(rooms: &mut Rooms, agenda: &mut Agenda, owner: u64)
     requires distinct { AreDistinct (left rooms.old.places) }
     requires entries { for_drops (left rooms.old.places) ≤ agenda.old.room }
-    ensures book { book_of rooms.new agenda.new ≡ without_sites (filter (is_site_of owner) (left rooms.old.places)) (book_of rooms.old agenda.old) }
+    ensures book { book_of rooms.new agenda.new
+        ≡ without_sites (filter (is_site_of owner) (left rooms.old.places)) (book_of rooms.old agenda.old) }
     ensures distinct { AreDistinct (left rooms.new.places) }
     ensures spare { rooms.new.spare ≡ rooms.old.spare }
     ensures entries { agenda.old.room + for_drops (left rooms.new.places) ≤ agenda.new.room + for_drops (left rooms.old.places) }

@@ -1,3 +1,5 @@
+//! The entries of the agenda.
+
 ghost use Rattle.std.specs.Prelude.{◌≡◌};
 ghost use Rattle.instrument.specs.Books as books;
 
@@ -46,7 +48,7 @@ pub enum Entry {
 }
 
 impl Entry {
-    /// The point of a Free.
+    /// Returns the point of a Free.
     pub fn freed_point(&self) -> Option<u64>
         ensures { result ≡ books.freed_point self.now }
     {
@@ -56,7 +58,7 @@ impl Entry {
         }
     }
 
-    /// It unlinks the point, or a mini block there.
+    /// Returns whether it unlinks the point, or a mini block there.
     pub fn unlinks(&self, of: u64) -> bool
         ensures { result ≡ books.unlinks of self.now }
     {

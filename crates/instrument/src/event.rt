@@ -1,3 +1,5 @@
+//! The events that the agenda hands out.
+
 ghost use Rattle.std.specs.Prelude.{◌≡◌};
 ghost use Rattle.instrument.specs.Shown.{point_of, shown};
 
@@ -43,7 +45,7 @@ pub enum Event {
 }
 
 impl Event {
-    /// The event of an entry of the agenda.
+    /// Returns the event of an entry of the agenda.
     pub fn of(entry: Entry) -> Event
         ensures { result ≡ shown entry }
     {
@@ -58,7 +60,7 @@ impl Event {
         }
     }
 
-    /// The point at which it is done.
+    /// Returns the point at which it is done.
     pub fn point(&self) -> u64
         ensures { result ≡ point_of self.now }
     {

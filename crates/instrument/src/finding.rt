@@ -1,4 +1,4 @@
-//! An instrument is found by its number: the listed ones stand in the order of theirs.
+//! Finds an instrument by its number: the list is in the order of the numbers.
 
 ghost use Rattle.std.specs.Prelude.{◌≡◌, ◌==◌, ◌<◌, ◌+◌, ◌++◌, IfNone, IfSome, Some, drop, filter, find, length, map, slice_get, take};
 ghost use Rattle.std.specs.Option.{option_copied, option_map};
@@ -11,7 +11,7 @@ ghost use Rattle.instrument.specs.declared.instrument.Instrument.{Instrument};
 use crate::instrument::Instrument;
 use crate::number::{InstrumentNo, State};
 
-/// The place of the instrument of a number.
+/// Returns the place of the instrument of a number.
 fn place_of(instruments: &[Instrument], number: InstrumentNo) -> Option<usize>
     requires { AreInOrder instruments.now }
     ensures within { IfSome result (λ place. place < length instruments.now) }
@@ -23,7 +23,7 @@ fn place_of(instruments: &[Instrument], number: InstrumentNo) -> Option<usize>
         .ok()
 }
 
-/// The instrument of a number.
+/// Returns the instrument of a number.
 pub fn find_instrument(instruments: &[Instrument], number: InstrumentNo) -> Option<&Instrument>
     requires { AreInOrder instruments.now }
     ensures { option_copied result ≡ find (λ i. i.no == number.n) instruments.now }
@@ -32,7 +32,7 @@ pub fn find_instrument(instruments: &[Instrument], number: InstrumentNo) -> Opti
     Some(&instruments[place])
 }
 
-/// The instrument of a number is in a state from now on.
+/// Sets the state of the instrument of a number.
 pub fn set_state(instruments: &mut [Instrument], number: InstrumentNo, state: State)
     requires { AreInOrder instruments.old }
     ensures { instruments.new ≡ map (placements.with_state number.n state) instruments.old }
@@ -42,11 +42,12 @@ pub fn set_state(instruments: &mut [Instrument], number: InstrumentNo, state: St
     }
 }
 
-/// The place of the instrument of a number, if it was dropped.
+/// Returns the place of the instrument of a number, if it was dropped.
 pub fn place_of_dropped(instruments: &[Instrument], number: InstrumentNo) -> Option<usize>
     requires { AreInOrder instruments.now }
     ensures within { IfSome result (λ place. place < length instruments.now) }
-    ensures some { IfSome result (λ place. take place instruments.now ++ drop (place + 1) instruments.now ≡ filter (is_kept number.n) instruments.now) }
+    ensures some { IfSome result
+        (λ place. take place instruments.now ++ drop (place + 1) instruments.now ≡ filter (is_kept number.n) instruments.now) }
     ensures none { IfNone result (instruments.now ≡ filter (is_kept number.n) instruments.now) }
 {
     let place = place_of(instruments, number)?;

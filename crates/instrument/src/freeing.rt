@@ -18,7 +18,7 @@ pub struct FreeAt {
     pub point: u64,
 }
 
-/// An entry before a place unlinks the point. The nearest entries are asked first.
+/// Returns whether an entry before a place unlinks the point. The nearest entries are asked first.
 pub fn is_unlinked_before(entries: &VecDeque<Entry>, place: usize, point: u64) -> bool
     requires { place ≤ length entries.now.items }
     ensures { result ≡ list_any (unlinks point) (take place entries.now.items) }
@@ -33,7 +33,7 @@ pub fn is_unlinked_before(entries: &VecDeque<Entry>, place: usize, point: u64) -
     false
 }
 
-/// The point of the entry at a place, if it is a Free and none before it unlinks the point.
+/// Returns the point of the entry at a place, if it is a Free and none before it unlinks the point.
 pub fn free_at(entries: &VecDeque<Entry>, place: usize) -> Option<u64>
     requires { place < length entries.now.items }
     ensures { result ≡ free_entry (slice_get entries.now.items place) (take place entries.now.items) }
@@ -46,7 +46,7 @@ pub fn free_at(entries: &VecDeque<Entry>, place: usize) -> Option<u64>
     }
 }
 
-/// The first Free before which no unlinking of its point stands.
+/// Returns the first Free before which no unlinking of its point stands.
 pub fn find_free(entries: &VecDeque<Entry>) -> Option<FreeAt>
     ensures none { IfNone result (first_free [] entries.now.items ≡ None) }
     ensures within { IfSome result (λ found. found.place < length entries.now.items) }

@@ -1,4 +1,4 @@
-//! Rooms are given back.
+//! Gives rooms back.
 
 ghost use Rattle.std.specs.Prelude.{◌≡◌, ◌≤◌, length, take};
 ghost use Rattle.bucket_chains.specs.Left.{left};
@@ -8,13 +8,14 @@ ghost use Rattle.instrument.specs.Spaces.{AreRoomsOf};
 use crate::room_list::Rooms;
 use tool_space::Space;
 
-/// Gives back the rooms behind so many.
+/// Gives back all rooms but the first `count`.
 pub fn give_behind(words: &mut Space, rooms: &mut Rooms, count: usize)
     requires tied { (program : Words) × AreRoomsOf program words.old (left rooms.old.places) }
     requires within { count ≤ length (left rooms.old.places) }
     ensures rooms { left rooms.new.places ≡ take count (left rooms.old.places) }
     ensures spare { rooms.new.spare ≡ rooms.old.spare }
-    ensures tied { (program : Words) → AreRoomsOf program words.old (left rooms.old.places) → AreRoomsOf program words.new (left rooms.new.places) }
+    ensures tied { (program : Words)
+        → AreRoomsOf program words.old (left rooms.old.places) → AreRoomsOf program words.new (left rooms.new.places) }
     ensures takes { words.new.takes ≡ words.old.takes }
 {
     let mut place = rooms.places();

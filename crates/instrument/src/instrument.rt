@@ -1,3 +1,5 @@
+//! An instrument that isn't gone.
+
 use crate::number::State;
 use pn_types::Placed;
 
@@ -8,6 +10,6 @@ pub struct Instrument {
     pub no: u64,
     /// Where it acts.
     pub placed: Placed,
-    /// Where it is on its way.
+    /// How far it has come.
     pub state: State,
 }

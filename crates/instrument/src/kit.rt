@@ -12,7 +12,7 @@ use pn_types::{NoMemory, Open, Plan, Seq, Var};
 use std::alloc::Global;
 use std::marker::Model;
 
-/// Whether two variables are the same.
+/// Returns whether two variables are the same.
 fn is_var(one: &Var, other: &Var) -> bool
     ensures { result ≡ needs.is_var one.now other.now }
 {
@@ -21,7 +21,7 @@ fn is_var(one: &Var, other: &Var) -> bool
         && one.initially == other.initially
 }
 
-/// Whether variables are the same.
+/// Returns whether variables are the same.
 fn are_vars(ones: &[Var], others: &[Var]) -> bool
     ensures { result ≡ pointwise needs.is_var ones.now others.now }
 {
@@ -66,7 +66,7 @@ impl Kit {
     ///
     /// # Errors
     ///
-    /// `NoMemory` where memory is wanting.
+    /// `NoMemory` where memory runs out.
     pub fn new(alloc: Global, plan: &Plan) -> Result<Kit, NoMemory>
         requires { counts.predicted plan.now < 2 ^ 32 }
         ensures { IfOk result (λ kit. kit ≡ needs.need_of plan.now) }
@@ -80,14 +80,14 @@ impl Kit {
         })
     }
 
-    /// How many sites it is for.
+    /// Returns for how many sites it is.
     pub fn sites(&self) -> usize
         ensures { result ≡ length self.now.words }
     {
         self.sites.len()
     }
 
-    /// It meets the need of the plan.
+    /// Returns whether it meets the need of the plan.
     pub fn is_for(&self, plan: &Plan) -> bool
         requires { counts.predicted plan.now < 2 ^ 32 }
         ensures { result ≡ needs.is_need (needs.need_of plan.now) self.now }

@@ -10,7 +10,7 @@ use crate::kit::Kit;
 use pn_types::{NoMemory, Plan};
 use std::alloc::Global;
 
-/// How many sites the kits are for. None where they are more than can be counted.
+/// Returns how many sites the kits are for. None where they are more than can be counted.
 pub fn sites_in(kits: &[Kit]) -> Option<usize>
     ensures { IfSome result (λ sites. sites ≡ sites_in kits.now) }
 {
@@ -25,7 +25,7 @@ pub fn sites_in(kits: &[Kit]) -> Option<usize>
 ///
 /// # Errors
 ///
-/// `NoMemory` where memory is wanting.
+/// `NoMemory` where memory runs out.
 pub fn kits_for(alloc: Global, plans: &[Plan]) -> Result<Vec<Kit>, NoMemory>
     requires { (p : Plan) → In p plans.now → predicted p < 2 ^ 32 }
     ensures { IfOk result (λ kits. kits.items ≡ map need_of plans.now) }
@@ -37,7 +37,7 @@ pub fn kits_for(alloc: Global, plans: &[Plan]) -> Result<Vec<Kit>, NoMemory>
     Ok(kits)
 }
 
-/// The place of the first kit for the plan.
+/// Returns the place of the first kit for the plan.
 fn find_kit(kits: &[Kit], plan: &Plan) -> Option<usize>
     requires { predicted plan.now < 2 ^ 32 }
     ensures within { IfSome result (λ place. place < length kits.now) }
@@ -53,7 +53,7 @@ fn find_kit(kits: &[Kit], plan: &Plan) -> Option<usize>
     None
 }
 
-/// Takes out the first kit for the plan.
+/// Removes the first kit for the plan and returns it, if there is one.
 pub fn take_kit(kits: &mut Vec<Kit>, plan: &Plan) -> Option<Kit>
     requires { predicted plan.now < 2 ^ 32 }
     ensures kits { kits.new.items ≡ without (need_of plan.now) kits.old.items }

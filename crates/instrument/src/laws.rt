@@ -11,7 +11,7 @@ pub fn acts_are_legal()
     ensures { Always IsLegal }
 {}
 
-/// Behind any such list no two rooms of blocks that weren't given back share a word, and no two instruments that aren't gone
+/// After any list of acts no two rooms of blocks that weren't given back share a word, and no two instruments that aren't gone
 /// share a slot.
 pub fn rooms_and_slots_apart()
     ensures { Always IsApart }
@@ -38,7 +38,7 @@ pub fn admissions_tell()
     ensures { AdmissionsTell }
 {}
 
-/// Two instruments at one point come and go, and a third comes behind them: the rooms and the agenda.
+/// Two instruments at one point come and go, and a third comes after them: the rooms and the agenda.
 pub fn comes_and_goes()
     ensures { ComesAndGoes }
 {}

@@ -1,4 +1,4 @@
-//! An instrument that was dropped is gone with its last room.
+//! An instrument that was dropped is gone when its last room is given back.
 
 ghost use Rattle.std.specs.Prelude.{◌≡◌, ◌≤◌, filter};
 ghost use Rattle.instrument.specs.Books as books;
@@ -9,7 +9,7 @@ use crate::number::InstrumentNo;
 use crate::roster::Roster;
 use crate::tool_text::ToolText;
 
-/// The instrument of a number is gone if it was dropped and none of its mini blocks has a room.
+/// Removes the instrument of a number if it was dropped and none of its mini blocks has a room.
 pub fn settle(text: &ToolText, roster: &mut Roster, number: InstrumentNo)
     ensures { roster.new ≡ record roster.old { instruments = filter (is_settled text.now.book.rooms number.n) roster.old.instruments } }
 {
@@ -18,7 +18,7 @@ pub fn settle(text: &ToolText, roster: &mut Roster, number: InstrumentNo)
     }
 }
 
-/// Gives back the rooms of the unlinked blocks of a point. The instruments that were dropped go with their last rooms.
+/// Gives back the rooms of the unlinked blocks of a point. An instrument that was dropped is removed with its last room.
 pub fn free(text: &mut ToolText, roster: &mut Roster, point: u64)
     requires { AreHere text.old.book.rooms roster.old.instruments }
     ensures program { text.new.program ≡ text.old.program }
@@ -26,7 +26,10 @@ pub fn free(text: &mut ToolText, roster: &mut Roster, point: u64)
     ensures spare { text.new.spare_rooms ≡ text.old.spare_rooms }
     ensures takes { text.new.takes ≡ text.old.takes }
     ensures entries { text.old.entries ≤ text.new.entries }
-    ensures roster { roster.new ≡ record roster.old { instruments = filter (placements.is_here (filter (books.stays point) text.old.book.rooms)) roster.old.instruments } }
+    ensures roster { roster.new ≡ record roster.old {
+      instruments = filter
+          (placements.is_here (filter (books.stays point) text.old.book.rooms)) roster.old.instruments;
+    } }
 {
     while let Some(room) = text.take_unlinked(point) {
         if !room.base {

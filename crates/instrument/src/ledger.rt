@@ -1,3 +1,5 @@
+//! The rooms that were taken and not given back, and the agenda.
+
 ghost use Rattle.std.specs.Prelude.{◌≡◌, ◌+◌, ◌<◌, ◌≤◌, [], ◌∷◌, ◌++◌, ◌^◌, None, IfNone, IfOk, IfSome, OnOk, filter, find, length, take, vec_capacity};
 ghost use Rattle.std.specs.List.{list_any};
 ghost use Rattle.rv_word.specs.Plain.{Words};
@@ -44,11 +46,11 @@ impl Model for Ledger {
 }
 
 impl Ledger {
-    /// A ledger with no rooms and no entries.
+    /// Makes a ledger with no rooms and no entries.
     ///
     /// # Errors
     ///
-    /// `NoMemory` where memory is wanting.
+    /// `NoMemory` where memory runs out.
     pub fn new(alloc: Global) -> Result<Ledger, NoMemory>
         ensures { IfOk result (λ ledger. ledger ≡ ledgers.no_ledger) }
     {
@@ -58,11 +60,11 @@ impl Ledger {
         })
     }
 
-    /// Takes the memory of at least so many more rooms and entries.
+    /// Reserves memory for at least `rooms` more rooms and `entries` more entries.
     ///
     /// # Errors
     ///
-    /// `NoMemory` where memory is wanting. Then the book has not changed, and no memory is lost.
+    /// `NoMemory` where memory runs out. Then the book has not changed, and no memory is lost.
     pub fn reserve(&mut self, rooms: usize, entries: usize) -> Result<(), NoMemory>
         ensures ok { OnOk result (self.new ≡ ledgers.with_spare rooms entries self.old) }
         ensures book { self.new.book ≡ self.old.book }
@@ -73,28 +75,28 @@ impl Ledger {
         self.agenda.reserve(entries)
     }
 
-    /// How many rooms there are.
+    /// Returns how many rooms there are.
     pub fn count(&self) -> usize
         ensures { result ≡ length self.now.book.rooms }
     {
         self.rooms.count()
     }
 
-    /// The room of the base block of a point whose unlinking wasn't asked for.
+    /// Returns the room of the base block of a point whose unlinking wasn't asked for.
     pub fn find_base(&self, point: u64) -> Option<Room>
         ensures { result ≡ find (books.is_base_of point) self.now.book.rooms }
     {
         self.rooms.find_base(point)
     }
 
-    /// Whether a mini block of an instrument has a room.
+    /// Returns whether a mini block of an instrument has a room.
     pub fn has_room_of(&self, owner: u64) -> bool
         ensures { result ≡ list_any (is_mini_room_of owner) self.now.book.rooms }
     {
         self.rooms.has_mini_of(owner)
     }
 
-    /// The sites of an instrument, by its rooms. `sites` gives the memory.
+    /// Returns the sites of an instrument, by its rooms. `sites` gives the memory.
     pub fn sites_of(&self, sites: Vec<PlacedSite>, owner: u64) -> Vec<PlacedSite>
         requires empty { sites.items ≡ [] }
         requires room { length (placements.sites_of owner self.now.book.rooms) ≤ vec_capacity sites }
@@ -103,14 +105,14 @@ impl Ledger {
         self.rooms.sites_of(sites, owner)
     }
 
-    /// How many entries the agenda has.
+    /// Returns how many entries the agenda has.
     pub fn entries(&self) -> usize
         ensures { result ≡ length self.now.book.agenda }
     {
         self.agenda.len()
     }
 
-    /// Keeps so many rooms and entries from the front, and no others: the other rooms are given back.
+    /// Keeps the first `rooms` rooms and the first `entries` entries, and no others: the other rooms are given back.
     pub fn truncate(&mut self, words: &mut Space, rooms: usize, entries: usize)
         requires tied { (program : Words) × AreRoomsOf program words.old self.old.book.rooms }
         requires within { rooms ≤ length self.old.book.rooms }
@@ -118,7 +120,8 @@ impl Ledger {
         ensures agenda { self.new.book.agenda ≡ take entries self.old.book.agenda }
         ensures spare { self.new.spare_rooms ≡ self.old.spare_rooms }
         ensures entries { self.new.spare_entries ≡ self.old.spare_entries }
-        ensures tied { (program : Words) → AreRoomsOf program words.old self.old.book.rooms → AreRoomsOf program words.new self.new.book.rooms }
+        ensures tied { (program : Words)
+            → AreRoomsOf program words.old self.old.book.rooms → AreRoomsOf program words.new self.new.book.rooms }
         ensures takes { words.new.takes ≡ words.old.takes }
     {
         give_behind(words, &mut self.rooms, rooms);
@@ -130,7 +133,8 @@ impl Ledger {
         ensures entry { result ≡ first_of self.old.book.agenda }
         ensures book { self.new.book ≡ behind_first self.old.book.agenda self.old.book }
         ensures spare { self.new.spare_rooms ≡ self.old.spare_rooms }
-        ensures entries { self.new.spare_entries ≡ (lists.without_first (record { entries = self.old.book.agenda; room = self.old.spare_entries })).room }
+        ensures entries { self.new.spare_entries
+            ≡ (lists.without_first (record { entries = self.old.book.agenda; room = self.old.spare_entries })).room }
     {
         let entry = self.agenda.take_first()?;
         if let Entry::UnlinkMini { at, .. } | Entry::UnlinkPoint { at, .. } = &entry {
@@ -139,7 +143,7 @@ impl Ledger {
         Some(entry)
     }
 
-    /// Takes out the first room of a point whose block was unlinked.
+    /// Removes the first room of a point whose block was unlinked, and returns it.
     pub fn take_unlinked(&mut self, point: u64) -> Option<Room>
         ensures none { IfNone result (AllStay point self.old.book.rooms) }
         ensures same { IfNone result (self.new ≡ self.old) }
@@ -151,18 +155,19 @@ impl Ledger {
         self.rooms.take_unlinked(point)
     }
 
-    /// Takes out the first Free before which no unlinking of its point stands, and answers its point.
+    /// Removes the first Free before which no unlinking of its point stands, and returns its point.
     pub fn take_free(&mut self) -> Option<u64>
         ensures point { result ≡ point_in (books.first_free [] self.old.book.agenda) }
         ensures rooms { self.new.book.rooms ≡ self.old.book.rooms }
         ensures agenda { self.new.book.agenda ≡ agenda_in (books.first_free [] self.old.book.agenda) self.old.book.agenda }
         ensures spare { self.new.spare_rooms ≡ self.old.spare_rooms }
-        ensures entries { self.new.spare_entries ≡ (lists.without_free (record { entries = self.old.book.agenda; room = self.old.spare_entries })).room }
+        ensures entries { self.new.spare_entries
+            ≡ (lists.without_free (record { entries = self.old.book.agenda; room = self.old.spare_entries })).room }
     {
         self.agenda.take_free()
     }
 
-    /// Puts a refused Free at the back.
+    /// Puts a refused Free at the back of the agenda.
     pub fn put_back(&mut self, point: u64)
         requires { 0 < self.old.spare_entries }
         ensures rooms { self.new.book.rooms ≡ self.old.book.rooms }
@@ -185,7 +190,7 @@ impl Ledger {
         drop_sites(&mut self.rooms, &mut self.agenda, owner);
     }
 
-    /// Takes a room behind the others.
+    /// Appends a room.
     fn take_room(&mut self, room: Room)
         requires { 0 < self.old.spare_rooms }
         ensures rooms { self.new.book.rooms ≡ self.old.book.rooms ++ room ∷ [] }

@@ -31,6 +31,7 @@ mod room_list;
 mod room_search;
 mod roster;
 mod site_memory;
+mod site_placing;
 mod slots;
 mod tool_text;
 

@@ -12,11 +12,11 @@ use crate::tool_text::ToolText;
 use pn_types::{NoMemory, Plan};
 use std::alloc::{AllocError, Global};
 
-/// Takes the memory for the admission of so many plans, where `count` were admitted, with so many sites.
+/// Reserves memory for the admission of `plans` plans that have `sites` sites together, where `count` plans were admitted before.
 ///
 /// # Errors
 ///
-/// `NoMemory` where memory or numbers are wanting.
+/// `NoMemory` where memory or numbers run out.
 pub fn take_memory(
     text: &mut ToolText,
     roster: &mut Roster,
@@ -37,18 +37,18 @@ pub fn take_memory(
     roster.reserve(plans)
 }
 
-/// How many sites the kits are for, and so many more. None where they are more than can be counted.
+/// Returns how many sites the kits are for, and `more` beside them. None where they are more than can be counted.
 fn sites_with(kits: &[Kit], more: usize) -> Option<usize>
     ensures { IfSome result (λ sites. sites ≡ sites_in kits.now + more) }
 {
     sites_in(kits)?.checked_add(more)
 }
 
-/// A new kit for a plan, with the memory for its admission beside those of the kits.
+/// Makes a kit for a plan, with memory for its admission beside those of the kits.
 ///
 /// # Errors
 ///
-/// `NoMemory` where memory or numbers are wanting.
+/// `NoMemory` where memory or numbers run out.
 fn new_kit(
     alloc: Global,
     text: &mut ToolText,
@@ -73,11 +73,11 @@ fn new_kit(
     Ok(kit)
 }
 
-/// The kit for a plan beside other kits: `kit`, which has the memory, or a new one.
+/// Returns the kit for a plan: `kit`, which has the memory, if it is there, and else a new one, beside the other kits.
 ///
 /// # Errors
 ///
-/// `NoMemory` where memory or numbers are wanting for a new one.
+/// `NoMemory` where a new one is needed, and memory or numbers run out.
 pub fn kit_for(
     alloc: Global,
     text: &mut ToolText,
@@ -89,7 +89,8 @@ pub fn kit_for(
 ) -> Result<Kit, NoMemory>
     requires words { predicted plan.now < 2 ^ 32 }
     requires kit { IfSome kit (λ kit. kit ≡ need_of plan.now) }
-    requires memory { IfSome kit (λ kit. HasMemory text.old roster.old count (sites_in kits.now + length plan.now.sites) (length kits.now + 1)) }
+    requires memory { IfSome kit
+        (λ kit. HasMemory text.old roster.old count (sites_in kits.now + length plan.now.sites) (length kits.now + 1)) }
     ensures kit { IfOk result (λ kit. kit ≡ need_of plan.now) }
     ensures memory { OnOk result (HasMemory text.new roster.new count (sites_in kits.now + length plan.now.sites) (length kits.now + 1)) }
     ensures ready { IsSome kit → IsOk result }

@@ -1,3 +1,5 @@
+//! Numbers of instruments, how far they have come, and why a plan is refused.
+
 ghost use Rattle.std.specs.Prelude.{◌≡◌};
 ghost use Rattle.instrument.specs.Placements as placements;
 
@@ -8,7 +10,7 @@ pub struct InstrumentNo {
     pub n: u64,
 }
 
-/// Where an instrument is on its way.
+/// How far an instrument has come.
 #[derive(Clone, Copy, PartialEq, Eq, Drop)]
 pub enum State {
     /// It was admitted, and not armed yet.
@@ -22,7 +24,7 @@ pub enum State {
 }
 
 impl State {
-    /// It was dropped.
+    /// Returns whether it was dropped.
     pub fn is_leaving(self) -> bool
         ensures { result ≡ placements.is_leaving self }
     {
@@ -33,16 +35,16 @@ impl State {
 /// Why a plan isn't admitted.
 #[derive(Clone, Copy, Debug, PartialEq, Eq, Drop)]
 pub enum Refused {
-    /// Its mini blocks have so many words, which is above the limit of the cost.
+    /// Its mini blocks have this many words, which is above the limit of the cost.
     OverCost(u64),
     /// There are as many instruments as are allowed at once.
     TooMany,
-    /// So many consecutive slots aren't free.
+    /// There aren't this many consecutive free slots.
     NoSlot(u32),
-    /// So many consecutive words of the tool text aren't free.
+    /// There aren't this many consecutive free words in the tool text.
     NoRoom(u32),
     /// The program's word at this address can't be moved.
     Unmovable(u64),
-    /// Memory is wanting.
+    /// Out of memory.
     NoMemory,
 }

@@ -7,21 +7,21 @@ ghost use Rattle.instrument.specs.Opens as table;
 use pn_types::{Act, Cond, NoMemory, Open, Seq, Stmt};
 use std::alloc::Global;
 
-/// Whether two acts are the same.
+/// Returns whether two acts are the same.
 fn is_act(one: Act, other: Act) -> bool
     ensures { result ≡ table.is_act one other }
 {
     one == other
 }
 
-/// Whether two conditions are the same.
+/// Returns whether two conditions are the same.
 fn is_cond(one: Cond, other: Cond) -> bool
     ensures { result ≡ table.is_cond one other }
 {
     one == other
 }
 
-/// Whether conditions are the same.
+/// Returns whether conditions are the same.
 fn are_conds(ones: &[Cond], others: &[Cond]) -> bool
     ensures { result ≡ pointwise table.is_cond ones.now others.now }
 {
@@ -36,14 +36,14 @@ fn are_conds(ones: &[Cond], others: &[Cond]) -> bool
     true
 }
 
-/// Whether two statements are the same.
+/// Returns whether two statements are the same.
 fn is_stmt(one: &Stmt, other: &Stmt) -> bool
     ensures { result ≡ table.is_stmt one.now other.now }
 {
     are_conds(one.conds.as_slice(), other.conds.as_slice()) && is_act(one.act, other.act)
 }
 
-/// Whether statements are the same.
+/// Returns whether statements are the same.
 fn are_stmts(ones: &[Stmt], others: &[Stmt]) -> bool
     ensures { result ≡ pointwise table.is_stmt ones.now others.now }
 {
@@ -58,7 +58,7 @@ fn are_stmts(ones: &[Stmt], others: &[Stmt]) -> bool
     true
 }
 
-/// Whether two Opens are the same.
+/// Returns whether two Opens are the same.
 fn is_open(one: &Open, other: &Open) -> bool
     ensures { result ≡ table.is_open one.now other.now }
 {
@@ -67,7 +67,7 @@ fn is_open(one: &Open, other: &Open) -> bool
         && are_stmts(one.stmts.as_slice(), other.stmts.as_slice())
 }
 
-/// Whether Opens are the same.
+/// Returns whether Opens are the same.
 pub fn are_opens(ones: &[Open], others: &[Open]) -> bool
     ensures { result ≡ pointwise table.is_open ones.now others.now }
 {
@@ -82,7 +82,7 @@ pub fn are_opens(ones: &[Open], others: &[Open]) -> bool
     true
 }
 
-/// A copy of a statement.
+/// Returns a copy of a statement.
 fn copy_stmt(alloc: Global, stmt: &Stmt) -> Result<Stmt, NoMemory>
     ensures { IfOk result (λ copy. copy ≡ stmt.now) }
 {
@@ -93,7 +93,7 @@ fn copy_stmt(alloc: Global, stmt: &Stmt) -> Result<Stmt, NoMemory>
     })
 }
 
-/// A copy of statements.
+/// Returns a copy of statements.
 fn copy_stmts(alloc: Global, stmts: &[Stmt]) -> Result<Seq<Stmt>, NoMemory>
     ensures { IfOk result (λ copies. copies ≡ stmts.now) }
 {
@@ -104,7 +104,7 @@ fn copy_stmts(alloc: Global, stmts: &[Stmt]) -> Result<Seq<Stmt>, NoMemory>
     Ok(Seq::from_vec(copies))
 }
 
-/// A copy of an Open.
+/// Returns a copy of an Open.
 fn copy_open(alloc: Global, range: &Open) -> Result<Open, NoMemory>
     ensures { IfOk result (λ copy. copy ≡ range.now) }
 {
@@ -115,7 +115,11 @@ fn copy_open(alloc: Global, range: &Open) -> Result<Open, NoMemory>
     })
 }
 
-/// A copy of Opens.
+/// Returns a copy of Opens.
+///
+/// # Errors
+///
+/// `NoMemory` where memory runs out.
 pub fn copy_opens(alloc: Global, opens: &[Open]) -> Result<Seq<Open>, NoMemory>
     ensures { IfOk result (λ copies. copies ≡ opens.now) }
 {

@@ -1,3 +1,5 @@
+//! The instruments of a patched machine.
+
 ghost use Rattle.std.specs.Prelude.{◌≡◌, nat_le, ◌+◌, ◌<◌, ◌≤◌, ◌⊎◌, ◌^◌, Ok, Err, IfErr, IfOk, IfSome, OnErr, OnOk, Some, [], length, map};
 ghost use Rattle.std.specs.Option.{option_map};
 ghost use Rattle.machine.specs.Cores.{In};
@@ -40,7 +42,7 @@ use std::marker::Model;
 pub struct Placer {
     text: ToolText,
     roster: Roster,
-    // How many instruments are allowed at once, and how many were admitted ever.
+    // How many instruments are allowed at once, and how many were admitted so far.
     limit: u32,
     count: u64,
     // What the plans that are ready need for themselves.
@@ -58,11 +60,11 @@ impl Model for Placer {
 }
 
 impl Placer {
-    /// No instruments, for the program of an image. So many may be there at once.
+    /// Makes a placer with no instruments, for the program of an image. At most `instruments` may be there at once.
     ///
     /// # Errors
     ///
-    /// `NoMemory` where memory is wanting.
+    /// `NoMemory` where memory runs out.
     pub fn new(alloc: Global, image: &Image, instruments: u32) -> Result<Placer, NoMemory>
         requires image { IsImage image.now }
         requires some { 0 < instruments }
@@ -78,21 +80,21 @@ impl Placer {
         })
     }
 
-    /// Where an instrument is on its way.
+    /// Returns how far an instrument has come.
     pub fn state(&self, number: InstrumentNo) -> State
         ensures { result ≡ placements.state_of self.now.placements number.n }
     {
         self.roster.state(number)
     }
 
-    /// Whether there are as many instruments that aren't gone as are allowed at once.
+    /// Returns whether there are as many instruments that aren't gone as are allowed at once.
     pub fn is_full(&self) -> bool
         ensures { result ≡ nat_le self.now.placements.limit (length self.now.placements.instruments) }
     {
         self.roster.instruments().len() >= self.limit as usize
     }
 
-    /// Where an instrument acts that isn't gone. It can be armed.
+    /// Returns where an instrument that isn't gone acts. It can be armed.
     pub fn placed(&self, number: InstrumentNo) -> &Placed
         requires { placements.state_of self.now.placements number.n ≡ Gone → ⊥ }
         ensures placed { option_map (λ i. i.placed) (placements.instrument_at self.now.placements number.n) ≡ Some result.now }
@@ -104,10 +106,11 @@ impl Placer {
         }
     }
 
-    /// The instrument is armed from now on. It was being placed, and all entries of its placing were handed out.
+    /// Notes that an instrument is armed. It was being placed, and all entries of its placing were handed out.
     pub fn armed(&mut self, number: InstrumentNo)
         requires placing { placements.state_of self.old.placements number.n ≡ Placing }
-        requires placed { (i : Instrument) → placements.instrument_at self.old.placements number.n ≡ Some i → IsPlaced self.old.placements i }
+        requires placed { (i : Instrument)
+            → placements.instrument_at self.old.placements number.n ≡ Some i → IsPlaced self.old.placements i }
         ensures placements { self.new.placements ≡ placements.armed number.n self.old.placements }
         ensures entries { self.new.entries ≡ self.old.entries }
         ensures ready { self.new.ready ≡ self.old.ready }
@@ -117,7 +120,8 @@ impl Placer {
 
     /// Drops an instrument that wasn't dropped: the unlinking of its sites is put into the agenda, in the order of their placing.
     pub fn drop(&mut self, number: InstrumentNo)
-        requires { (placements.state_of self.old.placements number.n ≡ Placing) ⊎ (placements.state_of self.old.placements number.n ≡ Armed) }
+        requires { (placements.state_of self.old.placements number.n ≡ Placing)
+            ⊎ (placements.state_of self.old.placements number.n ≡ Armed) }
         ensures placements { self.new.placements ≡ placements.dropped number.n self.old.placements }
         ensures entries { self.old.entries ≤ self.new.entries }
         ensures ready { self.new.ready ≡ self.old.ready }
@@ -127,7 +131,7 @@ impl Placer {
         settle(&self.text, &mut self.roster, number);
     }
 
-    /// How many entries the agenda has.
+    /// Returns how many entries the agenda has.
     pub fn agenda_len(&self) -> usize
         ensures { result ≡ length self.now.placements.book.agenda }
     {
@@ -148,8 +152,8 @@ impl Placer {
         }
     }
 
-    /// Takes out the first Free before which no unlinking of its point stands, and answers its point: None exactly where there is
-    /// no such Free.
+    /// Removes the first Free before which no unlinking of its point stands, and returns its point: None exactly where there is no
+    /// such Free.
     pub fn next_free(&mut self) -> Option<u64>
         ensures point { result ≡ placements.free_front self.old.placements }
         ensures placements { self.new.placements ≡ placements.free_behind self.old.placements }
@@ -160,7 +164,7 @@ impl Placer {
         self.text.take_free()
     }
 
-    /// Puts a Free that was refused at the back of the agenda. An entry was taken before, whose place it gets.
+    /// Puts a Free that was refused at the back of the agenda. It needs no memory: an entry was taken before.
     pub fn put_back(&mut self, event: Event)
         requires free { event ≡ Free (point_of event) }
         requires entries { 0 < self.old.entries }
@@ -171,8 +175,8 @@ impl Placer {
         self.text.put_back(event.point());
     }
 
-    /// Gives back the rooms of the point's blocks whose unlinking was handed out. An instrument that was dropped is gone with its
-    /// last mini block.
+    /// Gives back the rooms of the point's blocks whose unlinking was handed out. An instrument that was dropped is gone when its
+    /// last mini block is.
     pub fn freed(&mut self, point: u64)
         ensures placements { self.new.placements ≡ placements.freed point self.old.placements }
         ensures entries { self.old.entries ≤ self.new.entries }
@@ -181,12 +185,12 @@ impl Placer {
         free(&mut self.text, &mut self.roster, point);
     }
 
-    /// Takes the memory, and keeps the numbers, for the admission of each of these plans, which are ready then. What was kept for
-    /// other plans is given up. Entries that no drop needs may be used up.
+    /// Reserves memory and numbers for the admission of each of these plans, which are ready then. What was reserved for other
+    /// plans is given up. Entries that no drop needs may be used up.
     ///
     /// # Errors
     ///
-    /// `NoMemory` where memory or numbers are wanting. Then no plan is ready.
+    /// `NoMemory` where memory or numbers run out. Then no plan is ready.
     pub fn reserve(&mut self, alloc: Global, plans: &[Plan]) -> Result<(), NoMemory>
         requires words { (p : Plan) → In p plans.now → table.predicted p < 2 ^ 32 }
         ensures placements { self.new.placements ≡ self.old.placements }
@@ -210,13 +214,14 @@ impl Placer {
     }
 
     /// Admits a plan, under the search's limit of the cost in words if there is one: the instrument gets its slots and rooms, and
-    /// the placing of its sites is put into the agenda, in the order of their addresses. Its number is answered. Where the plan is
-    /// ready, it is so no more, whatever is answered; else memory is taken, and entries that no drop needs may be used up.
+    /// the placing of its sites is put into the agenda, in the order of their addresses. Returns its number. A plan that is ready
+    /// isn't ready afterwards, whatever is returned; for another one memory is taken, and entries that no drop needs may be used
+    /// up.
     ///
     /// # Errors
     ///
-    /// Why it is refused: it costs too much, there are as many instruments as are allowed, or slots or words of the tool text
-    /// are wanting, or a word can't be moved; or `NoMemory`, where the plan isn't ready and memory or numbers are wanting. Then no
+    /// Why it is refused: it costs too much, there are as many instruments as are allowed, too few slots or words of the tool text
+    /// are free, or a word can't be moved; or `NoMemory`, where the plan isn't ready and memory or numbers run out. Then no
     /// placement has changed.
     pub fn admit(
         &mut self,
@@ -230,7 +235,8 @@ impl Placer {
         requires armable { IsArmable plan.now.opens }
         ensures number { IfOk result (λ number. number.n ≡ self.old.placements.count) }
         ensures ok { OnOk result (placements.admission self.old.placements plan.now cost ≡ Ok self.new.placements) }
-        ensures refused { IfErr result (λ refused. (refused ≡ NoMemory) ⊎ (placements.admission self.old.placements plan.now cost ≡ Err refused)) }
+        ensures refused { IfErr result (λ refused. (refused ≡ NoMemory)
+            ⊎ (placements.admission self.old.placements plan.now cost ≡ Err refused)) }
         ensures unchanged { IfErr result (λ refused. self.new.placements ≡ self.old.placements) }
         ensures memory { In (need_of plan.now) self.old.ready → result ≡ Err NoMemory → ⊥ }
         ensures ready { self.new.ready ≡ without (need_of plan.now) self.old.ready }
@@ -260,7 +266,7 @@ impl Placer {
             return Err(Refused::NoSlot(slots));
         };
         let number = InstrumentNo { n: self.count };
-        // The slots are taken behind the sites: where a site is refused, none are to be given back.
+        // The slots are taken after the sites: where a site is refused, none are to be given back.
         let instrument = place(&mut self.text, number, first, plan, kit)?;
         self.roster.add(instrument);
         self.count += 1;

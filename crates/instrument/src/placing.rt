@@ -1,4 +1,4 @@
-//! A site is placed: its blocks get the lowest rooms.
+//! Places a site: its blocks get the lowest rooms.
 
 ghost use Rattle.std.specs.Prelude.{◌≡◌, ◌+◌, ◌*◌, ◌<◌, ◌≤◌, ◌^◌, [], IfErr, IfNone, IfSome, OnOk, Ok, Err, length, vec_capacity};
 ghost use Rattle.prim_code.specs.Counts.{word_count};
@@ -19,7 +19,7 @@ use prim_code::words_of;
 use tool_space::Space;
 use tramp_spec::{Block, MarkedWord};
 
-/// Takes the lowest room of so many words, and answers its address: None where there is none.
+/// Takes the lowest room of `len` words, and returns its address: None where there is none.
 fn take_room(words: &mut Space, len: u32) -> Option<u64>
     requires some { 0 < len }
     requires reserved { 0 < words.old.takes }
@@ -34,7 +34,7 @@ fn take_room(words: &mut Space, len: u32) -> Option<u64>
     }
 }
 
-/// Places the mini block of a site behind its base block, if one is placed with it. `words` are those beside the base block.
+/// Places the mini block of a site after its base block, if one is placed with it. `words` are those beside the base block.
 fn place_mini(
     ledger: &mut Ledger,
     words: &mut Space,
@@ -53,8 +53,12 @@ fn place_mini(
     requires room { word_count site.now.stmts < vec_capacity buffer }
     requires named { AreBelow (length slots.now) site.now.stmts }
     requires count { word_count site.now.stmts + 1 < 2 ^ 32 }
-    ensures ok { OnOk result ((program : Words) → AreRoomsOf program words.old (table.rooms_with base ledger.old.book.rooms) → (table.with_mini program owner site.now.at (body_of slots.now site.now.stmts) base ledger.old.book ≡ Ok ledger.new.book) × AreRoomsOf program words.new ledger.new.book.rooms) }
-    ensures refused { IfErr result (λ refused. (program : Words) → AreRoomsOf program words.old (table.rooms_with base ledger.old.book.rooms) → table.with_mini program owner site.now.at (body_of slots.now site.now.stmts) base ledger.old.book ≡ Err refused) }
+    ensures ok { OnOk result ((program : Words) → AreRoomsOf program words.old (table.rooms_with base ledger.old.book.rooms)
+        → (table.with_mini program owner site.now.at (body_of slots.now site.now.stmts) base ledger.old.book ≡ Ok ledger.new.book)
+        × AreRoomsOf program words.new ledger.new.book.rooms) }
+    ensures refused { IfErr result (λ refused. (program : Words)
+        → AreRoomsOf program words.old (table.rooms_with base ledger.old.book.rooms)
+        → table.with_mini program owner site.now.at (body_of slots.now site.now.stmts) base ledger.old.book ≡ Err refused) }
     ensures unchanged { IfErr result (λ refused. (ledger.new ≡ ledger.old) × (words.new ≡ words.old)) }
     ensures rooms_left { ledger.old.spare_rooms ≤ ledger.new.spare_rooms + 2 }
     ensures entries_left { ledger.old.spare_entries ≤ ledger.new.spare_entries + 4 }
@@ -70,7 +74,7 @@ fn place_mini(
     Ok(())
 }
 
-/// Places a site whose point has no base block: one is placed too.
+/// Places a site whose point has no base block: one is placed too. `buffers` give the memory.
 fn place_based(
     program: &Program,
     ledger: &mut Ledger,
@@ -78,22 +82,20 @@ fn place_based(
     owner: u64,
     slots: &[u32],
     site: &Site,
-    base_buffer: Vec<MarkedWord>,
-    buffer: Vec<MarkedWord>,
+    buffers: Buffers,
 ) -> Result<(), Refused>
     requires tied { AreRoomsOf program.now words.old ledger.old.book.rooms }
     requires rooms { 2 ≤ ledger.old.spare_rooms }
     requires entries { 4 ≤ ledger.old.spare_entries }
     requires reserved { 2 ≤ words.old.takes }
     requires low { words.old.end < 2 ^ 60 }
-    requires empty_base { base_buffer.items ≡ [] }
-    requires room_base { 7 ≤ vec_capacity base_buffer }
-    requires empty { buffer.items ≡ [] }
-    requires room { word_count site.now.stmts < vec_capacity buffer }
+    requires buffers { buffers ≡ word_count site.now.stmts + 1 }
     requires named { AreBelow (length slots.now) site.now.stmts }
     requires count { word_count site.now.stmts + 1 < 2 ^ 32 }
-    ensures ok { OnOk result (table.with_base (program_word program.now site.now.at) program.now owner site.now.at (body_of slots.now site.now.stmts) ledger.old.book ≡ Ok ledger.new.book) }
-    ensures refused { IfErr result (λ refused. table.with_base (program_word program.now site.now.at) program.now owner site.now.at (body_of slots.now site.now.stmts) ledger.old.book ≡ Err refused) }
+    ensures ok { OnOk result (table.with_base (program_word program.now site.now.at) program.now owner site.now.at
+        (body_of slots.now site.now.stmts) ledger.old.book ≡ Ok ledger.new.book) }
+    ensures refused { IfErr result (λ refused. table.with_base (program_word program.now site.now.at) program.now owner site.now.at
+        (body_of slots.now site.now.stmts) ledger.old.book ≡ Err refused) }
     ensures unchanged { IfErr result (λ refused. ledger.new ≡ ledger.old) }
     ensures tied { AreRoomsOf program.now words.new ledger.new.book.rooms }
     ensures rooms_left { ledger.old.spare_rooms ≤ ledger.new.spare_rooms + 2 }
@@ -101,6 +103,11 @@ fn place_based(
     ensures takes_left { words.old.takes ≤ words.new.takes + 2 }
     ensures end { words.new.end ≡ words.old.end }
 {
+    let Buffers {
+        base: base_words,
+        mini,
+        ..
+    } = buffers;
     let point = site.at;
     let Some(word) = program.word(point) else {
         return Err(Refused::Unmovable(point));
@@ -109,11 +116,11 @@ fn place_based(
     let Some(at) = take_room(words, len) else {
         return Err(Refused::NoRoom(len));
     };
-    let Some(base) = move_base(point, word, at, base_buffer) else {
+    let Some(base) = move_base(point, word, at, base_words) else {
         words.give(at / 4, len);
         return Err(Refused::Unmovable(point));
     };
-    match place_mini(ledger, words, owner, slots, site, Some(base), buffer) {
+    match place_mini(ledger, words, owner, slots, site, Some(base), mini) {
         Ok(()) => Ok(()),
         Err(refused) => {
             words.give(at / 4, len);
@@ -153,9 +160,9 @@ pub fn place_site(
     ensures takes_left { words.old.takes ≤ words.new.takes + 2 }
     ensures end { words.new.end ≡ words.old.end }
 {
-    let Buffers { base, mini, .. } = buffers;
     if ledger.find_base(site.at).is_some() {
+        let Buffers { mini, .. } = buffers;
         return place_mini(ledger, words, owner, slots, site, None, mini);
     }
-    place_based(program, ledger, words, owner, slots, site, base, mini)
+    place_based(program, ledger, words, owner, slots, site, buffers)
 }

@@ -1,3 +1,5 @@
+//! The words of the program.
+
 ghost use Rattle.std.specs.Prelude.{◌≡◌, ◌+◌, ◌<◌, ◌≤◌, IfOk, IfSome};
 ghost use Rattle.pn_types.specs.Images.{IsImage};
 ghost use Rattle.rv_mem.specs.Start.{program_of};
@@ -10,7 +12,7 @@ use rv_word::split_word;
 use std::alloc::Global;
 use std::marker::Model;
 
-/// The words of a text.
+/// Returns the words of a text.
 fn words(alloc: Global, text: &[u8]) -> Result<Vec<u32>, NoMemory>
     ensures { IfOk result (λ words. words.items ≡ words_of text.now) }
 {
@@ -44,11 +46,11 @@ impl Model for Program {
 }
 
 impl Program {
-    /// The words of an image's text.
+    /// Takes the words of an image's text.
     ///
     /// # Errors
     ///
-    /// `NoMemory` where memory is wanting.
+    /// `NoMemory` where memory runs out.
     pub fn new(alloc: Global, image: &Image) -> Result<Program, NoMemory>
         requires { IsImage image.now }
         ensures { IfOk result (λ program. program ≡ program_of image.now) }
@@ -60,7 +62,7 @@ impl Program {
         })
     }
 
-    /// The word at an address, where the text has one there.
+    /// Returns the word at an address, where the text has one there.
     pub fn word(&self, at: u64) -> Option<u32>
         ensures word { result ≡ program_word self.now at }
         ensures low { IfSome result (λ word. at < SEGMENTS_TO) }
@@ -72,7 +74,7 @@ impl Program {
         self.words.get(place).copied()
     }
 
-    /// The first address of the tool text behind it, a multiple of 4,096.
+    /// Returns the first address of the tool text, which follows the program: a multiple of 4,096.
     pub fn tool_at(&self) -> u64
         ensures at { result ≡ tool_at self.now }
         ensures low { result ≤ SEGMENTS_TO + 4095 }

@@ -1,3 +1,5 @@
+//! A room of the tool text, and how it is kept.
+
 ghost use Rattle.std.specs.Prelude.{◌≡◌, ◌<◌, ◌^◌, length};
 ghost use Rattle.instrument.specs.Books as books;
 ghost use Rattle.instrument.specs.Placements as placements;
@@ -24,30 +26,30 @@ pub struct Room {
     pub at: u64,
     /// How many words it has.
     pub len: u32,
-    /// It is that of a base block, and not of a mini block.
+    /// Whether its block is a base block, and not a mini block.
     pub base: bool,
-    /// The number of the instrument whose mini block it is of. A base block is no instrument's, and has 0 here.
+    /// The number of the instrument of its mini block. A base block is no instrument's, and has 0 here.
     pub owner: u64,
     /// How it is kept.
     pub hold: Hold,
 }
 
 impl Hold {
-    /// No unlinking was asked for.
+    /// Returns whether no unlinking of its block was asked for.
     pub fn is_held(self) -> bool
         ensures { result ≡ books.is_held self }
     {
         matches!(self, Hold::Held)
     }
 
-    /// The unlinking was handed out.
+    /// Returns whether the unlinking of its block was handed out.
     pub fn is_unlinked(self) -> bool
         ensures { result ≡ books.is_unlinked self }
     {
         matches!(self, Hold::Unlinked)
     }
 
-    /// How it is kept once the unlinking is asked for.
+    /// Returns how it is kept once the unlinking of its block is asked for.
     pub fn leaving(self) -> Hold
         ensures { result ≡ books.leaving self }
     {
@@ -59,7 +61,7 @@ impl Hold {
 }
 
 impl Room {
-    /// The room of a base block.
+    /// Returns the room of a base block.
     pub fn of_base(block: &Block) -> Room
         requires { length block.now.words < 2 ^ 32 }
         ensures { result ≡ books.base_room block.now }
@@ -74,7 +76,7 @@ impl Room {
         }
     }
 
-    /// The room of a mini block of an instrument.
+    /// Returns the room of a mini block of an instrument.
     pub fn of_mini(owner: u64, block: &Block) -> Room
         requires { length block.now.words < 2 ^ 32 }
         ensures { result ≡ books.mini_room owner block.now }
@@ -89,42 +91,42 @@ impl Room {
         }
     }
 
-    /// It is that of a base block of the point whose unlinking wasn't asked for.
+    /// Returns whether it is the room of a base block of the point whose unlinking wasn't asked for.
     pub fn is_base_of(&self, point: u64) -> bool
         ensures { result ≡ books.is_base_of point self.now }
     {
         self.base && self.point == point && self.hold.is_held()
     }
 
-    /// It is that of a mini block of the point whose unlinking wasn't asked for.
+    /// Returns whether it is the room of a mini block of the point whose unlinking wasn't asked for.
     pub fn is_mini_of(&self, point: u64) -> bool
         ensures { result ≡ books.is_mini_of point self.now }
     {
         !self.base && self.point == point && self.hold.is_held()
     }
 
-    /// It is that of a mini block of an instrument whose unlinking wasn't asked for.
+    /// Returns whether it is the room of a mini block of an instrument whose unlinking wasn't asked for.
     pub fn is_site_of(&self, owner: u64) -> bool
         ensures { result ≡ placements.is_site_of owner self.now }
     {
         !self.base && self.owner == owner && self.hold.is_held()
     }
 
-    /// It is that of a mini block of an instrument.
+    /// Returns whether it is the room of a mini block of an instrument.
     pub fn is_mini_room_of(&self, owner: u64) -> bool
         ensures { result ≡ placements.is_mini_room_of owner self.now }
     {
         !self.base && self.owner == owner
     }
 
-    /// It stays where the point is freed.
+    /// Returns whether it stays when the point is freed.
     pub fn stays(&self, point: u64) -> bool
         ensures { result ≡ books.stays point self.now }
     {
         !(self.point == point && self.hold.is_unlinked())
     }
 
-    /// The mini block at an address is to leave.
+    /// Returns the room as it is once the mini block at an address is to leave.
     pub fn after_mini_leaves(self, at: u64) -> Room
         ensures { result ≡ books.with_hold (books.mini_leaves at) self }
     {
@@ -139,7 +141,7 @@ impl Room {
         }
     }
 
-    /// The base block of the point is to leave.
+    /// Returns the room as it is once the base block of the point is to leave.
     pub fn after_base_leaves(self, point: u64) -> Room
         ensures { result ≡ books.with_hold (books.base_leaves point) self }
     {
@@ -154,7 +156,7 @@ impl Room {
         }
     }
 
-    /// The block at an address was unlinked.
+    /// Returns the room as it is once the block at an address was unlinked.
     pub fn after_unlinking(self, at: u64) -> Room
         ensures { result ≡ books.with_hold (books.unlinked_at at) self }
     {

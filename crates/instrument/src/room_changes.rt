@@ -1,4 +1,4 @@
-//! Rooms change how they are kept, and are given back.
+//! Changes how rooms are kept, and gives them back.
 
 ghost use Rattle.std.specs.Prelude.{◌≡◌, ◌≤◌, IfNone, IfSome, filter, length, map, take};
 ghost use Rattle.std.specs.Option.{option_map};
@@ -11,7 +11,7 @@ use crate::room::Room;
 use crate::room_list::Rooms;
 
 impl Rooms {
-    /// The mini block at an address is to leave.
+    /// Notes that the mini block at an address is to leave.
     pub fn leave_mini(&mut self, at: u64)
         ensures { self.new ≡ record self.old { places = map (option_map (books.with_hold (books.mini_leaves at))) self.old.places } }
     {
@@ -24,7 +24,7 @@ impl Rooms {
         }
     }
 
-    /// The base block of a point is to leave.
+    /// Notes that the base block of a point is to leave.
     pub fn leave_base(&mut self, point: u64)
         ensures { self.new ≡ record self.old { places = map (option_map (books.with_hold (books.base_leaves point))) self.old.places } }
     {
@@ -37,7 +37,7 @@ impl Rooms {
         }
     }
 
-    /// The block at an address was unlinked.
+    /// Notes that the block at an address was unlinked.
     pub fn unlink(&mut self, at: u64)
         ensures places { self.new ≡ record self.old { places = map (option_map (books.with_hold (books.unlinked_at at))) self.old.places } }
         ensures rooms { left self.new.places ≡ map (books.with_hold (books.unlinked_at at)) (left self.old.places) }
@@ -51,7 +51,7 @@ impl Rooms {
         }
     }
 
-    /// The place of the first room of a point whose block was unlinked.
+    /// Returns the place of the first room of a point whose block was unlinked.
     fn unlinked_at(&self, point: u64) -> Option<usize>
         ensures none { IfNone result (AllStay point (left self.now.places)) }
         ensures some { IfSome result (λ place. IsFirstToGo point self.now.places place) }
@@ -68,7 +68,7 @@ impl Rooms {
         None
     }
 
-    /// Takes the first room of a point out whose block was unlinked, and answers it.
+    /// Removes the first room of a point whose block was unlinked, and returns it.
     pub fn take_unlinked(&mut self, point: u64) -> Option<Room>
         ensures none { IfNone result (AllStay point (left self.old.places)) }
         ensures same { IfNone result (self.new ≡ self.old) }

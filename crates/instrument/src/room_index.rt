@@ -1,4 +1,4 @@
-//! By what rooms are looked up.
+//! The buckets by which rooms are looked up.
 
 ghost use Rattle.std.specs.Prelude.{◌≡◌, ℕ, ◌+◌, ◌-◌, ◌<◌, ◌≤◌, ◌++◌, ◌∷◌, [], None, IfOk, OnErr, OnOk, length, max, set};
 ghost use Rattle.instrument.specs.RoomPlaces.{at_key, bucket_by, no_entries, owner_key, point_key};
@@ -24,12 +24,17 @@ impl Model for RoomIndex {
 
     ghost Value = { RoomEntries };
 
-    ghost view = { λ i. record { points = i.points.buckets; addresses = i.addresses.buckets; owners = i.owners.buckets; room = i.points.room } };
+    ghost view = { λ i. record {
+      points = i.points.buckets;
+      addresses = i.addresses.buckets;
+      owners = i.owners.buckets;
+      room = i.points.room;
+    } };
 
     ghost invariant = { λ i. AreEntries i.points i.addresses i.owners };
 }
 
-/// The number of the room's instrument. A base block's room is no instrument's, and gets into any bucket.
+/// Returns the number of the room's instrument. A base block's room is no instrument's, and gets into any bucket.
 fn owner_key(room: &Room) -> u64
     ensures { result ≡ owner_key room.now }
 {
@@ -37,11 +42,11 @@ fn owner_key(room: &Room) -> u64
 }
 
 impl RoomIndex {
-    /// No entries.
+    /// Makes an index without entries.
     ///
     /// # Errors
     ///
-    /// `NoMemory` where memory is wanting.
+    /// `NoMemory` where memory runs out.
     pub fn new(alloc: Global) -> Result<RoomIndex, NoMemory>
         ensures { IfOk result (λ index. index ≡ no_entries) }
     {
@@ -52,11 +57,11 @@ impl RoomIndex {
         })
     }
 
-    /// Room for so many entries more, counting the room that there is.
+    /// Reserves memory for `entries` more entries, counting the room that there is.
     ///
     /// # Errors
     ///
-    /// `NoMemory` where memory is wanting. Then nothing has changed.
+    /// `NoMemory` where memory runs out. Then nothing has changed.
     pub fn reserve(&mut self, entries: usize) -> Result<(), NoMemory>
         ensures ok { OnOk result (self.new ≡ record self.old { room = max entries self.old.room }) }
         ensures err { OnErr result (self.new ≡ self.old) }
@@ -66,7 +71,7 @@ impl RoomIndex {
         self.points.reserve(entries)
     }
 
-    /// The entry of a place more, behind the others. A place without a room is in no bucket.
+    /// Appends the entry of a place. A place without a room is in no bucket.
     pub fn push(&mut self, place: Option<Room>)
         requires { 0 < self.old.room }
         ensures { self.new ≡ record {
@@ -93,7 +98,11 @@ impl RoomIndex {
     /// Takes the entry at a place out of its buckets.
     pub fn remove(&mut self, place: usize)
         requires { place < length self.old.points }
-        ensures { self.new ≡ record self.old { points = set self.old.points place None; addresses = set self.old.addresses place None; owners = set self.old.owners place None } }
+        ensures { self.new ≡ record self.old {
+          points = set self.old.points place None;
+          addresses = set self.old.addresses place None;
+          owners = set self.old.owners place None;
+        } }
     {
         self.points.remove(place);
         self.addresses.remove(place);
@@ -109,14 +118,14 @@ impl RoomIndex {
         self.owners.clear();
     }
 
-    /// The place of the first room in the bucket of a point.
+    /// Returns the place of the first room in the bucket of a point.
     pub fn first_at_point(&self, point: u64) -> Option<usize>
         ensures { IsFirst (bucket_of point) 0 self.now.points result }
     {
         self.points.first(point)
     }
 
-    /// The place of the next room in the bucket of the point of the one at a place.
+    /// Returns the place of the next room in the bucket of the point of the one at a place.
     pub fn next_at_point(&self, place: usize) -> Option<usize>
         requires { place < length self.now.points }
         ensures { (bucket : ℕ) → bucket_at self.now.points place ≡ Some bucket → IsFirst bucket (place + 1) self.now.points result }
@@ -124,14 +133,14 @@ impl RoomIndex {
         self.points.next(place)
     }
 
-    /// The place of the first room in the bucket of an address.
+    /// Returns the place of the first room in the bucket of an address.
     pub fn first_at(&self, at: u64) -> Option<usize>
         ensures { IsFirst (bucket_of at) 0 self.now.addresses result }
     {
         self.addresses.first(at)
     }
 
-    /// The place of the next room in the bucket of the address of the one at a place.
+    /// Returns the place of the next room in the bucket of the address of the one at a place.
     pub fn next_at(&self, place: usize) -> Option<usize>
         requires { place < length self.now.points }
         ensures { (bucket : ℕ) → bucket_at self.now.addresses place ≡ Some bucket → IsFirst bucket (place + 1) self.now.addresses result }
@@ -139,14 +148,14 @@ impl RoomIndex {
         self.addresses.next(place)
     }
 
-    /// The place of the first room in the bucket of an instrument.
+    /// Returns the place of the first room in the bucket of an instrument.
     pub fn first_of(&self, owner: u64) -> Option<usize>
         ensures { IsFirst (bucket_of owner) 0 self.now.owners result }
     {
         self.owners.first(owner)
     }
 
-    /// The place of the next room in the bucket of the instrument of the one at a place.
+    /// Returns the place of the next room in the bucket of the instrument of the one at a place.
     pub fn next_of(&self, place: usize) -> Option<usize>
         requires { place < length self.now.points }
         ensures { (bucket : ℕ) → bucket_at self.now.owners place ≡ Some bucket → IsFirst bucket (place + 1) self.now.owners result }

@@ -13,8 +13,8 @@ use pn_types::NoMemory;
 use std::alloc::Global;
 use std::marker::Model;
 
-/// The rooms in the order of their taking. Contracts see them by place, none where a room was given back, and for how many more there
-/// is memory.
+/// The rooms in the order of their taking. Contracts see what each place has, which is none where a room was given back, and for
+/// how many more rooms there is memory.
 #[derive(Drop)]
 pub struct Rooms {
     pub(crate) places: Vec<Option<Room>>,
@@ -47,11 +47,11 @@ fn enter(index: &mut RoomIndex, places: &[Option<Room>])
 }
 
 impl Rooms {
-    /// No rooms.
+    /// Makes a list without rooms.
     ///
     /// # Errors
     ///
-    /// `NoMemory` where memory is wanting.
+    /// `NoMemory` where memory runs out.
     pub fn new(alloc: Global) -> Result<Rooms, NoMemory>
         ensures { IfOk result (λ rooms. rooms ≡ no_rooms) }
     {
@@ -63,21 +63,21 @@ impl Rooms {
         })
     }
 
-    /// How many rooms there are.
+    /// Returns how many rooms there are.
     pub fn count(&self) -> usize
         ensures { result ≡ length (left self.now.places) }
     {
         self.count
     }
 
-    /// How many places there are.
+    /// Returns how many places there are.
     pub fn places(&self) -> usize
         ensures { result ≡ length self.now.places }
     {
         self.places.len()
     }
 
-    /// The room at a place, if it wasn't given back.
+    /// Returns the room at a place, if it wasn't given back.
     pub fn at(&self, place: usize) -> Option<Room>
         requires { place < length self.now.places }
         ensures { result ≡ slice_index_or self.now.places place None }
@@ -85,22 +85,23 @@ impl Rooms {
         self.places[place]
     }
 
-    /// The place of the first room in the bucket of an instrument.
+    /// Returns the place of the first room in the bucket of an instrument.
     pub fn first_of(&self, owner: u64) -> Option<usize>
         ensures { IsFirst (bucket_of owner) 0 (buckets_of owner_key self.now.places) result }
     {
         self.index.first_of(owner)
     }
 
-    /// The place of the next room in the bucket of the instrument of the one at a place.
+    /// Returns the place of the next room in the bucket of the instrument of the one at a place.
     pub fn next_of(&self, place: usize) -> Option<usize>
         requires { place < length self.now.places }
-        ensures { (bucket : ℕ) → bucket_at (buckets_of owner_key self.now.places) place ≡ Some bucket → IsFirst bucket (place + 1) (buckets_of owner_key self.now.places) result }
+        ensures { (bucket : ℕ) → bucket_at (buckets_of owner_key self.now.places) place ≡ Some bucket
+            → IsFirst bucket (place + 1) (buckets_of owner_key self.now.places) result }
     {
         self.index.next_of(place)
     }
 
-    /// Leaves the places without rooms out.
+    /// Removes the places without rooms.
     fn compact(&mut self)
         ensures rooms { left self.new.places ≡ left self.old.places }
         ensures spare { self.new.spare ≡ self.old.spare }
@@ -110,17 +111,17 @@ impl Rooms {
         enter(&mut self.index, &self.places);
     }
 
-    /// Takes the memory of at least so many more rooms.
+    /// Reserves memory for at least `rooms` more rooms.
     ///
     /// # Errors
     ///
-    /// `NoMemory` where memory is wanting. Then no more is reserved.
+    /// `NoMemory` where memory runs out. Then no more is reserved.
     pub fn reserve(&mut self, rooms: usize) -> Result<(), NoMemory>
         ensures rooms { left self.new.places ≡ left self.old.places }
         ensures ok { OnOk result (self.new.spare ≡ max self.old.spare rooms) }
         ensures err { OnErr result (self.new.spare ≡ self.old.spare) }
     {
-        // Each place that is looked at was given back since.
+        // More than half of the places are empty, so this takes time in proportion to the removals since the last time.
         if self.places.len() / 2 > self.count.max(BUCKETS as usize) {
             self.compact();
         }
@@ -131,7 +132,7 @@ impl Rooms {
         Ok(())
     }
 
-    /// Takes a room behind the others.
+    /// Appends a room.
     pub fn push(&mut self, room: Room)
         requires { 0 < self.old.spare }
         ensures places { self.new ≡ record { places = self.old.places ++ Some room ∷ []; spare = self.old.spare - 1 } }

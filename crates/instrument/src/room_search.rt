@@ -1,4 +1,4 @@
-//! Rooms are looked for in the buckets of their points and of their instruments.
+//! Looks for rooms in the buckets of their points and of their instruments.
 
 ghost use Rattle.std.specs.Prelude.{◌≡◌, ◌≤◌, [], find, length, vec_capacity};
 ghost use Rattle.std.specs.List.{list_any};
@@ -11,7 +11,7 @@ use crate::room_list::Rooms;
 use pn_types::PlacedSite;
 
 impl Rooms {
-    /// The room of the base block of a point whose unlinking wasn't asked for.
+    /// Returns the room of the base block of a point whose unlinking wasn't asked for.
     pub fn find_base(&self, point: u64) -> Option<Room>
         ensures { result ≡ find (books.is_base_of point) (left self.now.places) }
     {
@@ -27,7 +27,7 @@ impl Rooms {
         None
     }
 
-    /// The room of the first mini block of a point whose unlinking wasn't asked for.
+    /// Returns the room of the first mini block of a point whose unlinking wasn't asked for.
     pub fn find_mini(&self, point: u64) -> Option<Room>
         ensures { result ≡ find (books.is_mini_of point) (left self.now.places) }
     {
@@ -43,7 +43,7 @@ impl Rooms {
         None
     }
 
-    /// Whether a mini block of an instrument has a room.
+    /// Returns whether a mini block of an instrument has a room.
     pub fn has_mini_of(&self, owner: u64) -> bool
         ensures { result ≡ list_any (placements.is_mini_room_of owner) (left self.now.places) }
     {
@@ -59,7 +59,7 @@ impl Rooms {
         false
     }
 
-    /// The sites of an instrument, by its rooms. `sites` gives the memory.
+    /// Returns the sites of an instrument, by its rooms. `sites` gives the memory.
     pub fn sites_of(&self, sites: Vec<PlacedSite>, owner: u64) -> Vec<PlacedSite>
         requires empty { sites.items ≡ [] }
         requires room { length (placements.sites_of owner (left self.now.places)) ≤ vec_capacity sites }

@@ -45,7 +45,7 @@ impl Model for Roster {
     ghost invariant = { λ r. IsRoster r.slots r.instruments.items (vec_len r.instruments) (vec_capacity r.instruments) r.room };
 }
 
-// By a call of its own: what drops it need not prove the drops of all its parts.
+// Its drop is a function of its own, so that callers need not prove the drops of all its parts.
 impl Drop for Roster {
     fn drop(self) {
         let Roster {
@@ -57,11 +57,11 @@ impl Drop for Roster {
 }
 
 impl Roster {
-    /// A roster with no instruments, on which all slots are free.
+    /// Makes a roster with no instruments, on which all slots are free.
     ///
     /// # Errors
     ///
-    /// `NoMemory` where memory is wanting.
+    /// `NoMemory` where memory runs out.
     pub fn new(alloc: Global) -> Result<Roster, NoMemory>
         ensures { IfOk result (λ roster. roster ≡ rosters.no_roster) }
     {
@@ -72,14 +72,14 @@ impl Roster {
         })
     }
 
-    /// The instruments, in the order of their admission.
+    /// Returns the instruments, in the order of their admission.
     pub fn instruments(&self) -> &[Instrument]
         ensures { result.now ≡ self.now.instruments }
     {
         &self.instruments
     }
 
-    /// The state of an instrument. One that isn't listed is gone.
+    /// Returns the state of an instrument. One that isn't listed is gone.
     pub fn state(&self, number: InstrumentNo) -> State
         ensures { result ≡ placements.state_in (find (λ i. i.no == number.n) self.now.instruments) }
     {
@@ -89,7 +89,7 @@ impl Roster {
         }
     }
 
-    /// Where an instrument that isn't gone acts.
+    /// Returns where an instrument that isn't gone acts.
     pub fn placed(&self, number: InstrumentNo) -> Option<&Placed>
         ensures placed { option_copied result ≡ option_map (λ i. i.placed) (find (λ i. i.no == number.n) self.now.instruments) }
         ensures armable { IfSome result (λ placed. IsArmable placed.now.opens) }
@@ -100,14 +100,14 @@ impl Roster {
         }
     }
 
-    /// The instrument of a number is in a state from now on.
+    /// Sets the state of the instrument of a number.
     pub fn set_state(&mut self, number: InstrumentNo, state: State)
         ensures { self.new ≡ record self.old { instruments = map (placements.with_state number.n state) self.old.instruments } }
     {
         set_state(&mut self.instruments, number, state);
     }
 
-    /// An instrument that was dropped is gone: its slots are given back. One that wasn't dropped stays.
+    /// Removes an instrument that was dropped, and gives its slots back. One that wasn't dropped stays.
     pub fn let_go(&mut self, number: InstrumentNo)
         ensures { self.new ≡ record self.old { instruments = filter (is_kept number.n) self.old.instruments } }
     {
@@ -117,11 +117,11 @@ impl Roster {
         }
     }
 
-    /// Takes the memory that so many more instruments need, and the taking of their slots.
+    /// Reserves memory for `count` more instruments and the taking of their slots.
     ///
     /// # Errors
     ///
-    /// `NoMemory` where memory is wanting.
+    /// `NoMemory` where memory runs out.
     pub fn reserve(&mut self, count: usize) -> Result<(), NoMemory>
         ensures instruments { self.new.instruments ≡ self.old.instruments }
         ensures room { OnOk result (count ≤ self.new.room) }
@@ -138,7 +138,7 @@ impl Roster {
         self.slots.reserve(takes)
     }
 
-    /// The first of the lowest so many consecutive slots that are free: None exactly where there are none. They stay free.
+    /// Returns the first of the lowest `count` consecutive free slots: None exactly where there are none. They stay free.
     pub fn free_slots(&mut self, count: u32) -> Option<u32>
         requires { 0 < self.old.takes }
         ensures slot { result ≡ slots_for (flat_map (λ i. places_of i.placed) self.old.instruments) count }
@@ -155,7 +155,7 @@ impl Roster {
         Some(slot as u32)
     }
 
-    /// Puts an instrument behind the others, which has a number above theirs and the lowest slots that are free.
+    /// Appends an instrument, which has a number above the others' and the lowest free slots.
     pub fn add(&mut self, instrument: Instrument)
         requires room { 0 < self.old.room }
         requires takes { 0 < self.old.takes }
@@ -163,14 +163,15 @@ impl Roster {
         requires row { IsRow instrument }
         requires armable { IsArmable instrument.placed.opens }
         requires number { AreNumberedBelow instrument.no self.old.instruments }
-        requires free { slots_for (flat_map (λ i. places_of i.placed) self.old.instruments) (slot_count instrument.placed.vars) ≡ Some (slots_of instrument).at }
+        requires free { slots_for (flat_map (λ i. places_of i.placed) self.old.instruments) (slot_count instrument.placed.vars)
+            ≡ Some (slots_of instrument).at }
         ensures instruments { self.new.instruments ≡ self.old.instruments ++ instrument ∷ [] }
         ensures room { self.old.room ≡ self.new.room + 1 }
         ensures takes { self.old.takes ≤ self.new.takes + 1 }
     {
         let count = costs::slot_count(instrument.placed.vars.as_slice());
         if count > 0 {
-            let _slot = self.slots.take(count);
+            self.slots.take(count);
         }
         self.instruments.push_reserved(instrument);
         self.room -= 1;

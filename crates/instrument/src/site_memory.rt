@@ -13,7 +13,7 @@ use std::alloc::Global;
 use std::collections::VecDeque;
 use std::marker::Model;
 
-/// How many words the mini block of a site has.
+/// Returns how many words the mini block of a site has.
 fn site_words(site: &Site) -> u32
     requires { counts.site_words site.now < 2 ^ 32 }
     ensures { result ≡ counts.site_words site.now }
@@ -21,7 +21,7 @@ fn site_words(site: &Site) -> u32
     words_of(site.stmts.as_slice()) + 1
 }
 
-/// Takes the memory of the words of sites' blocks.
+/// Takes the memory for the words of sites' blocks.
 fn buffers_for(alloc: Global, sites: &[Site]) -> Result<VecDeque<Buffers>, NoMemory>
     requires { (s : Site) → In s sites.now → counts.site_words s < 2 ^ 32 }
     ensures { IfOk result (λ buffers. buffers.items ≡ map counts.site_words sites.now) }
@@ -33,11 +33,11 @@ fn buffers_for(alloc: Global, sites: &[Site]) -> Result<VecDeque<Buffers>, NoMem
     Ok(buffers)
 }
 
-/// The memory that the placing of sites needs: for the words of each one's blocks, and for what is answered.
-/// Contracts see how many words the mini block of each site has.
+/// The memory that the placing of sites needs: for the words of each one's blocks, and for the list of placed sites. Contracts see
+/// how many words the mini block of each site has.
 #[derive(Drop)]
 pub struct SiteMemory {
-    /// The memory of each site's blocks, in order.
+    /// The memory for each site's blocks, in order.
     pub buffers: VecDeque<Buffers>,
     /// No sites, and room for as many.
     pub placed: Vec<PlacedSite>,
@@ -59,7 +59,7 @@ impl SiteMemory {
     ///
     /// # Errors
     ///
-    /// `NoMemory` where memory is wanting.
+    /// `NoMemory` where memory runs out.
     pub fn new(alloc: Global, sites: &[Site]) -> Result<SiteMemory, NoMemory>
         requires { (s : Site) → In s sites.now → counts.site_words s < 2 ^ 32 }
         ensures { IfOk result (λ memory. memory ≡ map counts.site_words sites.now) }
@@ -70,14 +70,14 @@ impl SiteMemory {
         })
     }
 
-    /// For how many sites it is.
+    /// Returns for how many sites it is.
     pub fn len(&self) -> usize
         ensures { result ≡ length self.now }
     {
         self.buffers.len()
     }
 
-    /// It is for sites whose mini blocks have as many words as these.
+    /// Returns whether it is for sites whose mini blocks have as many words as these.
     pub fn is_for(&self, sites: &[Site]) -> bool
         requires { (s : Site) → In s sites.now → counts.site_words s < 2 ^ 32 }
         ensures { result ≡ pointwise (λ v w. v == w) (map counts.site_words sites.now) self.now }

@@ -13,7 +13,7 @@ use pn_types::{FIRST_SLOT, NoMemory, Placed, Var};
 use std::alloc::Global;
 use tool_space::Space;
 
-/// The first slot of an instrument.
+/// Returns the first slot of an instrument.
 fn first_slot_of(placed: &Placed) -> u32
     ensures { result ≡ first_or first_slot placed.now.slots }
 {
@@ -28,7 +28,8 @@ pub fn give_slots(slots: &mut Space, placed: &Placed)
     requires few { slot_count placed.now.vars < 2 ^ 32 }
     requires reserved { 0 < slot_count placed.now.vars → 0 < slots.old.gives }
     requires taken { 0 < slot_count placed.now.vars → IsTaken slots.old (slots_of_placed placed.now).at (slots_of_placed placed.now).len }
-    ensures { slots.new ≡ (if nat_lt 0 (slot_count placed.now.vars) then after_give slots.old (slots_of_placed placed.now).at (slots_of_placed placed.now).len else slots.old) }
+    ensures { slots.new ≡ (if nat_lt 0 (slot_count placed.now.vars)
+        then after_give slots.old (slots_of_placed placed.now).at (slots_of_placed placed.now).len else slots.old) }
 {
     let count = slot_count(placed.vars.as_slice());
     if count > 0 {
@@ -36,7 +37,7 @@ pub fn give_slots(slots: &mut Space, placed: &Placed)
     }
 }
 
-/// The slots of variables, which follow each other from one on. `slots` gives the memory.
+/// Returns the slots of variables, which follow each other from `first` on. `slots` gives the memory.
 pub fn slots_from(slots: Vec<u32>, first: u32, vars: &[Var]) -> Vec<u32>
     requires few { first + slot_count vars.now < 2 ^ 32 }
     requires empty { slots.items ≡ [] }
@@ -52,7 +53,11 @@ pub fn slots_from(slots: Vec<u32>, first: u32, vars: &[Var]) -> Vec<u32>
     slots
 }
 
-/// A copy of variables.
+/// Returns a copy of variables.
+///
+/// # Errors
+///
+/// `NoMemory` where memory runs out.
 pub fn copy_vars(alloc: Global, vars: &[Var]) -> Result<Vec<Var>, NoMemory>
     ensures { IfOk result (λ copies. copies.items ≡ vars.now) }
 {

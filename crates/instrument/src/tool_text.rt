@@ -1,41 +1,30 @@
 //! The blocks of the tool text: their rooms, and what is to be done for them.
 
-ghost use Rattle.std.specs.Prelude.{◌≡◌, ◌+◌, ◌*◌, ◌<◌, ◌≤◌, ◌++◌, ◌∷◌, [], ◌^◌, Ok, Err, IfErr, IfNone, IfOk, IfSome, OnOk, filter, length, map, take};
+ghost use Rattle.std.specs.Prelude.{◌≡◌, ◌+◌, ◌*◌, ◌<◌, ◌≤◌, ◌++◌, ◌∷◌, [], Ok, Err, IfNone, IfOk, IfSome, OnOk, filter, length, take};
 ghost use Rattle.std.specs.List.{list_any};
 ghost use Rattle.pn_types.specs.Images.{IsImage};
-ghost use Rattle.pn_types.specs.declared.plan.Site.{Site};
-ghost use Rattle.prim_code.specs.Counts.{site_words, word_count};
-ghost use Rattle.prim_code.specs.Named.{AreBelow};
-ghost use Rattle.machine.specs.Cores.{In};
-ghost use Rattle.instrument.specs.Admission as table;
 ghost use Rattle.instrument.specs.Freed.{AllStay, IsTakenOut};
 ghost use Rattle.instrument.specs.Books as books;
-ghost use Rattle.instrument.specs.Placements.{agenda_in, behind_first, first_of, is_mini_room_of, is_site_of, point_in, sites_of, without_sites};
+ghost use Rattle.instrument.specs.Placements.{agenda_in, behind_first, first_of, is_mini_room_of, is_site_of, point_in, without_sites};
 ghost use Rattle.instrument.specs.ToolTexts as texts;
-ghost use Rattle.instrument.specs.ToolTexts.{IsGrown};
 ghost use Rattle.instrument.specs.declared.entry.Entry.TheVariants.{Free};
 
-use crate::buffers::Buffers;
 use crate::costs::{entries_for, takes_for};
 use crate::entry::Entry;
 use crate::ledger::Ledger;
-use crate::number::Refused;
-use crate::placing::place_site;
 use crate::program::Program;
 use crate::room::Room;
-use crate::site_memory::SiteMemory;
-use pn_types::{Image, NoMemory, PlacedSite, SEGMENTS_TO, Site, TOOL_TEXT_LEN};
+use pn_types::{Image, NoMemory, TOOL_TEXT_LEN};
 use std::alloc::{AllocError, Global};
-use std::collections::VecDeque;
 use std::marker::Model;
 use tool_space::Space;
 
-/// The tool text behind a program: the rooms that were taken there, which words are free beside them, and the agenda.
+/// The tool text, which follows a program: the rooms that were taken there, which words are free beside them, and the agenda.
 pub struct ToolText {
-    program: Program,
-    ledger: Ledger,
+    pub(crate) program: Program,
+    pub(crate) ledger: Ledger,
     // Which words are free. A word is the unit of its address divided by 4.
-    words: Space,
+    pub(crate) words: Space,
 }
 
 impl Model for ToolText {
@@ -48,7 +37,7 @@ impl Model for ToolText {
     ghost invariant = { λ t. IsToolText t.program t.ledger t.words };
 }
 
-// By a call of its own: what drops it need not prove the drops of all its parts.
+// Its drop is a function of its own, so that callers need not prove the drops of all its parts.
 impl Drop for ToolText {
     fn drop(self) {
         let ToolText {
@@ -60,11 +49,11 @@ impl Drop for ToolText {
 }
 
 impl ToolText {
-    /// The tool text of an image, with no blocks.
+    /// Makes the tool text of an image, with no blocks.
     ///
     /// # Errors
     ///
-    /// `NoMemory` where memory is wanting.
+    /// `NoMemory` where memory runs out.
     pub fn new(alloc: Global, image: &Image) -> Result<ToolText, NoMemory>
         requires { IsImage image.now }
         ensures { IfOk result (λ text. text ≡ texts.no_blocks image.now) }
@@ -79,14 +68,14 @@ impl ToolText {
         })
     }
 
-    /// Whether a mini block of an instrument has a room.
+    /// Returns whether a mini block of an instrument has a room.
     pub fn has_room_of(&self, owner: u64) -> bool
         ensures { result ≡ list_any (is_mini_room_of owner) self.now.book.rooms }
     {
         self.ledger.has_room_of(owner)
     }
 
-    /// How many entries the agenda has.
+    /// Returns how many entries the agenda has.
     pub fn agenda_len(&self) -> usize
         ensures { result ≡ length self.now.book.agenda }
     {
@@ -106,11 +95,14 @@ impl ToolText {
         self.ledger.hand_out()
     }
 
-    /// Takes out the first Free before which no unlinking of its point stands, and answers its point.
+    /// Removes the first Free before which no unlinking of its point stands, and returns its point.
     pub fn take_free(&mut self) -> Option<u64>
         ensures point { result ≡ point_in (books.first_free [] self.old.book.agenda) }
         ensures program { self.new.program ≡ self.old.program }
-        ensures book { self.new.book ≡ record { rooms = self.old.book.rooms; agenda = agenda_in (books.first_free [] self.old.book.agenda) self.old.book.agenda } }
+        ensures book { self.new.book ≡ record {
+          rooms = self.old.book.rooms;
+          agenda = agenda_in (books.first_free [] self.old.book.agenda) self.old.book.agenda;
+        } }
         ensures spare { self.new.spare_rooms ≡ self.old.spare_rooms }
         ensures takes { self.new.takes ≡ self.old.takes }
         ensures entries { self.old.entries ≤ self.new.entries }
@@ -119,7 +111,7 @@ impl ToolText {
         self.ledger.take_free()
     }
 
-    /// Puts a refused Free at the back.
+    /// Puts a refused Free at the back of the agenda.
     pub fn put_back(&mut self, point: u64)
         requires { 0 < self.old.entries }
         ensures program { self.new.program ≡ self.old.program }
@@ -131,7 +123,7 @@ impl ToolText {
         self.ledger.put_back(point);
     }
 
-    /// Gives back the first room of a point whose block was unlinked, and answers it.
+    /// Gives back the first room of a point whose block was unlinked, and returns it.
     pub fn take_unlinked(&mut self, point: u64) -> Option<Room>
         ensures none { IfNone result (AllStay point self.old.book.rooms) }
         ensures same { IfNone result (self.new ≡ self.old) }
@@ -158,11 +150,11 @@ impl ToolText {
         self.ledger.drop_sites(owner);
     }
 
-    /// Takes the memory that the placing of so many sites needs, and their dropping.
+    /// Reserves memory for the placing and the dropping of `sites` sites.
     ///
     /// # Errors
     ///
-    /// `NoMemory` where memory is wanting.
+    /// `NoMemory` where memory runs out.
     pub fn reserve(&mut self, sites: usize) -> Result<(), NoMemory>
         ensures program { self.new.program ≡ self.old.program }
         ensures book { self.new.book ≡ self.old.book }
@@ -182,121 +174,5 @@ impl ToolText {
         // A site has two rooms at most, and each is one take.
         self.ledger.reserve(takes as usize, entries)?;
         self.words.reserve(takes)
-    }
-
-    /// Places a site of an instrument, for which memory was reserved. `buffers` give the memory of its blocks' words.
-    fn place_site(
-        &mut self,
-        owner: u64,
-        slots: &[u32],
-        site: &Site,
-        buffers: Buffers,
-    ) -> Result<(), Refused>
-        requires rooms { 2 ≤ self.old.spare_rooms }
-        requires takes { 2 ≤ self.old.takes }
-        requires entries { 7 ≤ self.old.entries }
-        requires named { AreBelow (length slots.now) site.now.stmts }
-        requires count { word_count site.now.stmts + 1 < 2 ^ 32 }
-        requires buffers { buffers ≡ word_count site.now.stmts + 1 }
-        ensures ok { OnOk result (table.with_site self.old.program owner slots.now site.now self.old.book ≡ Ok self.new.book) }
-        ensures refused { IfErr result (λ refused. table.with_site self.old.program owner slots.now site.now self.old.book ≡ Err refused) }
-        ensures unchanged { IfErr result (λ refused. self.new.book ≡ self.old.book) }
-        ensures program { self.new.program ≡ self.old.program }
-        ensures rooms_left { self.old.spare_rooms ≤ self.new.spare_rooms + 2 }
-        ensures takes_left { self.old.takes ≤ self.new.takes + 2 }
-        ensures entries_left { self.old.entries ≤ self.new.entries + 7 }
-    {
-        prove!(self.program.tool_at() <= SEGMENTS_TO + 4095);
-        place_site(
-            &self.program,
-            &mut self.ledger,
-            &mut self.words,
-            owner,
-            slots,
-            site,
-            buffers,
-        )
-    }
-
-    /// Places the sites of an instrument in turn, up to the first that is refused.
-    fn place_each(
-        &mut self,
-        owner: u64,
-        slots: &[u32],
-        sites: &[Site],
-        buffers: &mut VecDeque<Buffers>,
-    ) -> Result<(), Refused>
-        requires rooms { 2 * length sites.now ≤ self.old.spare_rooms }
-        requires takes { 2 * length sites.now ≤ self.old.takes }
-        requires entries { 7 * length sites.now ≤ self.old.entries }
-        requires named { (s : Site) → In s sites.now → AreBelow (length slots.now) s.stmts }
-        requires count { (s : Site) → In s sites.now → word_count s.stmts + 1 < 2 ^ 32 }
-        requires buffers { buffers.old.items ≡ map site_words sites.now }
-        ensures ok { OnOk result (table.with_sites self.old.program owner slots.now sites.now self.old.book ≡ Ok self.new.book) }
-        ensures refused { IfErr result (λ refused. table.with_sites self.old.program owner slots.now sites.now self.old.book ≡ Err refused) }
-        ensures program { self.new.program ≡ self.old.program }
-        ensures grown { IsGrown self.old.book self.new.book }
-        ensures rooms_left { self.old.spare_rooms ≤ self.new.spare_rooms + 2 * length sites.now }
-        ensures takes_left { self.old.takes ≤ self.new.takes + 2 * length sites.now }
-        ensures entries_left { self.old.entries ≤ self.new.entries + 7 * length sites.now }
-    {
-        for site in sites {
-            let Some(buffers) = buffers.pop_front() else {
-                unreachable!();
-            };
-            self.place_site(owner, slots, site, buffers)?;
-        }
-        Ok(())
-    }
-
-    /// Keeps so many rooms and entries from the front, and gives back the other rooms.
-    fn truncate(&mut self, rooms: usize, entries: usize)
-        requires { rooms ≤ length self.old.book.rooms }
-        ensures program { self.new.program ≡ self.old.program }
-        ensures book { self.new.book ≡ record { rooms = take rooms self.old.book.rooms; agenda = take entries self.old.book.agenda } }
-        ensures spare { self.new.spare_rooms ≡ self.old.spare_rooms }
-        ensures takes { self.new.takes ≡ self.old.takes }
-        ensures entries { self.old.entries ≤ self.new.entries }
-    {
-        self.ledger.truncate(&mut self.words, rooms, entries);
-    }
-
-    /// Places the sites of an instrument, for which memory was reserved, and answers them. `memory` is their own.
-    ///
-    /// # Errors
-    ///
-    /// Why the first that is refused has no room. Then nothing was placed.
-    pub fn place_sites(
-        &mut self,
-        owner: u64,
-        slots: &[u32],
-        sites: &[Site],
-        memory: SiteMemory,
-    ) -> Result<Vec<PlacedSite>, Refused>
-        requires rooms { 2 * length sites.now ≤ self.old.spare_rooms }
-        requires takes { 2 * length sites.now ≤ self.old.takes }
-        requires entries { 7 * length sites.now ≤ self.old.entries }
-        requires named { (s : Site) → In s sites.now → AreBelow (length slots.now) s.stmts }
-        requires count { (s : Site) → In s sites.now → word_count s.stmts + 1 < 2 ^ 32 }
-        requires new { sites_of owner self.old.book.rooms ≡ [] }
-        requires memory { memory ≡ map site_words sites.now }
-        ensures ok { OnOk result (table.with_sites self.old.program owner slots.now sites.now self.old.book ≡ Ok self.new.book) }
-        ensures sites { IfOk result (λ placed. placed.items ≡ sites_of owner self.new.book.rooms) }
-        ensures refused { IfErr result (λ refused. table.with_sites self.old.program owner slots.now sites.now self.old.book ≡ Err refused) }
-        ensures unchanged { IfErr result (λ refused. self.new.book ≡ self.old.book) }
-        ensures program { self.new.program ≡ self.old.program }
-        ensures rooms_left { self.old.spare_rooms ≤ self.new.spare_rooms + 2 * length sites.now }
-        ensures takes_left { self.old.takes ≤ self.new.takes + 2 * length sites.now }
-        ensures entries_left { self.old.entries ≤ self.new.entries + 7 * length sites.now }
-    {
-        let rooms = self.ledger.count();
-        let entries = self.ledger.entries();
-        let SiteMemory { buffers, placed } = memory;
-        let mut buffers = buffers;
-        if let Err(refused) = self.place_each(owner, slots, sites, &mut buffers) {
-            self.truncate(rooms, entries);
-            return Err(refused);
-        }
-        Ok(self.ledger.sites_of(placed, owner))
     }
 }

@@ -124,7 +124,7 @@ reached_on m a r c = record {
   leads = leads_on r.image r.harts r.budget r.limit r.acts m r.plans a r.leads c;
 }
 
--- ---- what is so of what is reached
+-- ---- what holds of what is reached
 
 -- what is kept of every scene
 pub whole_of : (image : Image) (harts budget limit : ℕ) (acts : List Act) (m : Instrumented) (plans : List Plan) → IsProgram image → Leads image harts budget limit acts m plans

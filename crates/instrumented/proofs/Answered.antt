@@ -1,4 +1,4 @@
--- What is known of a plan that is admitted, and of the answer.
+-- What is known of a plan that is admitted, and of the result.
 use Rattle.std.proofs.Common.{◌≡◌, ℕ, Option, Ok, Err, sym, ap, ◌∙◌, length, ⊎_elim}
 use Rattle.std.specs.Prelude.{Result, ◌⊎◌, IfErr, OnOk}
 use Rattle.pn_types.specs.declared.plan.Plan.{Plan}
@@ -17,7 +17,7 @@ use Rattle.instrument.specs.declared.number.Refused.TheVariants.{NoMemory}
 pub below : (program : Words) (plan : Plan) → IsPlanFor program plan → (s : Site) → In s plan.sites → AreBelow (length plan.vars) s.stmts
 below program plan p s h = (statements_compile plan.vars s.stmts (p.stmts s h)).0
 
--- the placements behind the answer
+-- the placements afterwards
 pub answered : (p q : Placements) (plan : Plan) (cost : Option ℕ) (r : Result InstrumentNo Refused)
     → OnOk r (admission p plan cost ≡ Ok q)
     → IfErr r (λ refused. (refused ≡ NoMemory) ⊎ (admission p plan cost ≡ Err refused))

@@ -181,7 +181,7 @@ swept m p e = done_is Sweeps m ∙ ap (λ o. in_scene (sweeps o (free_behind m.p
 pub none_swept : (m : Instrumented) → None ≡ free_front m.placer → done Sweeps m ≡ record { core = m.core; placer = free_behind m.placer }
 none_swept m e = done_is Sweeps m ∙ ap (λ o. in_scene (sweeps o (free_behind m.placer) (scene_of m)).scene) (sym e)
 
--- ---- what freeing makes, by its answer
+-- ---- what freeing makes, by its result
 
 pub freed_core_by : (m n : Machine) (p : ℕ) (b : Bool) → (IsTrue b ↔ May m.core (events.Free p)) → n ≡ cond b (with_core m (after m.core (events.Free p))) m → n ≡ with_core m (freed_core (is_barred m.core p) p m.core)
 freed_core_by m n p true i e = e ∙ ap (λ x. with_core m (freed_core x p m.core)) (sym (may_is m.core p true i))

@@ -31,7 +31,7 @@ use Rattle.instrumented.proofs.Handed.{First, few_writes, freed_is, is_free, non
 use Rattle.instrumented.proofs.Turns.{AllTurns, are_taken}
 use Rattle.instrumented.proofs.Writes.{admitted_more, back_same, drop_same, taken_same}
 
--- a machine and a placer behind an act
+-- a machine and a placer after an act
 pub record Behind (a : Act) (m n : Machine) (p q : PlacerData) : Type 0 where
   pub state : state_of n q ≡ done a (state_of m p)
   pub sound : IsSound n q

@@ -2,6 +2,7 @@ pub mod Acts
 pub mod Handed
 pub mod Stays
 pub mod Reading
+pub mod ArmedOnce
 pub mod Turns
 pub mod Sums
 pub mod Writes

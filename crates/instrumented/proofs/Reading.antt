@@ -1,5 +1,5 @@
 -- What is read of an instrument between two moments is what its plan measures.
-use Rattle.std.proofs.Common.{◌≡◌, ℕ, ◌+◌, ◌<◌, ◌≤◌, List, [], ◌∷◌, ◌++◌, length, Option, Some, None, refl, sym, ap, ◌∙◌, subst, arith, ⊎_elim, append_assoc}
+use Rattle.std.proofs.Common.{◌≡◌, ℕ, ◌+◌, ◌<◌, ◌≤◌, List, [], ◌∷◌, ◌++◌, length, Some, refl, sym, ap, ◌∙◌, subst, arith, ⊎_elim, append_assoc}
 use Rattle.std.specs.Prelude.{Bool, true, false, slice_get, ◌==◌}
 use Rattle.std.proofs.lemmas.Bool.{true≢false, cases_Bool, cond-true, eq-eqb, eqb-true}
 use Rattle.pn_types.specs.declared.limits.TheConstants.{MAX_BUDGET}
@@ -15,20 +15,16 @@ use Rattle.tramp_spec.specs.Slots.{places, places_of, IsSlotOf, ShareNone, width
 use Rattle.machine.specs.Cores.{In, Core, start_core}
 use Rattle.machine.specs.Effects.{after}
 use Rattle.machine.specs.Events as events
-use Rattle.machine.specs.Events.{Event, IsQuiet, May}
-use Rattle.machine.specs.Instruments.{AllLet, Carries, CarriesSites, InForce, IsSpared, Lets}
+use Rattle.machine.specs.Events.{Event, IsQuiet}
+use Rattle.machine.specs.Instruments.{AllLet, Carries, CarriesSites, InForce, IsSpared}
 use Rattle.machine.specs.Laws.{IsProgram}
 use Rattle.machine.specs.Measures.{difference, measure}
 use Rattle.machine.specs.Readings.{IsSampled, readings}
 use Rattle.machine.specs.Replays.{owns, replay}
 use Rattle.machine.proofs.Lists.{map_in}
 use Rattle.machine.proofs.Readings.{readings_measure}
-use Rattle.instrument.specs.Books.{freed_point}
-use Rattle.instrument.specs.Handing.{event_of, is_barred}
-use Rattle.instrument.specs.Placements.{Placements, behind, free_behind, free_front, front, instrument_at, with_state}
-use Rattle.instrument.specs.Scenes.{Act, Happens, Admits, Arms, Drops, Hands, Sweeps, AllCanDo, CanArm, CanDo, IsTurnOrSample, Scene, arms, does, events_of, first_scene, frees, hands, hands_by, scene_after, sweeps}
-use Rattle.instrument.specs.declared.entry.Entry.{Entry}
-use Rattle.instrument.specs.declared.entry.Entry.TheVariants.{WriteBase, WriteMini, LinkMini, LinkPoint, UnlinkMini, UnlinkPoint, Free}
+use Rattle.instrument.specs.Placements.{with_state}
+use Rattle.instrument.specs.Scenes.{Act, Arms, AllCanDo, CanArm, Scene, arms, does, events_of, first_scene, scene_after}
 use Rattle.instrument.specs.declared.instrument.Instrument.{Instrument}
 use Rattle.instrument.specs.declared.number.State.TheVariants.{Placing, Armed}
 use Rattle.instrument.proofs.Armings.{found_at}
@@ -38,6 +34,7 @@ use Rattle.instrument.proofs.Folds.{append_nil}
 use Rattle.instrument.proofs.Wholes.{Whole}
 use Rattle.instrumented.proofs.Acts.{can_first, can_rest, events_append, scene_append}
 use Rattle.instrumented.proofs.Stays.{Stay, acts_stay}
+use Rattle.instrumented.proofs.ArmedOnce.{NoArm, no_arm_append, let_in, same_parts, ArmsOther, act_no_arm}
 
 -- ---- an instrument shares slots with itself
 
@@ -53,95 +50,6 @@ first_place (s ∷ slots) (v ∷ vars) e l = (s, (0, record { slot = s; timer = 
 
 shares : (i : Placed) → length i.slots ≡ length i.vars → 0 < length i.vars → ShareNone (places_of i) (places_of i) → ⊥
 shares i many some none = let q = first_place i.slots i.vars many some in none q.0 q.1 q.1
-
--- ---- partings of a list at an event
-
--- no event of the list arms the instrument
-abbrev NoArm : Placed → List Event → Type 0
-NoArm i [] = Unit {0}
-NoArm i (e ∷ es) = (e ≡ events.Arm i → ⊥) × NoArm i es
-
-no_arm_append : (i : Placed) (xs ys : List Event) → NoArm i xs → NoArm i ys → NoArm i (xs ++ ys)
-no_arm_append i [] ys a b = b
-no_arm_append i (x ∷ xs) ys a b = (a.0, no_arm_append i xs ys a.1 b)
-
-not_in : (i : Placed) (xs ys : List Event) → NoArm i (xs ++ events.Arm i ∷ ys) → ⊥
-not_in i [] ys a = a.0 refl
-not_in i (x ∷ xs) ys a = not_in i xs ys a.1
-
-let_in : (i : Placed) (xs ys : List Event) → AllLet i (xs ++ events.Arm i ∷ ys) → Lets i (events.Arm i)
-let_in i [] ys a = a.0
-let_in i (x ∷ xs) ys a = let_in i xs ys a.1
-
--- two partings of a list at the arming, behind which it isn't armed again
-record Same (before since eb es : List Event) : Type 0 where
-  fronts : before ≡ eb
-  backs : since ≡ es
-
-same_parts : (i : Placed) (before since eb es : List Event) → before ++ events.Arm i ∷ since ≡ eb ++ events.Arm i ∷ es
-    → ((xs ys : List Event) → since ≡ xs ++ events.Arm i ∷ ys → ⊥) → NoArm i es → Same before since eb es
-same_parts i [] since [] es e f g = record { fronts = refl; backs = cc }
-same_parts i [] since (y ∷ eb) es e f g = let z : since ≡ eb ++ events.Arm i ∷ es = cc in absurd (f eb es z)
-same_parts i (x ∷ before) since [] es e f g = let z : es ≡ before ++ events.Arm i ∷ since = cc in absurd (not_in i before since (subst (NoArm i) z g))
-same_parts i (x ∷ before) since (y ∷ eb) es e f g =
-    let z : before ++ events.Arm i ∷ since ≡ eb ++ events.Arm i ∷ es = cc in
-    let h : x ≡ y = cc in
-    let s = same_parts i before since eb es z f g in
-    record { fronts = ap (λ l. x ∷ l) s.fronts ∙ ap (λ v. v ∷ eb) h; backs = s.backs }
-
--- ---- an instrument that is armed isn't armed again
-
-turns_no_arm : (i : Placed) (e : Event) → IsTurnOrSample e → NoArm i (e ∷ [])
-turns_no_arm i (events.Turn h) t = ((λ q. absurd cc), tt)
-turns_no_arm i (events.Sample j) t = ((λ q. absurd cc), tt)
-turns_no_arm i (events.Arm j) t = absurd t
-turns_no_arm i (events.Write b) t = absurd t
-turns_no_arm i (events.LinkMini p m) t = absurd t
-turns_no_arm i (events.UnlinkMini p m) t = absurd t
-turns_no_arm i (events.LinkPoint p) t = absurd t
-turns_no_arm i (events.UnlinkPoint p) t = absurd t
-turns_no_arm i (events.Free p) t = absurd t
-
-frees_no_arm : (i : Placed) (b : Bool) (p : ℕ) (q : Placements) (s : Scene) → NoArm i (frees b p q s).events
-frees_no_arm i true p q s = tt
-frees_no_arm i false p q s = ((λ e. absurd cc), tt)
-
-entry_no_arm : (i : Placed) (c : Core) (e : Entry) → event_of c e ≡ events.Arm i → ⊥
-entry_no_arm i c (WriteBase b) q = absurd cc
-entry_no_arm i c (WriteMini b) q = absurd cc
-entry_no_arm i c (LinkMini p m) q = absurd cc
-entry_no_arm i c (LinkPoint p m) q = absurd cc
-entry_no_arm i c (UnlinkMini p m) q = absurd cc
-entry_no_arm i c (UnlinkPoint p m) q = absurd cc
-entry_no_arm i c (Free p) q = absurd cc
-
-by_no_arm : (i : Placed) (s : Scene) (o : Option ℕ) (e : Entry) → NoArm i (hands_by o e s).events
-by_no_arm i s None e = (entry_no_arm i s.core e, tt)
-by_no_arm i s (Some p) e = frees_no_arm i (is_barred s.core p) p (behind s.placer) s
-
-hands_no_arm : (i : Placed) (s : Scene) (o : Option Entry) → NoArm i (hands o s).events
-hands_no_arm i s None = tt
-hands_no_arm i s (Some e) = by_no_arm i s (freed_point e) e
-
-sweeps_no_arm : (i : Placed) (s : Scene) (o : Option ℕ) → NoArm i (sweeps o (free_behind s.placer) s).events
-sweeps_no_arm i s None = tt
-sweeps_no_arm i s (Some p) = frees_no_arm i false p (free_behind s.placer) s
-
-arms_no_arm : (i : Placed) (s : Scene) (j : Instrument) → (j.placed ≡ i → ⊥) → (o : Option Instrument) → o ≡ Some j → NoArm i (arms o s).events
-arms_no_arm i s j n None e = absurd cc
-arms_no_arm i s j n (Some k) e = ((λ q. let p : k.placed ≡ i = cc in let z : k ≡ j = cc in n (ap (λ (x : Instrument). x.placed) (sym z) ∙ p)), tt)
-
--- no instrument that can be armed acts where `i` does
-abbrev ArmsOther : Placed → Scene → Type 0
-ArmsOther i s = (n : ℕ) (c : CanArm n s) → (c.instrument).placed ≡ i → ⊥
-
-act_no_arm : (i : Placed) (s : Scene) (a : Act) → CanDo a s → ArmsOther i s → NoArm i (does a s).events
-act_no_arm i s (Happens e) c f = turns_no_arm i e c.0
-act_no_arm i s (Admits plan cost) c f = tt
-act_no_arm i s (Arms n) c f = arms_no_arm i s c.instrument (f n c) (instrument_at s.placer n) c.is
-act_no_arm i s (Drops n) c f = tt
-act_no_arm i s Hands c f = hands_no_arm i s (front s.placer)
-act_no_arm i s Sweeps c f = sweeps_no_arm i s (free_front s.placer)
 
 -- ---- the course of an instrument
 

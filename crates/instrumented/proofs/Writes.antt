@@ -1,4 +1,4 @@
--- How many blocks an agenda is to write, behind each call.
+-- How many blocks an agenda is to write, after each call.
 use Rattle.std.proofs.Common.{◌≡◌, ℕ, suc, ◌+◌, ◌*◌, ◌≤◌, List, [], ◌∷◌, ◌++◌, length, Option, Some, None, Ok, Err, refl, sym, ap, ◌∙◌, arith}
 use Rattle.std.specs.Prelude.{map, filter, find, Bool, true, false, cond, Result, nat_le}
 use Rattle.pn_types.specs.declared.plan.Plan.{Plan}
@@ -73,7 +73,7 @@ taken_same p = by (first_free [] p.book.agenda) refl
 
 -- ---- an admission writes two at each site at most
 
--- so many more at most
+-- at most a number more
 abbrev FewMore : ℕ → Book → Result Book Refused → Type 0
 FewMore n book (Ok after) = writes_in after.agenda ≤ writes_in book.agenda + n
 FewMore n book (Err refused) = Unit {0}

@@ -42,7 +42,7 @@ machine_event c (UnlinkMini p m) = events.UnlinkMini p m
 machine_event c (UnlinkPoint p) = events.UnlinkPoint p
 machine_event c (Free p) = events.Free p
 
--- a mini block can be written behind the head of its point
+-- a mini block can be written so that it follows the head of its point
 pub record CanWriteMini (c : Core) (b : Block) : Type 0 where
   pub some : 0 < length b.words
   pub low : b.at + 4 * length b.words < 2 ^ 63

@@ -15,7 +15,7 @@ pub record Instrumented : Type 0 where
   pub core : Core
   pub placer : Placements
 
--- An image that starts on so many harts, with no instrument. So many may be there at once.
+-- An image that starts on a number of harts, with no instrument. `limit` instruments may be there at once.
 abbrev pub first_instrumented : Image → ℕ → ℕ → ℕ → Instrumented
 first_instrumented image harts budget limit = record { core = start_core image harts budget; placer = no_placements image limit }
 
@@ -32,7 +32,7 @@ scene_of m = scene_with [] m
 abbrev pub in_scene : Scene → Instrumented
 in_scene s = record { core = s.core; placer = s.placer }
 
--- The machine and its instruments behind an act.
+-- The machine and its instruments after an act.
 unfoldable pub done : Act → Instrumented → Instrumented
 done a m = in_scene (does a (scene_of m)).scene
 
@@ -44,7 +44,7 @@ all_done (a ∷ acts) m = all_done acts (done a m)
 abbrev pub taken : List Event → Instrumented → Instrumented
 taken turns m = all_done (map Happens turns) m
 
--- the same act so many times
+-- the same act, a number of times
 abbrev pub repeated : ℕ → Act → Instrumented → Instrumented
 repeated zero a m = m
 repeated (suc n) a m = repeated n a (done a m)

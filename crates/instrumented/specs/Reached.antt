@@ -12,7 +12,7 @@ pub record Leads (image : Image) (harts budget limit : ℕ) (acts : List Act) (m
   pub can : AllCanDo acts (first_scene image harts budget limit)
   pub scene : scene_after acts (first_scene image harts budget limit) ≡ scene_with plans m
 
--- some acts lead there
+-- some acts lead to it
 pub record IsReached (m : Instrumented) : Type 0 where
   pub image : Image
   pub harts : ℕ

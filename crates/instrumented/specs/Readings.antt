@@ -27,7 +27,7 @@ pub record Opening : Type 0 where
 abbrev pub scene_at : Opening → List Act → Scene
 scene_at o acts = scene_after acts (first_scene o.image o.harts o.budget o.limit)
 
--- the program's own run behind these acts, and the time
+-- the program's own run after these acts, and the time
 abbrev pub owns_at : Opening → List Act → List ℕ
 owns_at o acts = owns (events_of acts (first_scene o.image o.harts o.budget o.limit)) (start_core o.image o.harts o.budget)
 
@@ -63,6 +63,9 @@ pub record IsReadable (o : Opening) (n : ℕ) (plan : Plan) (c : Course) : Type 
 -- The sum of its readings over these harts, minus that at the earlier moment, is what the plan measures between the two.
 abbrev pub ReadsMeasure : Type 0
 ReadsMeasure =
-    (o : Opening) (n : ℕ) (plan : Plan) (harts : List ℕ) (c : Course) → IsProgram o.image → o.budget ≤ MAX_BUDGET → IsMeasurable plan → 0 < length plan.vars → (r : IsReadable o n plan c)
-    → difference (readings (r.instrument).placed harts (scene_at o (to_earlier n c)).core) (readings (r.instrument).placed harts (scene_at o (to_later n c)).core)
-    ≡ measure (program_of o.image) plan harts (time_at o c.before) (time_at o (to_earlier n c)) (time_at o (to_later n c)) (owns_at o (to_later n c)) (start o.image o.harts)
+    (o : Opening) (n : ℕ) (plan : Plan) (harts : List ℕ) (c : Course)
+    → IsProgram o.image → o.budget ≤ MAX_BUDGET → IsMeasurable plan → 0 < length plan.vars → (r : IsReadable o n plan c)
+    → difference (readings (r.instrument).placed harts (scene_at o (to_earlier n c)).core)
+    (readings (r.instrument).placed harts (scene_at o (to_later n c)).core)
+    ≡ measure (program_of o.image) plan harts
+    (time_at o c.before) (time_at o (to_earlier n c)) (time_at o (to_later n c)) (owns_at o (to_later n c)) (start o.image o.harts)

@@ -1,4 +1,4 @@
-//! Plans are admitted.
+//! Reserves for plans, and admits them.
 
 ghost use Rattle.std.specs.Prelude.{◌≡◌, ◌+◌, ◌*◌, ◌<◌, ◌≤◌, ◌^◌, Ok, Err, IfErr, IfOk, IfSome, OnErr, OnOk, [], map, ◌⊎◌};
 ghost use Rattle.pn_types.specs.declared.plan.Plan.{Plan};
@@ -16,7 +16,8 @@ use instrument::{InstrumentNo, Refused};
 use pn_types::{NoMemory, Plan};
 use std::alloc::{AllocError, Global};
 
-/// Room for two blocks at each site of these plans, beside so many. None where they are more than can be counted.
+/// Returns the number of blocks where there are two at each site of these plans, and `beside` others. None where they are more than
+/// can be counted.
 fn blocks_for(plans: &[Plan], beside: usize) -> Option<u32>
     ensures { IfSome result (λ blocks. beside + 2 * sites_in (map need_of plans.now) ≤ blocks) }
 {
@@ -29,12 +30,12 @@ fn blocks_for(plans: &[Plan], beside: usize) -> Option<u32>
 }
 
 impl InstrumentedMachine {
-    /// Takes the memory for the admission of each of these plans, which are ready then, in any order. What was kept for other
+    /// Reserves memory for the admission of each of these plans, which are ready then, in any order. What was reserved for other
     /// plans is given up.
     ///
     /// # Errors
     ///
-    /// `NoMemory` where memory is wanting. Then the plans that were ready are so still, or none is.
+    /// `NoMemory` where memory runs out. Then either the plans that were ready before are still ready, or none is.
     pub fn reserve(&mut self, alloc: Global, plans: &[Plan]) -> Result<(), NoMemory>
         requires words { (p : Plan) → In p plans.now → table.predicted p < 2 ^ 32 }
         ensures state { self.new.state ≡ self.old.state }
@@ -49,12 +50,12 @@ impl InstrumentedMachine {
     }
 
     /// Admits a plan that is ready, under the search's limit of the cost in words if there is one: the instrument gets its slots
-    /// and rooms, and the placing of its sites is put into the agenda. Its number is answered. The plan isn't ready any more.
+    /// and rooms, and the placing of its sites is put into the agenda. Returns its number. The plan isn't ready any more.
     ///
     /// # Errors
     ///
-    /// Why it is refused: it costs too much, there are as many instruments as are allowed, or slots or words of the tool text
-    /// are wanting, or a word can't be moved. Then no instrument has changed. Memory is never wanting.
+    /// Why it is refused: it costs too much, there are as many instruments as are allowed, too few slots or words of the tool text
+    /// are free, or a word can't be moved. Then no instrument has changed. It is never for memory, which was reserved.
     pub fn admit(
         &mut self,
         alloc: Global,

@@ -1,4 +1,4 @@
-//! Instruments are armed, read and dropped.
+//! Arms, reads and drops instruments.
 
 ghost use Rattle.std.specs.Prelude.{◌≡◌, ◌≤◌, ◌+◌, ◌⊎◌, if◌then◌else◌, IfSome, IsTrue, length};
 ghost use Rattle.std.specs.List.{range_with_len};
@@ -14,7 +14,7 @@ use crate::instrumented_machine::InstrumentedMachine;
 use instrument::InstrumentNo;
 use machine::Sample;
 
-/// The sum of the readings of so many harts from a number on, modulo 2^64.
+/// Returns the sum of the readings of `count` harts from number `first` on, modulo 2^64.
 fn sum_of(readings: &[u64], first: u32, count: u32) -> u64
     requires { first + count ≤ length readings.now }
     ensures { result ≡ sum_from readings.now first count }
@@ -28,7 +28,7 @@ fn sum_of(readings: &[u64], first: u32, count: u32) -> u64
 }
 
 impl InstrumentedMachine {
-    /// Arms an instrument that is being placed where all its sites are linked, and answers whether they are. No hart is inside a
+    /// Arms an instrument that is being placed where all its sites are linked, and returns whether they are. No hart is inside a
     /// trampoline. It takes no memory.
     pub fn arm(&mut self, number: InstrumentNo) -> bool
         requires quiet { IsQuiet self.old.state.core }
@@ -46,17 +46,18 @@ impl InstrumentedMachine {
         true
     }
 
-    /// The sum of an instrument's readings of so many harts from a number on, modulo 2^64. No hart is inside a trampoline. `sample`
-    /// has a place for each hart, where their readings are put.
+    /// Returns the sum of an instrument's readings of `count` harts from number `first` on, modulo 2^64. No hart is inside a
+    /// trampoline. `sample` has a place for each hart, where their readings are put.
     pub fn read(&self, number: InstrumentNo, first: u32, count: u32, sample: &mut Sample) -> u64
         requires quiet { IsQuiet self.now.state.core }
         requires there { state_of self.now.state.placer number.n ≡ Gone → ⊥ }
         requires places { length sample.old.readings ≡ length self.now.state.core.harts }
         requires harts { first + count ≤ length self.now.state.core.harts }
-        ensures sum { IfSome (instrument_at self.now.state.placer number.n) (λ i. result ≡ readings i.placed (range_with_len first count) self.now.state.core) }
+        ensures sum { IfSome (instrument_at self.now.state.placer number.n)
+            (λ i. result ≡ readings i.placed (range_with_len first count) self.now.state.core) }
         ensures places { length sample.new.readings ≡ length sample.old.readings }
     {
-        let _quiet = self.machine.sample(self.placer.placed(number), sample);
+        self.machine.sample(self.placer.placed(number), sample);
         sum_of(sample.readings.as_slice(), first, count)
     }
 

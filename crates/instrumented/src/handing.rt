@@ -1,4 +1,4 @@
-//! The agenda is handed out and done.
+//! Hands out the agenda and does its entries.
 
 ghost use Rattle.std.specs.Prelude.{◌≡◌, ◌-◌, ◌<◌, ◌≤◌, IsFalse, is_some};
 ghost use Rattle.machine.specs.Effects.{after};
@@ -21,15 +21,18 @@ use tramp_spec::Block;
 fn write_mini(machine: &mut Machine, mut block: Block)
     requires may { CanWriteMini machine.old.core block }
     requires room { 0 < machine.old.room }
-    ensures { machine.new ≡ record { core = after machine.old.core (events.Write (led machine.old.core block)); room = machine.old.room - 1 } }
+    ensures { machine.new ≡ record {
+      core = after machine.old.core (events.Write (led machine.old.core block));
+      room = machine.old.room - 1;
+    } }
 {
     let next = machine.head(block.point);
     set_next(&mut block, next);
     machine.write(&block);
 }
 
-/// Frees a point: true exactly where no hart bars it. Then the rooms of its unlinked blocks are given back, and else its Free is
-/// put back.
+/// Frees a point, and returns whether no hart bars it. Then the rooms of its unlinked blocks are given back; else its Free is put
+/// back.
 #[tactic(auto, using(crate::proofs::Handed::freed_core_by, crate::proofs::Handed::freed_rooms_by, crate::proofs::Handed::back_rooms_by))]
 fn free(machine: &mut Machine, placer: &mut Placer, point: u64)
     requires { 0 < placer.old.entries }
@@ -44,7 +47,7 @@ fn free(machine: &mut Machine, placer: &mut Placer, point: u64)
     }
 }
 
-/// Does what is handed out.
+/// Does what an event says.
 fn perform(machine: &mut Machine, placer: &mut Placer, event: Event)
     requires doable { IsDoable machine.old.core event }
     requires room { writes event ≤ machine.old.room }
@@ -76,7 +79,7 @@ impl InstrumentedMachine {
         }
     }
 
-    /// Does the first Free before which no unlinking of its point stands, and answers whether there is one. Where there is none
+    /// Does the first Free before which no unlinking of its point stands, and returns whether there is one. Where there is none
     /// nothing changes. No hart is inside a trampoline. It takes no memory.
     pub fn sweep(&mut self) -> bool
         requires { IsQuiet self.old.state.core }
@@ -88,7 +91,7 @@ impl InstrumentedMachine {
         let Some(point) = self.placer.next_free() else {
             return false;
         };
-        let _freed = self.machine.free(point);
+        self.machine.free(point);
         self.placer.freed(point);
         true
     }

@@ -1,3 +1,5 @@
+//! The patched machine with its instruments.
+
 ghost use Rattle.std.specs.Prelude.{◌≡◌, nat_le, ◌<◌, ◌≤◌, None, Some, IfOk, [], length, slice_get};
 ghost use Rattle.std.specs.List.{AllByRecursion};
 ghost use Rattle.std.specs.Option.{option_map};
@@ -44,13 +46,13 @@ impl Model for InstrumentedMachine {
 }
 
 impl InstrumentedMachine {
-    /// The machine in which an image starts, on so many harts and with so many ticks for each. It has no instrument. So many may
-    /// be in it at once. No word of the text may name x31, which is the tool's; then the image is a program for which the laws of
-    /// the machine hold.
+    /// Makes the machine in which an image starts, with this number of harts and budget of ticks for each. It has no instrument,
+    /// and at most `instruments` may be in it at once. No word of the text may name x31, which is the tool's; then the image is a
+    /// program for which the laws of the machine hold.
     ///
     /// # Errors
     ///
-    /// `NoMemory` where memory is wanting.
+    /// `NoMemory` where memory runs out.
     pub fn new(
         alloc: Global,
         image: &Image,
@@ -73,28 +75,28 @@ impl InstrumentedMachine {
         })
     }
 
-    /// How many entries the agenda has.
+    /// Returns how many entries the agenda has.
     pub fn agenda_len(&self) -> usize
         ensures { result ≡ length self.now.state.placer.book.agenda }
     {
         self.placer.agenda_len()
     }
 
-    /// Where an instrument is on its way.
+    /// Returns how far an instrument has come.
     pub fn state(&self, number: InstrumentNo) -> State
         ensures { result ≡ state_of self.now.state.placer number.n }
     {
         self.placer.state(number)
     }
 
-    /// Whether there are as many instruments that aren't gone as are allowed at once.
+    /// Returns whether there are as many instruments that aren't gone as are allowed at once.
     pub fn is_full(&self) -> bool
         ensures { result ≡ nat_le self.now.state.placer.limit (length self.now.state.placer.instruments) }
     {
         self.placer.is_full()
     }
 
-    /// How many of its words the hart executed.
+    /// Returns how many of its words the hart executed.
     pub fn ticks(&self, hart: HartNo) -> u64
         requires { hart < length self.now.state.core.harts }
         ensures { option_map (λ x. x.ticks) (slice_get self.now.state.core.harts hart) ≡ Some result }
@@ -102,7 +104,7 @@ impl InstrumentedMachine {
         self.machine.ticks(hart)
     }
 
-    /// Why the hart stopped, or none where it isn't stopped.
+    /// Returns why the hart stopped, or none where it isn't stopped.
     pub fn stop(&self, hart: HartNo) -> Option<Cause>
         requires { hart < length self.now.state.core.harts }
         ensures { option_map (λ x. x.stop) (slice_get self.now.state.core.harts hart) ≡ Some result }
@@ -110,23 +112,24 @@ impl InstrumentedMachine {
         self.machine.stop(hart)
     }
 
-    /// Where the program's hart is: the hart's pc, and inside a trampoline the home of that. Of a stopped hart it is the pc of its
-    /// last word.
+    /// Returns where the hart stands in the program: its pc, or inside a trampoline its home. For a stopped hart it is the pc of
+    /// its last word.
     pub fn at(&self, hart: HartNo) -> u64
         requires { hart < length self.now.state.core.harts }
-        ensures { option_map (program_pc self.now.state.core.code self.now.state.core.rows) (slice_get self.now.state.core.harts hart) ≡ Some result }
+        ensures { option_map (program_pc self.now.state.core.code self.now.state.core.rows) (slice_get self.now.state.core.harts hart)
+            ≡ Some result }
     {
         self.machine.at(hart)
     }
 
-    /// What the program wrote.
+    /// Returns what the program wrote.
     pub fn output(&self) -> &[u8]
         ensures { result.now ≡ self.now.state.core.prog.out }
     {
         self.machine.output()
     }
 
-    /// Whether the hart isn't stopped, and is inside a trampoline or has fewer ticks than the budget.
+    /// Returns whether the hart isn't stopped, and is inside a trampoline or has fewer ticks than the budget.
     pub fn runnable(&self, hart: HartNo) -> bool
         requires { hart < length self.now.state.core.harts }
         ensures { result ≡ is_runnable self.now.state.core hart }

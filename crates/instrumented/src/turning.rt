@@ -12,7 +12,7 @@ use machine::Taken;
 use pn_types::HartNo;
 
 impl InstrumentedMachine {
-    /// Turns of the hart, at most so many, as long as it is runnable. It takes no memory.
+    /// Lets the hart take turns, at most `most`, as long as it is runnable. It takes no memory.
     pub fn take_turns(&mut self, hart: HartNo, most: u32) -> Taken
         requires { hart < length self.old.state.core.harts }
         ensures taken { self.new ≡ record self.old { state = taken (quantum_turns most hart self.old.state.core) self.old.state } }
@@ -24,8 +24,8 @@ impl InstrumentedMachine {
         self.machine.take_turns(hart, most)
     }
 
-    /// Each hart that is inside a trampoline, by number, takes turns until it is outside or stopped. It answers how many turns
-    /// these were, and takes no memory. Then no hart is inside.
+    /// Lets each hart that is inside a trampoline, by number, take turns until it is outside or stopped. Returns how many turns
+    /// these were. Then no hart is inside. It takes no memory.
     pub fn take_settling(&mut self) -> Taken
         ensures settled { self.new ≡ record self.old { state = taken (settling self.old.state.core) self.old.state } }
         ensures turns { result.turns ≡ length (settling self.old.state.core) }

@@ -40,7 +40,7 @@ module _ (i : Inputs) (workers turns : ℕ) (team : 1 ≤ workers) (few : worker
   abbrev IsRight : Quantum → Type 0
   IsRight q = (q.turns ≡ turns) × (q.worker ≡ q.hart % workers)
 
-  -- so many quanta were taken, and these harts wait for their turns
+  -- `number` quanta were taken, and these harts wait for their turns
   record Waits (number : ℕ) (quanta : List Quantum) (waits : List ℕ) : Type 0 where
     allowed : AreAllowed i quanta
     many : length quanta ≡ number
@@ -117,7 +117,7 @@ module _ (i : Inputs) (workers turns : ℕ) (team : 1 ≤ workers) (few : worker
       by h (inl there) = absurd there
       by h (inr halts) = halts
 
-  -- where so many quanta can follow
+  -- where a number of quanta can follow
   abbrev GoesOn : ℕ → Type 0
   GoesOn left = (number : ℕ) (quanta : List Quantum) (waits : List ℕ) → number + left ≡ MAX_QUANTA → Waits number quanta waits → HasWhole
 

@@ -1,4 +1,4 @@
--- A hart that is halted behind some quanta is halted behind all that follow.
+-- A hart that is halted after some quanta is halted after all that follow.
 use Rattle.std.proofs.Common.{ℕ, List, [], ◌∷◌, ◌++◌, Option, Some, None, ap, ◌∙◌, inl, inr, length, length-append, arith}
 use Rattle.std.proofs.lemmas.Bool.{cond_both}
 use Rattle.pn_types.specs.declared.quantum.Quantum.{Quantum}

@@ -1,4 +1,4 @@
--- A hart that isn't runnable stays so, whatever becomes of the machine.
+-- A hart that isn't runnable stays not runnable, whatever becomes of the machine.
 use Rattle.std.proofs.Common.{◌≡◌, ℕ, zero, suc, ◌+◌, List, [], ◌∷◌, Option, Some, None, refl, sym, ap, ◌∙◌, subst, length}
 use Rattle.std.specs.Prelude.{Bool, true, false, cond, map, slice_get}
 use Rattle.std.proofs.lemmas.Bool.{true≢false}

@@ -1,4 +1,4 @@
--- For proofs alone: what is so whenever the lock is free, of a seat, under the lock, and at the end.
+-- For proofs alone: what holds whenever the lock is free, of a seat, under the lock, and at the end.
 use Rattle.std.specs.Prelude.{false, ◌≡◌, ℕ, ◌<◌, List, [], ◌∷◌, ◌++◌, length, map, Some}
 use Rattle.std.specs.List.{AllByRecursion}
 use Rattle.atomic_table.specs.Table.{Me}
@@ -34,7 +34,8 @@ abbrev pub book_with : List Quantum → ℕ → List Quantum → View
 book_with first workers entries = keeping (a_book (length first) entries workers)
 
 -- the session has the named inputs, and the first quanta and then the entries; the badge has the book of these entries
-pub record IsUnderLock (inputs : Inputs) (first : List Quantum) (workers : ℕ) (word : TableId) (from : ℕ) (s : SessionData) (table : TableId) (views : List View) : Type 0 where
+pub record IsUnderLock (inputs : Inputs)
+    (first : List Quantum) (workers : ℕ) (word : TableId) (from : ℕ) (s : SessionData) (table : TableId) (views : List View) : Type 0 where
   pub entries : List Quantum
   pub inputs_are : s.inputs ≡ inputs
   pub open_is : s.closed ≡ false
@@ -49,7 +50,7 @@ pub record IsSeated (word : TableId) (worker : ℕ) (receipts : List Receipt) (t
   pub below : worker < MAX_WORKERS
   pub me_is : me ≡ (working (own_list worker receipts) me.0.notes, [])
 
--- before a step under the lock: one seat has the book, with so many entries, and the other its own list and its notes
+-- before a step under the lock: one seat has the book, with a number of entries, and the other its own list and its notes
 pub record AreToMeet (book seat : Me Quantum View) (made : ℕ) (b : Book) (o : OwnList) (ns : List Note) : Type 0 where
   pub book_is : book ≡ (keeping b, [])
   pub seat_is : seat ≡ (working o ns, [])
@@ -61,7 +62,8 @@ CanEnter worker book seat made = (b : Book) × (o : OwnList) × (ns : List Note)
 
 -- the hart can be noted
 abbrev pub CanNote : Inputs → List Quantum → ℕ → Me Quantum View → Me Quantum View → ℕ → Type 0
-CanNote inputs first hart book seat made = (b : Book) × (o : OwnList) × (ns : List Note) × AreToMeet book seat made b o ns × Halted inputs (first ++ b.entries) hart
+CanNote inputs first hart book seat made =
+    (b : Book) × (o : OwnList) × (ns : List Note) × AreToMeet book seat made b o ns × Halted inputs (first ++ b.entries) hart
 
 -- what the rule says of the seat that has taken in all others
 pub record IsSettled (inputs : Inputs) (first : List Quantum) (b : Book) (v : View) : Type 0 where

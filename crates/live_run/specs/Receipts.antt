@@ -8,7 +8,7 @@ use Rattle.live_run.specs.declared.view.Receipt.{Receipt}
 abbrev pub receipt : ℕ → Quantum → Receipt
 receipt number q = record { number = number; quantum = q }
 
--- the entries behind the first ones
+-- the entries after the first ones
 abbrev pub entries_past : List Quantum → List Quantum → List Quantum
 entries_past first quanta = drop (length first) quanta
 

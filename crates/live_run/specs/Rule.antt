@@ -15,7 +15,7 @@ use Rattle.live_run.specs.Receipts.{AreBelow, receipts_of}
 use Rattle.live_run.specs.Views.{keeping, a_book, entered, noting}
 use Rattle.live_run.specs.Said.{said_of}
 
--- the hart was halted after so many of the entries
+-- the hart was halted after a number of the entries
 abbrev pub IsNoted : Inputs → List Quantum → List Quantum → Note → Type 0
 IsNoted inputs first entries n = (n.at ≤ length entries) × Halted inputs (first ++ take n.at entries) n.hart
 
@@ -35,8 +35,8 @@ pub record IsFitting (inputs : Inputs) (first : List Quantum) (keeper : ℕ) (bo
   pub notes : AllByRecursion (IsNoted inputs first book.entries) v.notes
 
 -- One view holds the book, and the word is the number of its entries. The lists' workers are those below the book's count of seats,
--- each in one view. A list is the book's entries of its worker, in order, with their numbers. The book has no entry of another worker.
--- Each noted hart was halted after so many entries.
+-- each in one view. A list is the book's entries of its worker, in order, with their numbers. The book has no entry of another
+-- worker. Each noted hart was halted after as many entries as its note says.
 pub record IsKept (inputs : Inputs) (first : List Quantum) (words : List ℕ) (views : List View) : Type 0 where
   pub keeper : ℕ
   pub book : Book
@@ -51,7 +51,7 @@ pub record IsKept (inputs : Inputs) (first : List Quantum) (words : List ℕ) (v
 abbrev pub IsRuled : Inputs → List Quantum → State Quantum View → Type 0
 IsRuled inputs first s = IsKept inputs first s.words s.views
 
--- the view at the start: an empty book, which begins behind the first quanta
+-- the view at the start: an empty book, which begins after the first quanta
 abbrev pub opening_view : List Quantum → View
 opening_view first = keeping (a_book (length first) [] 0)
 

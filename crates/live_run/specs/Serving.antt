@@ -15,7 +15,7 @@ abbrev pub count : ℕ → List ℕ → ℕ
 count x [] = 0
 count x (y ∷ ys) = one_if (y == x) + count x ys
 
--- between two consecutive places of one number stands exactly one place of each other number that stands after them too
+-- between two consecutive places of one number stands exactly one place of each other number that also stands after them
 abbrev pub AreInTurn : List ℕ → Type 0
 AreInTurn past =
     (a b c : List ℕ) (x : ℕ) → past ≡ (a ++ x ∷ b) ++ x ∷ c → count x b ≡ 0 → (h : ℕ) → h ≢ x → 0 < count h c → count h b ≡ 1
@@ -31,7 +31,7 @@ pub record AreTakingTurns (past waits : List ℕ) : Type 0 where
 abbrev pub harts_in : List Receipt → List ℕ
 harts_in rs = map (λ (r : Receipt). r.quantum.hart) rs
 
--- a receipt for so many turns of a hart of the worker
+-- a receipt for a quantum of these turns of a hart of the worker
 abbrev pub IsFor : ℕ → ℕ → ℕ → Receipt → Type 0
 IsFor workers turns worker r = (r.quantum.turns ≡ turns) × (r.quantum.hart % workers ≡ worker)
 

@@ -1,3 +1,5 @@
+//! Runs a session by a team of workers.
+
 ghost use Rattle.std.specs.Prelude.{false, ◌≡◌, ◌<◌, ◌≤◌, ◌++◌, length, map, IfOk};
 ghost use Rattle.session_spec.specs.Work.{IsWhole};
 ghost use Rattle.session.specs.Sessions.{begun};
@@ -21,12 +23,12 @@ use std::sync::Wait;
 use std::thread;
 use std::thread::Threads;
 
-/// Lets a team of workers share a session that just began, each in a thread, or one after another where no thread can be made. It
-/// answers the session behind all its quanta, which isn't closed.
+/// Lets a team of workers share a session that just began, each in a thread, or one after another where no thread can be made.
+/// Returns the session after all its quanta, which isn't closed.
 ///
 /// # Errors
 ///
-/// `NoMemory` where memory is wanting, also to one worker alone.
+/// `NoMemory` where memory runs out, also for one worker alone.
 pub fn run_live<R: Threads + Wait + Sync, G: Gate + Sync>(
     rt: &R,
     alloc: Global,
@@ -47,11 +49,11 @@ pub fn run_live<R: Threads + Wait + Sync, G: Gate + Sync>(
     run_named::<Brand, R, G>(rt, alloc, word, session, team, gate)
 }
 
-/// The same for a run that has a name, whose session may have quanta already.
+/// Does the same for a run that has a name. Its session may have quanta already.
 ///
 /// # Errors
 ///
-/// `NoMemory` where memory is wanting, also to one worker alone.
+/// `NoMemory` where memory runs out, also for one worker alone.
 fn run_named<I: RunName + Send + Sync, R: Threads + Wait + Sync, G: Gate + Sync>(
     rt: &R,
     alloc: Global,
@@ -78,11 +80,11 @@ fn run_named<I: RunName + Send + Sync, R: Threads + Wait + Sync, G: Gate + Sync>
     Ok(session)
 }
 
-/// The work of all workers. It answers their seats.
+/// Does the work of all workers, and returns their seats.
 ///
 /// # Errors
 ///
-/// `NoMemory` where memory is wanting, also to one worker alone.
+/// `NoMemory` where memory runs out, also for one worker alone.
 fn serve_all<I: RunName + Send + Sync, R: Threads + Wait + Sync, G: Gate + Sync>(
     rt: &R,
     alloc: Global,
@@ -102,18 +104,19 @@ fn serve_all<I: RunName + Send + Sync, R: Threads + Wait + Sync, G: Gate + Sync>
         rt,
         seats,
         &|seat: Seat<I>| -> Result<Seat<I>, NoMemory>
-            requires { (0 < team.workers) × (team.harts ≡ I.inputs.settings.harts) × ((1 ≤ team.turns) × (team.turns ≤ MAX_QUANTUM)) × (seat ≡ fresh_seat seat.worker) }
+            requires { (0 < team.workers) × (team.harts ≡ I.inputs.settings.harts)
+                × ((1 ≤ team.turns) × (team.turns ≤ MAX_QUANTUM)) × (seat ≡ fresh_seat seat.worker) }
             ensures { IfOk result (λ served. IsServed team.harts team.workers team.turns seat.worker served) }
         { serve(rt, alloc, shared, team, gate, seat) },
     )?;
     all_seats(alloc, results)
 }
 
-/// All seats, if no worker was without memory.
+/// Returns all seats, if no worker ran out of memory.
 ///
 /// # Errors
 ///
-/// `NoMemory` where memory is wanting, or was to a worker.
+/// `NoMemory` where memory runs out, or did for a worker.
 fn all_seats<I: RunName>(
     alloc: Global,
     results: Vec<Result<Seat<I>, NoMemory>>,

@@ -1,3 +1,5 @@
+//! What lies behind the lock of a shared session.
+
 ghost use Rattle.std.specs.Prelude.{◌≡◌, ◌≤◌, ◌<◌, ◌++◌, [], ◌∷◌, length, IfOk, IfSome, IfNone, OnErr};
 ghost use Rattle.session_spec.specs.Work.{AreAllowed, Halted, quantum_of};
 ghost use Rattle.session.specs.Sessions.{state_of};
@@ -14,11 +16,11 @@ use session::Session;
 use std::marker::{Model, PhantomData};
 use std::mem;
 
-/// What lies behind the lock: the session of the run that is named. Contracts see the session.
+/// What lies behind the lock: the session of a run that has a name. Contracts see the session.
 #[derive(Drop)]
 pub struct LockedSession<I: RunName> {
     pub(crate) session: Session,
-    // How many quanta it had at first.
+    // How many quanta the session had at first.
     pub(crate) from: usize,
     // The book's seat.
     pub(crate) book: Badge<View>,
@@ -40,8 +42,8 @@ impl<I: RunName> Model for LockedSession<I> {
 }
 
 impl<I: RunName> LockedSession<I> {
-    /// The session. Whenever the lock is got, it is the work of the inputs that are named, and its quanta begin with the first
-    /// ones.
+    /// Returns the session. Whenever the lock is got, it is the session of the inputs that the name names, and its quanta begin
+    /// with the first ones.
     pub fn session(&self) -> &Session
         ensures same { result.now ≡ self.now }
         ensures inputs { result.now.inputs ≡ I.inputs }
@@ -52,12 +54,12 @@ impl<I: RunName> LockedSession<I> {
         &self.session
     }
 
-    /// A quantum of the hart, at most so many turns, for the seat's worker. It answers the receipt, which the seat keeps behind its
-    /// others, and none exactly where the hart can't take a quantum, which the seat then notes.
+    /// Lets the hart take a quantum of at most `turns` turns for the seat's worker. Returns the receipt, which is appended to the
+    /// seat's others, and none exactly where the hart can't take a quantum, which the seat then notes.
     ///
     /// # Errors
     ///
-    /// `NoMemory` where memory is wanting. Then nothing has changed.
+    /// `NoMemory` where memory runs out. Then nothing has changed.
     pub fn quantum(
         &mut self,
         word: &NamedWord<I>,
@@ -69,12 +71,15 @@ impl<I: RunName> LockedSession<I> {
         requires turns { (1 ≤ turns) × (turns ≤ MAX_QUANTUM) }
         ensures inputs { self.new.inputs ≡ self.old.inputs }
         ensures taken { IfOk result (λ answer. IfSome answer (λ r. self.new.quanta ≡ self.old.quanta ++ r.quantum ∷ [])) }
-        ensures asked { IfOk result (λ answer. IfSome answer (λ r. r.quantum ≡ quantum_of self.old.inputs seat.old.worker hart turns (state_of self.old).kept)) }
+        ensures asked { IfOk result
+            (λ answer. IfSome answer (λ r. r.quantum ≡ quantum_of self.old.inputs seat.old.worker hart turns (state_of self.old).kept)) }
         ensures number { IfOk result (λ answer. IfSome answer (λ r. (r.number ≡ length self.old.quanta) × (r.number < MAX_QUANTA))) }
-        ensures receipts { IfOk result (λ answer. IfSome answer (λ r. (seat.new ≡ record seat.old { receipts = seat.old.receipts ++ r ∷ [] }) × AreBelow r.number seat.old.receipts)) }
+        ensures receipts { IfOk result (λ answer. IfSome answer
+            (λ r. (seat.new ≡ record seat.old { receipts = seat.old.receipts ++ r ∷ [] }) × AreBelow r.number seat.old.receipts)) }
         ensures going_on { IfOk result (λ answer. IfSome answer (λ r. Halted self.old.inputs self.old.quanta hart → ⊥)) }
         ensures halted { IfOk result (λ answer. IfNone answer (Halted self.old.inputs self.old.quanta hart)) }
-        ensures none { IfOk result (λ answer. IfNone answer ((self.new ≡ self.old) × (seat.new ≡ record seat.old { noted = seat.old.noted ++ hart ∷ [] }))) }
+        ensures none { IfOk result
+            (λ answer. IfNone answer ((self.new ≡ self.old) × (seat.new ≡ record seat.old { noted = seat.old.noted ++ hart ∷ [] }))) }
         ensures failed { OnErr result ((self.new ≡ self.old) × (seat.new ≡ seat.old)) }
     {
         seat.receipts.reserve(1)?;

@@ -1,3 +1,5 @@
+//! Names of shared runs.
+
 use std::marker::Brand;
 
 /// Names a run: the inputs of its session, the quanta that it has at first, the number of workers, and the word that counts.
@@ -16,7 +18,7 @@ pub trait RunName {
     ghost word: { TableId };
 }
 
-// Alone it names nothing; a call at it picks what is named.
+// A brand alone names nothing: each call at `Brand` picks what it names there.
 impl RunName for Brand {
     ghost use Rattle.std.specs.Prelude.{[]};
     ghost use Rattle.live_run.specs.Unnamed.{no_word, no_inputs};

@@ -29,7 +29,7 @@ pub struct LiveCourse {
 ///
 /// # Errors
 ///
-/// `NoMemory` where memory is wanting, also to one worker alone.
+/// `NoMemory` where memory runs out, also for one worker alone.
 fn live_on<R: Threads + Wait + Sync, G: Gate + Sync>(
     rt: &R,
     alloc: Global,
@@ -50,12 +50,12 @@ fn live_on<R: Threads + Wait + Sync, G: Gate + Sync>(
     record_end(alloc, settings, &mut session, course.skipped)
 }
 
-/// Runs a program with its instruments by a team of workers, until none of its harts can take another quantum. It answers the report
+/// Runs a program with its instruments by a team of workers, until none of its harts can take another quantum. Returns the report
 /// and the log.
 ///
 /// # Errors
 ///
-/// `NoMemory` where memory is wanting, also to one worker alone; `BadPick` with the first wish at tick 0 that is refused, if one is.
+/// `NoMemory` where memory runs out, also for one worker alone; `BadPick` with the first wish at tick 0 that is refused, if one is.
 pub fn record_live<R: Threads + Wait + Sync, G: Gate + Sync>(
     rt: &R,
     alloc: Global,

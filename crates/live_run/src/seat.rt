@@ -1,3 +1,5 @@
+//! A worker's seat.
+
 ghost use Rattle.std.specs.Prelude.{◌≡◌};
 
 use crate::kinds::TableSeat;
@@ -5,8 +7,8 @@ use crate::name::RunName;
 use crate::view::Receipt;
 use std::marker::{Model, PhantomData};
 
-/// A worker's right to quanta of a shared session. Contracts see the worker's number, its receipts, and the harts that it noted
-/// since they were halted.
+/// A worker's right to quanta of a shared session. Contracts see the worker's number, its receipts, and the harts that it noted as
+/// halted.
 #[derive(Drop)]
 pub struct Seat<I: RunName> {
     pub(crate) worker: u32,
@@ -27,14 +29,14 @@ impl<I: RunName> Model for Seat<I> {
 }
 
 impl<I: RunName> Seat<I> {
-    /// The worker's number, below [`MAX_WORKERS`](pn_types::MAX_WORKERS).
+    /// Returns the worker's number, below [`MAX_WORKERS`](pn_types::MAX_WORKERS).
     pub fn worker(&self) -> u32
         ensures { result ≡ self.now.worker }
     {
         self.worker
     }
 
-    /// The receipts of the worker, in order.
+    /// Returns the receipts of the worker, in order.
     pub fn receipts(&self) -> &[Receipt]
         ensures { result.now ≡ self.now.receipts }
     {

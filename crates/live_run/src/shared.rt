@@ -1,3 +1,5 @@
+//! A session that workers share.
+
 ghost use Rattle.std.specs.Prelude.{false, ◌≡◌, ◌<◌, ◌≤◌, ◌++◌, [], ◌∷◌, length, map, Some, vec_capacity, IfOk, IfSome, IfNone, OnErr};
 ghost use Rattle.live_run.specs.declared.view.Book.{Book};
 ghost use Rattle.live_run.specs.Receipts.{AreBelow, entries_past};
@@ -22,19 +24,19 @@ use std::sync::{Mutex, Wait};
 pub struct Shared<I: RunName> {
     word: NamedWord<I>,
     lock: Mutex<LockedSession<I>>,
-    // The memory of what `finish` answers.
+    // The memory of what `finish` returns.
     answer: Vec<Vec<Receipt>>,
     ghost empty: { answer.items ≡ [] },
     ghost room: { I.workers ≤ vec_capacity answer },
 }
 
 impl<I: RunName> Shared<I> {
-    /// Shares a session among so many workers, at most [`MAX_WORKERS`]. It answers a seat for each, by the workers' numbers. The
-    /// word is the session's, and both are what the name names.
+    /// Shares a session among `workers` workers, at most [`MAX_WORKERS`]. Returns also a seat for each, by the workers' numbers.
+    /// The word is the session's, and both are those of the run that has the name.
     ///
     /// # Errors
     ///
-    /// `NoMemory` where memory is wanting.
+    /// `NoMemory` where memory runs out.
     pub fn new(
         alloc: Global,
         word: Word,
@@ -54,12 +56,12 @@ impl<I: RunName> Shared<I> {
         Ok((Shared { word, lock, answer }, seats))
     }
 
-    /// A quantum of the hart, at most so many turns, for the seat's worker, once the lock is got. It answers the receipt, which the
-    /// seat keeps behind its others, and none where the hart can't take a quantum, which the seat then notes.
+    /// Lets the hart take a quantum of at most `turns` turns for the seat's worker, once the lock is got. Returns the receipt,
+    /// which is appended to the seat's others, and none where the hart can't take a quantum, which the seat then notes.
     ///
     /// # Errors
     ///
-    /// `NoMemory` where memory is wanting. Then nothing has changed.
+    /// `NoMemory` where memory runs out. Then nothing has changed.
     pub fn quantum<R: Wait>(
         &self,
         rt: &R,
@@ -69,16 +71,18 @@ impl<I: RunName> Shared<I> {
     ) -> Result<Option<Receipt>, NoMemory>
         requires hart { hart < I.inputs.settings.harts }
         requires turns { (1 ≤ turns) × (turns ≤ MAX_QUANTUM) }
-        ensures asked { IfOk result (λ answer. IfSome answer (λ r. (r.quantum.worker ≡ seat.old.worker) × (r.quantum.hart ≡ hart) × (r.quantum.turns ≡ turns))) }
+        ensures asked { IfOk result
+            (λ answer. IfSome answer (λ r. (r.quantum.worker ≡ seat.old.worker) × (r.quantum.hart ≡ hart) × (r.quantum.turns ≡ turns))) }
         ensures number { IfOk result (λ answer. IfSome answer (λ r. (r.number < MAX_QUANTA) × AreBelow r.number seat.old.receipts)) }
-        ensures receipts { IfOk result (λ answer. IfSome answer (λ r. seat.new ≡ record seat.old { receipts = seat.old.receipts ++ r ∷ [] })) }
+        ensures receipts { IfOk result
+            (λ answer. IfSome answer (λ r. seat.new ≡ record seat.old { receipts = seat.old.receipts ++ r ∷ [] })) }
         ensures none { IfOk result (λ answer. IfNone answer (seat.new ≡ record seat.old { noted = seat.old.noted ++ hart ∷ [] })) }
         ensures failed { OnErr result (seat.new ≡ seat.old) }
     {
         self.lock.lock(rt).quantum(&self.word, seat, hart, turns)
     }
 
-    /// Ends the sharing: it takes all seats, by the workers' numbers, and answers the session, and the receipts of each. The
+    /// Ends the sharing: takes all seats, by the workers' numbers, and returns the session and the receipts of each worker. The
     /// session's quanta are the first ones and then the workers' entries: each entry is in the receipts of its worker, with its
     /// number and in order, and they have no other. A hart that a seat noted is halted.
     pub fn finish(self, seats: Vec<Seat<I>>) -> (Session, Vec<Vec<Receipt>>)
@@ -111,7 +115,7 @@ impl<I: RunName> Shared<I> {
     }
 }
 
-/// The word under its name, and the book's seat.
+/// Returns the word under its name, and the book's seat.
 fn named<I: RunName>(word: Word) -> (NamedWord<I>, TableSeat)
     requires named { word.table.shared.table_id ≡ I.word }
     requires inputs { word.table.shared.key.inputs ≡ I.inputs }
@@ -129,7 +133,7 @@ fn named<I: RunName>(word: Word) -> (NamedWord<I>, TableSeat)
     )
 }
 
-/// The session with the book's seat, as they lie behind the lock.
+/// Returns the session with the book's seat, as they lie behind the lock.
 fn locked<I: RunName>(session: Session, book: TableSeat) -> LockedSession<I>
     requires session { (session.closed ≡ false) × (session.inputs ≡ I.inputs) × (session.quanta ≡ I.first) }
     requires book { (book.table_id ≡ I.word) × (book.me ≡ (keeping (a_book (length I.first) [] I.workers), [])) }
@@ -144,7 +148,7 @@ fn locked<I: RunName>(session: Session, book: TableSeat) -> LockedSession<I>
     }
 }
 
-/// Splits a seat for each worker off the book's, which it answers.
+/// Splits a seat for each worker off the book's seat, which it returns.
 fn hire_all<I: RunName>(
     alloc: Global,
     word: &NamedWord<I>,
@@ -170,7 +174,7 @@ fn hire_all<I: RunName>(
     book
 }
 
-/// Joins all seats into the book's, which it answers, and puts the receipts of each into the answer.
+/// Joins all seats into the book's seat, which it returns, and puts the receipts of each worker into the answer.
 fn gather<I: RunName>(
     word: &NamedWord<I>,
     mut book: TableSeat,
@@ -196,7 +200,7 @@ fn gather<I: RunName>(
     book
 }
 
-/// Ends the word. From here on what its rule says of the seat is known.
+/// Ends the word. Afterwards what its rule says of the seat is known.
 fn settle(table: EntryTable, seat: TableSeat)
     requires table { seat.table_id ≡ table.shared.table_id }
     requires slots { table.shared.table_id.slots ≡ 0 }

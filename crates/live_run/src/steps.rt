@@ -11,8 +11,8 @@ use atomic_table::Shared;
 use pn_types::Quantum;
 use session::Session;
 
-/// Enters a quantum: the worker's seat takes in the book's, the book and the worker's list gain the entry, of which `made` stand
-/// before it, and the book's seat is split off again, which it answers.
+/// Enters a quantum: the worker's seat takes in the book's, the book and the worker's list gain the entry, before which there are
+/// `made` entries, and the book's seat is split off again and returned.
 pub fn enter(
     word: &Shared<Quantum, View, Session, EntryRule>,
     seat: &mut TableSeat,
@@ -33,7 +33,7 @@ pub fn enter(
     word.split_seat::<Parts>(seat)
 }
 
-/// The same, but the hart of what was asked for is noted, and no entry is made.
+/// Does the same, but notes the hart of what was asked for and enters nothing.
 pub fn note(
     word: &Shared<Quantum, View, Session, EntryRule>,
     seat: &mut TableSeat,

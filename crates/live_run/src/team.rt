@@ -1,3 +1,5 @@
+//! Workers, and what they are to do.
+
 /// Workers, and what they are to do. Worker w has the harts whose numbers modulo the workers are w.
 #[derive(Clone, Copy, PartialEq, Eq, Drop)]
 pub struct Team {

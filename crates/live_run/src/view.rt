@@ -1,3 +1,5 @@
+//! Receipts, and what a seat of the word knows.
+
 use pn_types::Quantum;
 use std::collections::LinkedList;
 
@@ -10,7 +12,7 @@ pub struct Receipt {
     pub quantum: Quantum,
 }
 
-// From here on: what a seat of the word knows. No value of these types is made.
+// The following types are what a seat of the word knows. No value of them is made.
 
 /// The receipts of a worker.
 pub struct OwnList {
@@ -18,20 +20,20 @@ pub struct OwnList {
     pub receipts: LinkedList<Receipt>,
 }
 
-/// A hart was halted behind so many entries.
+/// That a hart was halted once the book had a number of entries.
 pub struct Note {
     pub hart: u64,
     pub at: u64,
 }
 
-/// The entries behind the first quanta, of which there are `from`, and how many workers' seats were split off.
+/// The entries made since the session was shared, and how many workers' seats were split off.
 pub struct Book {
     pub from: u64,
     pub entries: LinkedList<Quantum>,
     pub seats: u64,
 }
 
-/// The book, where the seat has it, and the lists and the notes that it has.
+/// What a seat has: the book, if it is the seat that has it, and lists and notes.
 pub struct View {
     pub book: Option<Book>,
     pub lists: LinkedList<OwnList>,

@@ -1,3 +1,5 @@
+//! The word that counts the entries of a shared session.
+
 ghost use Rattle.std.specs.Prelude.{◌≡◌, ◌<◌, [], IfOk};
 ghost use Rattle.live_run.specs.Rule.{opening_view};
 
@@ -21,11 +23,11 @@ pub struct Word {
 }
 
 impl Word {
-    /// The word of a session as it is.
+    /// Makes the word of a session as it is.
     ///
     /// # Errors
     ///
-    /// `NoMemory` where memory is wanting.
+    /// `NoMemory` where memory runs out.
     pub fn new(alloc: Global, session: &Session) -> Result<Word, NoMemory>
         ensures { IfOk result (λ word. word.table.shared.key ≡ session.now) }
     {

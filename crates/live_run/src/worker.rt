@@ -1,3 +1,5 @@
+//! The work of one worker.
+
 ghost use Rattle.std.specs.Prelude.{◌≡◌, ◌<◌, ◌≤◌, IfOk};
 ghost use Rattle.live_run.specs.Seats.{fresh_seat};
 ghost use Rattle.live_run.specs.Serving.{AreHartsBelow, IsServed};
@@ -12,12 +14,12 @@ use std::alloc::Global;
 use std::collections::VecDeque;
 use std::sync::Wait;
 
-/// The work of one worker: it takes quanta of its harts in turn, each behind the gate, and leaves a hart that is halted. It answers
-/// its seat when it has left them all.
+/// Does the work of one worker: it takes quanta of its harts in turn, passes the gate before each, and leaves a hart that is
+/// halted. Returns its seat when it has left them all.
 ///
 /// # Errors
 ///
-/// `NoMemory` where memory is wanting.
+/// `NoMemory` where memory runs out.
 pub fn serve<I: RunName, R: Wait, G: Gate>(
     rt: &R,
     alloc: Global,
@@ -49,11 +51,11 @@ pub fn serve<I: RunName, R: Wait, G: Gate>(
     Ok(seat)
 }
 
-/// The harts of the worker, by number.
+/// Returns the harts of the worker, by number.
 ///
 /// # Errors
 ///
-/// `NoMemory` where memory is wanting.
+/// `NoMemory` where memory runs out.
 fn harts_of(alloc: Global, team: Team, worker: u32) -> Result<VecDeque<u32>, NoMemory>
     requires { 0 < team.workers }
     ensures { IfOk result (λ harts. AreHartsBelow team.harts team.workers worker harts.items) }

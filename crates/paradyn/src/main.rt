@@ -8,7 +8,7 @@ use std::alloc::Global;
 use std::process::ExitCode;
 use std::{env, io};
 
-/// The words of the command line, without the program's name.
+/// Returns the words of the command line, without the program's name.
 fn read_words(rt: &HostRuntime) -> Result<Vec<String>, io::Error> {
     let mut words = Vec::new(rt.alloc());
     for word in env::args(rt)?.skip(1) {
@@ -17,7 +17,7 @@ fn read_words(rt: &HostRuntime) -> Result<Vec<String>, io::Error> {
     Ok(words)
 }
 
-/// The words, as far as they could be read.
+/// Returns the words, as far as they could be read.
 fn words(rt: &HostRuntime) -> Words {
     match read_words(rt) {
         Ok(words) => Words::Read(words),
@@ -26,7 +26,7 @@ fn words(rt: &HostRuntime) -> Words {
     }
 }
 
-/// The name of the log's file, if one is asked for.
+/// Returns the name of the log's file, if one is asked for.
 fn log_file(alloc: Global, words: &Words) -> Result<Option<String>, NoMemory> {
     let Words::Read(words) = words else {
         return Ok(None);

@@ -119,14 +119,14 @@ wished_is i first t e g narrow kept kits few live still program =
       still = subst (λ (x : Table). IsStill x t) e still;
     }
 
--- a wish that is refused is so whatever nodes are taken
+-- a wish that is refused is refused whatever nodes are taken
 pub wished_refused : (i : Inputs) (first t : Table) → first ≡ first_table i → ((ws : List CheckedWish) → kept_of ws t ≡ with_tests i (with_all i (first_wishes i) (kept_of ws first))) → t.refused ≡ (wished i).refused
 unfolding wished first_search
 wished_refused i first t e kept =
     let all = kept (later_wishes i) ∙ ap (λ (x : Table). with_tests i (with_all i (first_wishes i) (kept_of (later_wishes i) x))) e in
     ap (λ (k : Kept). k.refused) all ∙ tests_refused i (wished i)
 
--- memory is wanting
+-- out of memory
 pub fails : {A : Type 0} (i : Inputs) (r : Result A StartFault) → IsErrAnd r (λ fault. fault ≡ NoMemory) → IfErr r (IsStartFault i)
 fails i (Ok a) e = tt
 fails i (Err fault) e = subst (IsStartFault i) (sym e) tt
@@ -136,7 +136,7 @@ pub passed : {A : Type 0} (i : Inputs) (r : Result A StartFault) (fault : StartF
 passed i (Ok a) fault is f = absurd is
 passed i (Err x) fault is f = subst (IsStartFault i) (sym is) f
 
--- nothing is asked of a fault where an answer is
+-- nothing is asked of a fault where there is a value
 pub never : {A : Type 0} (P : A → Type 0) (Q : StartFault → Type 0) (r : Result A StartFault) → IsErrAnd r Q → IfOk r P
 never P Q (Ok a) is = absurd is
 never P Q (Err x) is = tt

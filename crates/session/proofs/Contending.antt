@@ -81,7 +81,7 @@ take_step (v ∷ ws) (suc k) w e =
     let next : suc k + 1 ≡ suc (k + 1) = omega arith in
     ap (λ n. take n (v ∷ ws)) next ∙ ap (λ l. v ∷ l) (take_step ws k w e)
 
--- so many of the queue were looked at, and the plans of those that are taken stand behind the others
+-- a number of the queue were looked at, and the plans of those that are taken were appended to the others
 pub record Contending (i : Inputs) (ns : List Node) (force : ℕ) (queue : List ℕ) (old now : List Plan) (k : ℕ) (cs : List Candidate) : Type 0 where
   pub more : List Plan
   pub is : now ≡ old ++ more

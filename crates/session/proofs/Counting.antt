@@ -58,7 +58,7 @@ take_all [] (suc k) l = refl
 take_all (w ∷ ws) zero l = absurd (omega arith)
 take_all (w ∷ ws) (suc k) l = ap (λ x. w ∷ x) (take_all ws k (omega arith))
 
--- ---- of so many of the first
+-- ---- of a number of the first
 
 pub count_low : (time : ℕ) (ws : List CheckedWish) (n : ℕ) → IsCount time ws n → n ≤ length ws
 count_low time [] n k = omega arith

@@ -1,4 +1,4 @@
--- The state of a session is that behind its quanta, or behind their end.
+-- The state of a session is that after its quanta, or after their end.
 use Rattle.std.proofs.Common.{◌≡◌, List, ap}
 use Rattle.std.specs.Prelude.{Bool, true, false, cond}
 use Rattle.pn_types.specs.declared.quantum.Quantum.{Quantum}

@@ -1,4 +1,4 @@
--- The costs in force, and behind a node that is tested now.
+-- The costs in force, and after a node that is tested now.
 use Rattle.std.proofs.Common.{◌≡◌, ℕ, suc, ◌+◌, ◌*◌, ◌<◌, ◌≤◌, ◌^◌, List, [], ◌∷◌, ◌++◌, Option, Some, None, Ok, refl, sym, ap, ap₂, ◌∙◌, subst, arith, length}
 use Rattle.std.specs.Prelude.{Bool, true, false, cond, find, is_some, not, ◌&&◌, ◌==◌}
 use Rattle.std.specs.List.{AllByRecursion}

@@ -128,7 +128,7 @@ module _ (i : Inputs) (quanta : List Quantum) (over : Bool) (later : List Checke
         live = k.live;
       }
 
--- behind an admission
+-- after an admission
 module _ (i : Inputs) (quanta : List Quantum) (over : Bool) (later : List CheckedWish) (t admitted : Table) (looked : ℕ) (k : IsKept i quanta over later t) (few : length quanta < MAX_QUANTA) (a : IsAdmission i later t admitted looked) where
   pub can_sample_now : over ≡ false → CanSample admitted
   can_sample_now going =

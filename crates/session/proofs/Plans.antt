@@ -1,4 +1,4 @@
--- What is known of a plan that the planner answers.
+-- What is known of a plan that the planner returns.
 use Rattle.std.proofs.Common.{◌≡◌, ℕ, zero, suc, ◌<◌, ◌≤◌, ◌^◌, List, [], ◌∷◌, Option, Some, None, Err, refl, ap, arith, length}
 use Rattle.std.specs.Prelude.{Result, slice_get}
 use Rattle.std.proofs.lemmas.Option.{slice_get_past}

@@ -1,4 +1,4 @@
--- The plans of wishes, and those of nodes behind them.
+-- The plans of wishes, and those of nodes after them.
 use Rattle.std.proofs.Common.{◌≡◌, ℕ, zero, suc, ◌≤◌, List, [], ◌∷◌, ◌++◌, Option, sym, ap, ◌∙◌, subst, arith, length}
 use Rattle.std.specs.Prelude.{drop, map, take}
 use Rattle.pn_types.specs.declared.plan.Plan.{Plan}

@@ -52,7 +52,7 @@ drop_many zero ws l = omega arith
 drop_many (suc n) [] l = absurd (omega arith)
 drop_many (suc n) (v ∷ ws) l = let e = drop_many n ws (omega arith) in omega arith
 
--- samples, pairs and the search behind a quantum
+-- samples, pairs and the search after a quantum
 record Behind (i : Inputs) (old new : Table) : Type 0 where
   kits : AllByRecursion (IsSoundKit i new.samples) new.kits
   many : length new.kits ≡ length old.kits

@@ -55,7 +55,7 @@ ready_behind plan rest ready new r (inr e) = subst (AreReady rest) (sym e) (used
 
 -- ---- lists from a place on
 
--- one of a list, and the others behind it
+-- one of a list, and the others after it
 pub drop_step : {A : Type 0} (xs : List A) (i : ℕ) (x : A) → slice_get xs i ≡ Some x → drop i xs ≡ x ∷ drop (i + 1) xs
 drop_step [] i x e = absurd cc
 drop_step (y ∷ ys) zero x e = let same : y ≡ x = cc in ap (λ z. z ∷ ys) same

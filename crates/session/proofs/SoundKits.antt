@@ -1,4 +1,4 @@
--- What is known of each pair stays so.
+-- What is known of each pair goes on holding.
 use Rattle.std.proofs.Common.{◌≡◌, ℕ, suc, ◌+◌, ◌≤◌, List, [], ◌∷◌, ◌++◌, Option, Some, None, refl, sym, ap, subst, arith, length}
 use Rattle.std.specs.Prelude.{Bool, true, false, cond, IfSome, is_none, map}
 use Rattle.std.specs.List.{AllByRecursion}

@@ -33,7 +33,7 @@ still_on a b c s r =
     let f : Table → Table = λ x. record x { machine = c.machine; refused = c.refused; kits = c.kits; live = c.live; search = c.search; room = c.room; worked = c.worked } in
     record { same = r.same ∙ ap f s.same; core = r.core ∙ s.core; rules = r.rules ∙ s.rules }
 
--- ---- so many steps
+-- ---- a number of steps
 
 pub record AreSteps (i : Inputs) (old t : Table) (n : ℕ) : Type 0 where
   pub kits : IsMore i old.kits t.kits

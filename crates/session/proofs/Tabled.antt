@@ -220,7 +220,7 @@ module _ (i : Inputs) (low : i.settings.budget ≤ MAX_BUDGET) (some : 1 ≤ i.s
     closed_table =
         ended_table i later (cond (nat_lt (state_quiet s).kept.last (state_quiet s).kept.time) (state_last i (state_quiet s)) (state_quiet s)) (cond (nat_lt settled.last settled.time) (table_last settled) settled) if_last
 
-  -- A quantum behind its admission.
+  -- A quantum after its admission.
   pub tended_table : (s : State) (t : Table) → IsTableOf i (state_admitted i s) later t → AllByRecursion (IsSoundKit i t.samples) t.kits → (h n : ℕ) → IsTableOf i (tend i h n s) later (table_tended i.settings.width h n t)
   unfolding tend
   tended_table s t k of h n = worked_table (state_handed (state_turned h n (state_admitted i s))) (table_begun h n t) (turned_table i later (state_admitted i s) t k h n) of

@@ -43,9 +43,10 @@ AreParts i s = (part : ShownPart) → In part (parts_of i s).shown → IsPartOf 
 abbrev pub AreWholeParts : Inputs → State → Type 0
 AreWholeParts i s = (part : ShownPart) → In part (parts_of i s).shown → IsWholePart i s part
 
--- They are such behind each quantum and behind the end, where time passes between two due works. Where all wishes are for the opening, and
--- none drops a pair, they are whole.
+-- This holds after each quantum and after the end, where time passes between two due works. Where all wishes are for the opening,
+-- and none drops a pair, they are whole.
 pub record PartsTold : Type 0 where
   pub works : (i : Inputs) (quanta : List Quantum) → 1 ≤ i.settings.width → AreParts i (work i quanta)
   pub closes : (i : Inputs) (quanta : List Quantum) → 1 ≤ i.settings.width → AreParts i (closed i (work i quanta))
-  pub whole : (i : Inputs) (quanta : List Quantum) → 1 ≤ i.settings.width → IsProgram i.image → ArePlansGood i → AreForOpening i → AreWholeParts i (closed i (work i quanta))
+  pub whole : (i : Inputs) (quanta : List Quantum)
+      → 1 ≤ i.settings.width → IsProgram i.image → ArePlansGood i → AreForOpening i → AreWholeParts i (closed i (work i quanta))

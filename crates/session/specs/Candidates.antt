@@ -58,7 +58,7 @@ abbrev pub IsOfWish : Inputs → CheckedWish → Plan → Option Candidate → T
 IsOfWish i w plan None = (w.show ≡ false) × (predicted plan < 2 ^ 32)
 IsOfWish i w plan (Some c) = (w.show ≡ true) × IsPairOf None w.metric w.focus c × IsCandidate i plan c
 
--- the same of several
+-- the same for several
 abbrev pub AreOfWishes : Inputs → List CheckedWish → List Plan → List (Option Candidate) → Type 0
 AreOfWishes i [] [] [] = Unit {0}
 AreOfWishes i (w ∷ ws) (plan ∷ plans) (c ∷ cs) = IsOfWish i w plan c × AreOfWishes i ws plans cs

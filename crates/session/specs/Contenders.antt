@@ -39,7 +39,7 @@ pub record IsContender (i : Inputs) (nodes : List Node) (plan : Plan) (c : Candi
   pub pair : IsPairOf (Some number) (metric_of i node) node.focus c
   pub candidate : IsCandidate i plan c
 
--- the same of several
+-- the same for several
 abbrev pub AreContenders : Inputs → List Node → List Plan → List Candidate → Type 0
 AreContenders i nodes [] [] = Unit {0}
 AreContenders i nodes (plan ∷ plans) (c ∷ cs) = IsContender i nodes plan c × AreContenders i nodes plans cs
@@ -56,7 +56,7 @@ number_of c = number_or_none c.node
 abbrev pub numbers_in : List Candidate → List ℕ
 numbers_in cs = map number_of cs
 
--- ---- which nodes aren't
+-- ---- which nodes aren't taken
 
 -- node n keeps waiting where the costs in force are these
 pub record MustWait (i : Inputs) (nodes : List Node) (force : ℕ) (n : ℕ) : Type 0 where
@@ -66,20 +66,21 @@ pub record MustWait (i : Inputs) (nodes : List Node) (force : ℕ) (n : ℕ) : T
   pub planned : planned i (metric_of i node) node.focus ≡ Ok plan
   pub waits : must_wait (rules_of i).decl.cost (predicted plan) force ≡ true
 
--- these are without some that keep waiting those
+-- the first are the second without some that keep waiting
 abbrev pub AreWithout : Inputs → List Node → ℕ → List ℕ → List ℕ → Type 0
 AreWithout i nodes force [] [] = Unit {0}
 AreWithout i nodes force [] (m ∷ ms) = ⊥
 AreWithout i nodes force (n ∷ ns) [] = MustWait i nodes force n × AreWithout i nodes force ns []
-AreWithout i nodes force (n ∷ ns) (m ∷ ms) = ((n ≡ m) × AreWithout i nodes force ns ms) ⊎ (MustWait i nodes force n × AreWithout i nodes force ns (m ∷ ms))
+AreWithout i nodes force (n ∷ ns) (m ∷ ms) =
+    ((n ≡ m) × AreWithout i nodes force ns ms) ⊎ (MustWait i nodes force n × AreWithout i nodes force ns (m ∷ ms))
 
 -- ---- the costs in force
 
--- what counts of an instrument
+-- what an instrument adds to the costs in force
 abbrev pub cost_of : Inputs → Shown → ℕ
 cost_of i s = if is_some s.node then words_of i s else 0
 
--- its cost counts, and has 32 bits
+-- its cost is what it adds, and has 32 bits
 abbrev pub HasCost : Inputs → Kit → Type 0
 HasCost i k = (k.cost ≡ cost_of i k.shown) × (k.cost < 2 ^ 32)
 

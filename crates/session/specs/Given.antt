@@ -49,7 +49,7 @@ pub record AreGiven (i : Inputs) : Type 0 where
   pub ascending : IsStrictlyIncreasing (map (λ p. p.at) i.points)
   pub inside : (p : Point) → In p i.points → (word : ℕ) × (program_word (program_of i.image) p.at ≡ Some word)
 
--- what a metric or a constraint begins at has 32 bits, as it is of any that the code holds
+-- the value at which a metric or a constraint begins has 32 bits, as with any that the code holds
 abbrev pub IsNarrowMetric : Metric → Type 0
 IsNarrowMetric m = at_first m.initially < 2 ^ 32
 

@@ -21,14 +21,14 @@ use Rattle.session.specs.Given.{AreGiven, IsWishOf}
 use Rattle.session.specs.Sessions.{state_at}
 use Rattle.session.specs.Tables.{IsMore, IsStill, IsTableOf, Table, first_table, kept_of}
 
--- the harts of a pair are those of its focus, and there are so many; it has as many samples at most as were taken
+-- the harts of a pair are those of its focus and harts of the machine; it has at most as many samples as were taken
 pub record IsSoundKit (i : Inputs) (samples : ℕ) (k : Kit) : Type 0 where
   pub harts : (k.first, k.count) ≡ harts_of i.tree.harts k.shown.focus.hart
   pub within : k.first + k.count ≤ i.settings.harts
   pub few : IfSome k.hist (λ hist. hist.count ≤ samples)
   pub cost : HasCost i k
 
--- behind these quanta, and behind the end where it was closed
+-- after these quanta, and after the end where it was closed
 pub record IsKept (i : Inputs) (quanta : List Quantum) (over : Bool) (later : List CheckedWish) (t : Table) : Type 0 where
   pub given : AreGiven i
   pub good : ArePlansGood i
@@ -49,7 +49,7 @@ pub record IsKept (i : Inputs) (quanta : List Quantum) (over : Bool) (later : Li
   pub sooner : over ≡ false → t.time ≤ 2 ^ 33 * length quanta
   pub quiet : over ≡ true → IsQuiet t.machine.state.core
 
--- the desk behind the admissions of the opening
+-- the desk after the admissions of the opening
 pub record IsWished (i : Inputs) (t : Table) : Type 0 where
   pub program : IsProgram i.image
   pub good : ArePlansGood i

@@ -7,7 +7,7 @@ use Rattle.prim_code.specs.Counts.{predicted}
 use Rattle.session_spec.specs.Inputs.{Inputs, planned}
 use Rattle.session.specs.declared.known_costs.KnownCost.{KnownCost}
 
--- the plan of a metric at a focus costs so many words
+-- the plan of a metric at a focus costs this number of words
 pub record IsCost (i : Inputs) (metric : ℕ) (focus : Focus) (words : ℕ) : Type 0 where
   pub plan : Plan
   pub planned : planned i metric focus ≡ Ok plan

@@ -31,7 +31,8 @@ bar_cause_of (Refused refused) = bar_of_refusal refused
 -- ---- one pair
 
 -- it has an instrument from now on
-pub record IsInstrumented (i : Inputs) (plan : Plan) (c : Candidate) (limit : Option ℕ) (old new : Table) (number : InstrumentNo) : Type 0 where
+pub record IsInstrumented
+    (i : Inputs) (plan : Plan) (c : Candidate) (limit : Option ℕ) (old new : Table) (number : InstrumentNo) : Type 0 where
   pub planned : c.fault ≡ None
   pub placed : admission old.machine.state.placer plan limit ≡ Ok new.machine.state.placer
   pub number_is : number.n ≡ old.machine.state.placer.count
@@ -43,14 +44,15 @@ abbrev pub IsFailure : Placements → Plan → Option PlanFault → Option ℕ �
 IsFailure p plan fault limit (NoPlan f) = fault ≡ Some f
 IsFailure p plan fault limit (Refused refused) = (fault ≡ None) × (admission p plan limit ≡ Err refused)
 
--- it has none, and there is room still
+-- it has none, and the room is still there
 pub record IsFailed (plan : Plan) (fault : Option PlanFault) (limit : Option ℕ) (old new : Table) (failure : Failure) : Type 0 where
   pub why : IsFailure old.machine.state.placer plan fault limit failure
   pub machine : new.machine.state ≡ old.machine.state
   pub kits : new.kits ≡ old.kits
   pub room : new.room ≡ old.room
 
--- What one step of an admission changes, for which this plan is ready: there is one pair more at most, and none is different.
+-- What one step of an admission changes, for which this plan is ready: there is at most one more pair, and no other pair is
+-- different.
 pub record IsStep (i : Inputs) (plan : Plan) (old new : Table) : Type 0 where
   pub kits : IsMore i old.kits new.kits
   pub few : length new.kits ≤ length old.kits + 1

@@ -91,11 +91,12 @@ node_part i n = record {
 -- the nodes in the order in which they were made, and whether no more could be
 abbrev pub search_part : Inputs → Option SearchDecl → List Node → Option SearchPart
 search_part i None nodes = None
-search_part i (Some decl) nodes = Some (record { full = nat_le most_nodes (length nodes); window = decl.window; nodes = map (node_part i) nodes })
+search_part i (Some decl) nodes =
+    Some (record { full = nat_le most_nodes (length nodes); window = decl.window; nodes = map (node_part i) nodes })
 
 -- ---- the whole
 
--- the state of the unpatched program behind its own run
+-- the state of the unpatched program after its own run
 abbrev pub program_of_run : Inputs → List ℕ → Plain
 program_of_run i owns = run i.image i.settings.harts owns
 

@@ -1,4 +1,4 @@
--- The state of a session behind its quanta, and its end.
+-- The state of a session after its quanta, and its end.
 use Rattle.std.specs.Prelude.{◌≡◌, ℕ, if◌then◌else◌, Bool, false, Some, List, []}
 use Rattle.pn_types.specs.declared.pick.PickCause.{PickCause}
 use Rattle.pn_types.specs.declared.quantum.Quantum.{Quantum}
@@ -13,7 +13,7 @@ use Rattle.session.specs.Parts.{metric_of, name_of}
 use Rattle.session.specs.declared.fault.StartFault.{StartFault}
 use Rattle.session.specs.declared.fault.StartFault.TheVariants.{NoMemory, BadPick}
 
--- its state behind these quanta, which is in its closed form where it was closed
+-- its state after these quanta, in its closed form where it was closed
 abbrev pub state_at : Inputs → List Quantum → Bool → State
 state_at i quanta over = if over then closed i (work i quanta) else work i quanta
 
@@ -34,9 +34,10 @@ begun i = session_at i [] false
 
 -- a refused wish is told by the name of its metric, its focus, and why
 abbrev pub IsToldAs : Inputs → RefusedWish → List ℕ → List ℕ → PickCause → Type 0
-IsToldAs i wish metric focus cause = (metric ≡ name_of (metric_of i wish.metric)) × (focus ≡ canonical i.tree wish.focus) × (cause ≡ wish.cause)
+IsToldAs i wish metric focus cause =
+    (metric ≡ name_of (metric_of i wish.metric)) × (focus ≡ canonical i.tree wish.focus) × (cause ≡ wish.cause)
 
--- why one doesn't begin, where it isn't for want of memory: a wish of the opening is refused
+-- why one doesn't begin, other than by running out of memory: a wish of the opening is refused
 abbrev pub IsStartFault : Inputs → StartFault → Type 0
 IsStartFault i NoMemory = Unit {0}
 IsStartFault i (BadPick metric focus cause) = (wish : RefusedWish) × (bad_pick i ≡ Some wish) × IsToldAs i wish metric focus cause

@@ -123,12 +123,13 @@ table_at_first machine search marks places due = record {
 -- before any wish is looked at
 abbrev pub first_table : Inputs → Table
 first_table i =
-    table_at_first (record { state = first_instrumented i.image i.settings.harts i.settings.budget i.settings.instruments; ready = [] }) (first_search i)
+    table_at_first (record { state = first_instrumented i.image i.settings.harts i.settings.budget i.settings.instruments; ready = [] })
+    (first_search i)
     (replicate i.settings.harts 0) i.settings.harts i.settings.width
 
 -- ---- steps
 
--- what is asked of it before a sample: it was taken fewer than 2^63 times, and the time counts the ticks
+-- what is asked before a sample: fewer than 2^63 were taken, and the time counts the ticks
 pub record CanSample (t : Table) : Type 0 where
   pub places : t.places ≡ length t.machine.state.core.harts
   pub marks : length t.marks ≡ length t.machine.state.core.harts
@@ -171,7 +172,8 @@ table_sampled t = record t {
 }
 
 abbrev pub table_swept : Table → Table
-table_swept t = record t { machine = record t.machine { state = repeated (length t.machine.state.placer.book.agenda) Sweeps t.machine.state } }
+table_swept t =
+    record t { machine = record t.machine { state = repeated (length t.machine.state.placer.book.agenda) Sweeps t.machine.state } }
 
 -- and tests that are gone are forgotten
 abbrev pub table_freed : Table → Table
@@ -212,14 +214,16 @@ table_closed t = table_ended (if nat_lt (table_quiet t).last (table_quiet t).tim
 
 -- the whole agenda, and then each instrument is armed
 abbrev pub table_opened : Table → Table
-table_opened t = table_armed (record t { machine = record t.machine { state = repeated (length t.machine.state.placer.book.agenda) Hands t.machine.state } })
+table_opened t = table_armed
+    (record t { machine = record t.machine { state = repeated (length t.machine.state.placer.book.agenda) Hands t.machine.state } })
 
 abbrev pub table_begun : ℕ → ℕ → Table → Table
 table_begun h n t = table_handed (table_turned h n t)
 
--- a quantum behind its admission
+-- a quantum after its admission
 abbrev pub table_tended : ℕ → ℕ → ℕ → Table → Table
-table_tended width h n t = if nat_le (table_begun h n t).due (table_begun h n t).time then table_worked width (table_begun h n t) else table_begun h n t
+table_tended width h n t =
+    if nat_le (table_begun h n t).due (table_begun h n t).time then table_worked width (table_begun h n t) else table_begun h n t
 
 -- ---- a pair that is to be shown
 
@@ -232,7 +236,7 @@ pub record IsNew (i : Inputs) (k : Kit) : Type 0 where
   pub cost : k.cost ≡ cost_of i k.shown
   pub low : k.cost < 2 ^ 32
 
--- some new pairs behind the others
+-- the pairs with some new ones at the end
 pub record IsMore (i : Inputs) (old new : List Kit) : Type 0 where
   pub more : List Kit
   pub is : new ≡ old ++ more
@@ -244,7 +248,7 @@ AreReady [] ready = Unit {0}
 AreReady (n ∷ ns) [] = ⊥
 AreReady (n ∷ ns) (r ∷ ready) = ((n ≡ r) × AreReady ns ready) ⊎ AreReady (n ∷ ns) ready
 
--- so many of the first wishes aren't above a time, and the next is, if there is one
+-- the first `n` wishes aren't above a time, and the next is, if there is one
 abbrev pub IsCount : ℕ → List CheckedWish → ℕ → Type 0
 IsCount time [] n = n ≡ 0
 IsCount time (w ∷ ws) zero = nat_le w.at time ≡ false
@@ -252,11 +256,19 @@ IsCount time (w ∷ ws) (suc n) = (nat_le w.at time ≡ true) × IsCount time ws
 
 -- what no admission changes
 pub record IsStill (old new : Table) : Type 0 where
-  pub same : new ≡ record old { machine = new.machine; refused = new.refused; kits = new.kits; live = new.live; search = new.search; room = new.room; worked = new.worked }
+  pub same : new ≡ record old {
+    machine = new.machine;
+    refused = new.refused;
+    kits = new.kits;
+    live = new.live;
+    search = new.search;
+    room = new.room;
+    worked = new.worked;
+  }
   pub core : new.machine.state.core ≡ old.machine.state.core
   pub rules : new.search.rules ≡ old.search.rules
 
--- behind an admission in which so many of the wishes were looked at
+-- after an admission in which the first `n` wishes were looked at
 pub record IsAdmission (i : Inputs) (later : List CheckedWish) (old new : Table) (n : ℕ) : Type 0 where
   pub looked : n ≤ length later
   pub kept : kept_of (drop n later) new ≡ with_admission i (kept_of later old)

@@ -1,4 +1,4 @@
-//! Admissions: the wishes whose ticks have come are looked at, and then the search takes nodes.
+//! Admissions: looks at the wishes whose ticks have come, and then lets the search take nodes.
 
 ghost use Rattle.std.specs.Prelude.{◌≡◌, ◌+◌, ◌<◌, ◌≤◌, ◌^◌, if◌then◌else◌, List, IfOk, OnErr, OnOk, drop, length};
 ghost use Rattle.std.specs.List.{AllByRecursion, list_all};
@@ -22,7 +22,7 @@ use mdl_check::CheckedWish;
 use pn_types::NoMemory;
 use std::alloc::Global;
 
-/// Whether no wish drops a pair.
+/// Returns whether no wish drops a pair.
 fn show_all(wishes: &[CheckedWish]) -> bool
     ensures { result ≡ list_all (λ w. w.show) wishes.now }
 {
@@ -30,8 +30,8 @@ fn show_all(wishes: &[CheckedWish]) -> bool
 }
 
 impl Desk {
-    /// What the costs in force aren't below at any time of an admission in which these wishes are looked at: the costs that are in
-    /// force, and none where a pair is dropped.
+    /// Returns a lower bound of the costs in force during an admission in which these wishes are looked at: the costs that are in
+    /// force now, and 0 where a pair is dropped.
     fn least_force(&self, wishes: &[CheckedWish]) -> u64
         requires few { length self.now.kits < 2 ^ 31 }
         requires low { AllByRecursion (λ k. k.cost < 2 ^ 32) self.now.kits }
@@ -45,11 +45,11 @@ impl Desk {
         0
     }
 
-    /// Wishes are looked at, one after another, and then the search takes nodes. All memory is taken before anything changes.
+    /// Looks at wishes, one after another, and then lets the search take nodes. All memory is taken before anything changes.
     ///
     /// # Errors
     ///
-    /// `NoMemory` where memory is wanting. Then nothing but the memory that was taken has changed.
+    /// `NoMemory` where memory runs out. Then nothing but the memory that was taken has changed.
     #[inline(never)]
     pub(crate) fn admit(
         &mut self,
@@ -66,7 +66,8 @@ impl Desk {
         requires costs { AllByRecursion (HasCost inputs.now) self.old.kits }
         requires live { AreLive self.old.machine.state.placer self.old.kits self.old.live }
         requires known { AreKnown inputs.now costs.old }
-        ensures kept { OnOk result ((ws : List CheckedWish) → kept_of ws self.new ≡ with_tests inputs.now (with_all inputs.now wishes.now (kept_of ws self.old))) }
+        ensures kept { OnOk result ((ws : List CheckedWish)
+            → kept_of ws self.new ≡ with_tests inputs.now (with_all inputs.now wishes.now (kept_of ws self.old))) }
         ensures kits { OnOk result (IsMore inputs.now self.old.kits self.new.kits) }
         ensures few { OnOk result (length self.new.kits ≤ length self.old.kits + length wishes.now + taken_at_once) }
         ensures still { OnOk result (IsStill self.old self.new) }
@@ -88,11 +89,12 @@ impl Desk {
     }
 }
 
-/// An admission, where work was done since the last. It answers how many of the wishes, which are by tick, were looked at.
+/// Does an admission, where work was done since the last. Returns how many of the wishes, which are in the order of their ticks,
+/// were looked at.
 ///
 /// # Errors
 ///
-/// `NoMemory` where memory is wanting. Then nothing but the memory that was taken has changed.
+/// `NoMemory` where memory runs out. Then nothing but the memory that was taken has changed.
 #[inline(always)]
 fn admit(
     alloc: Global,
@@ -122,11 +124,11 @@ fn admit(
     Ok(due)
 }
 
-/// The same where so many of the wishes were looked at before.
+/// Does the same where the first `looked` wishes were looked at before.
 ///
 /// # Errors
 ///
-/// `NoMemory` where memory is wanting. Then nothing but the memory that was taken has changed.
+/// `NoMemory` where memory runs out. Then nothing but the memory that was taken has changed.
 #[inline(always)]
 pub(crate) fn admit_from(
     alloc: Global,

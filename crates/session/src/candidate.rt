@@ -24,7 +24,7 @@ pub(crate) struct Candidate {
     pub(crate) hist: Option<Hist>,
 }
 
-/// An empty histogram, where no node is tested.
+/// Returns an empty histogram, where no node is tested.
 fn first_hist(alloc: Global, inputs: &Inputs, node: Option<u32>) -> Result<Option<Hist>, NoMemory>
     requires { AreGiven inputs.now }
     ensures { IfOk result (λ hist. hist ≡ first_hist inputs.now node) }
@@ -35,12 +35,12 @@ fn first_hist(alloc: Global, inputs: &Inputs, node: Option<u32>) -> Result<Optio
     Ok(Some(Hist::new(alloc, inputs.settings.bins)?))
 }
 
-/// What the admission of a metric at a focus needs: its plan, or one of nothing and why there is none; and where no node is to be
-/// tested a histogram.
+/// Prepares what the admission of a metric at a focus needs: its plan, or one of nothing and why there is none; and where no node
+/// is to be tested a histogram.
 ///
 /// # Errors
 ///
-/// `NoMemory` where memory is wanting.
+/// `NoMemory` where memory runs out.
 pub(crate) fn prepare(
     alloc: Global,
     inputs: &Inputs,

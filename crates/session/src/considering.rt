@@ -1,4 +1,4 @@
-//! Wishes are looked at, with what they need at hand.
+//! Looks at wishes, for which memory was taken.
 
 ghost use Rattle.std.specs.Prelude.{◌≡◌, ◌+◌, ◌<◌, ◌≤◌, ◌++◌, List, None, Some, find, length, map, not};
 ghost use Rattle.std.specs.Option.{option_map};
@@ -29,21 +29,21 @@ use session_spec::RefusedWish;
 use std::alloc::Global;
 use std::collections::VecDeque;
 
-/// Whether two foci are the same.
+/// Returns whether two foci are the same.
 fn same(a: &Focus, b: &Focus) -> bool
     ensures { result ≡ is_same_focus (Some a.now) (Some b.now) }
 {
     a == b
 }
 
-/// Whether the instrument is being placed or armed.
+/// Returns whether the instrument is being placed or armed.
 fn stands(machine: &InstrumentedMachine, number: InstrumentNo) -> bool
     ensures { result ≡ not (is_leaving (state_of machine.now.state.placer number.n)) }
 {
     matches!(machine.state(number), State::Placing | State::Armed)
 }
 
-/// Whether a pair is shown that is the wish's.
+/// Returns whether a pair is the wish's, and is shown.
 fn shows(machine: &InstrumentedMachine, kit: &Kit, wish: &CheckedWish) -> bool
     ensures { result ≡ shows machine.now.state.placer wish.now kit.now.shown }
 {
@@ -53,7 +53,7 @@ fn shows(machine: &InstrumentedMachine, kit: &Kit, wish: &CheckedWish) -> bool
         && stands(machine, kit.shown.instrument)
 }
 
-/// The instrument that shows the pair of a wish.
+/// Returns the instrument that shows the pair of a wish.
 fn find_shown(
     machine: &InstrumentedMachine,
     kits: &[Kit],
@@ -66,7 +66,7 @@ fn find_shown(
 }
 
 impl Desk {
-    /// Puts a wish among those that are refused, if there is a cause. There is room for it.
+    /// Appends a wish to the refused ones, if there is a cause. There is room for it.
     fn refuse(&mut self, wish: &CheckedWish, cause: Option<PickCause>)
         requires room { 0 < self.old.room }
         ensures kept { (ws : List CheckedWish) → kept_of ws self.new ≡ with_refused cause wish.now (kept_of ws self.old) }
@@ -104,7 +104,8 @@ impl Desk {
         requires candidate { IsCandidate inputs.now plan.now candidate }
         requires ready { In (need_of plan.now) self.old.machine.ready }
         requires live { AreLive self.old.machine.state.placer self.old.kits self.old.live }
-        ensures kept { (ws : List CheckedWish) → kept_of ws self.new ≡ with_plan (planned inputs.now wish.now.metric wish.now.focus) wish.now (kept_of ws self.old) }
+        ensures kept { (ws : List CheckedWish)
+            → kept_of ws self.new ≡ with_plan (planned inputs.now wish.now.metric wish.now.focus) wish.now (kept_of ws self.old) }
         ensures step { IsStep inputs.now plan.now self.old self.new }
         ensures search { self.new.search ≡ self.old.search }
     {
@@ -141,8 +142,8 @@ impl Desk {
         }
     }
 
-    /// Looks at wishes, one after another, with what they need. For each there is room, and its plan is ready. What else is ready,
-    /// stays so.
+    /// Looks at wishes, one after another, with what they need. For each there is room, and its plan is ready. What else is ready
+    /// stays ready.
     pub(crate) fn consider_all(
         &mut self,
         alloc: Global,
@@ -163,7 +164,8 @@ impl Desk {
         ensures live { AreLive self.new.machine.state.placer self.new.kits self.new.live }
         ensures still { IsStill self.old self.new }
         ensures search { self.new.search ≡ self.old.search }
-        ensures left { (needs : List Need) → AreReady (map need_of plans.now ++ needs) self.old.machine.ready → AreReady needs self.new.machine.ready }
+        ensures left { (needs : List Need)
+            → AreReady (map need_of plans.now ++ needs) self.old.machine.ready → AreReady needs self.new.machine.ready }
     {
         let mut candidates = candidates;
         for place in 0..wishes.len() {

@@ -1,4 +1,4 @@
-//! What nodes of the search need to be taken, which takes memory.
+//! Takes the memory that is needed to take nodes of the search.
 
 ghost use Rattle.std.specs.Prelude.{◌≡◌, ◌+◌, ◌<◌, ◌^◌, List, Some, IfNone, IfOk, IfSome, IsTrue, drop, length, slice_get, take};
 ghost use Rattle.std.specs.Option.{option_map};
@@ -26,7 +26,8 @@ use w3_search::{Node, Search};
 /// How many nodes are taken at once, at most.
 const TAKEN_AT_ONCE: usize = 64;
 
-/// The numbers of the nodes that are to be taken: the first of those that wait, and none where the observed cost is above its limit.
+/// Returns the numbers of the nodes that are to be taken: the first of those that wait, and none where the observed cost is above
+/// its limit.
 fn queue<'a>(inputs: &Inputs, search: &'a Search, observed: u64) -> &'a [u32]
     ensures { result.now ≡ queue_of inputs.now observed search.now }
 {
@@ -40,7 +41,7 @@ fn queue<'a>(inputs: &Inputs, search: &'a Search, observed: u64) -> &'a [u32]
     &waiting[..TAKEN_AT_ONCE]
 }
 
-/// The number of the first metric of this name; where none has it, the number behind the last.
+/// Returns the number of the first metric of this name; where none has it, the number after the last.
 fn number_named(metrics: &[Metric], name: &[u8]) -> u32
     requires { length metrics.now < 2 ^ 32 }
     ensures { result ≡ number_from 0 name.now metrics.now }
@@ -55,14 +56,14 @@ fn number_named(metrics: &[Metric], name: &[u8]) -> u32
     number
 }
 
-/// The hypothesis of a number, if there is one.
+/// Returns the hypothesis of a number, if there is one.
 fn hypothesis(inputs: &Inputs, number: u32) -> Option<&Hypothesis>
     ensures { option_map (λ hypothesis. hypothesis.now) result ≡ slice_get inputs.now.checked.hypotheses number }
 {
     inputs.checked.hypotheses.as_slice().get(number as usize)
 }
 
-/// The number of the metric of a node's hypothesis.
+/// Returns the number of the metric of a node's hypothesis.
 #[tactic(auto, unfolding(session_spec::specs::Searches::metric_of))]
 fn node_metric(inputs: &Inputs, node: &Node) -> u32
     requires { AreGiven inputs.now }
@@ -75,7 +76,8 @@ fn node_metric(inputs: &Inputs, node: &Node) -> u32
     }
 }
 
-/// Whether a node keeps waiting whose plan has so many words: that isn't above the limit, but is together with the costs in force.
+/// Returns whether a node whose plan has `words` words keeps waiting: they aren't above the limit, but are together with the costs
+/// in force.
 pub(crate) fn must_wait(limit: u64, words: u64, force: u64) -> bool
     requires { force + words < 2 ^ 64 }
     ensures { result ≡ must_wait limit words force }
@@ -83,7 +85,7 @@ pub(crate) fn must_wait(limit: u64, words: u64, force: u64) -> bool
     words <= limit && limit < force + words
 }
 
-/// Whether it is known of a node that it keeps waiting where the costs in force are these.
+/// Returns whether it is known of a node that it keeps waiting where the costs in force are these.
 fn is_left(
     inputs: &Inputs,
     node: &Node,
@@ -94,7 +96,8 @@ fn is_left(
 ) -> bool
     requires force { force < 2 ^ 63 }
     requires known { AreKnown inputs.now costs.now }
-    ensures { (nodes : List Node) → slice_get nodes number ≡ Some node.now → metric ≡ metric_of inputs.now node.now → IsTrue result → MustWait inputs.now nodes force number }
+    ensures { (nodes : List Node) → slice_get nodes number ≡ Some node.now
+        → metric ≡ metric_of inputs.now node.now → IsTrue result → MustWait inputs.now nodes force number }
 {
     match costs.words(number, metric, &node.focus) {
         Some(words) => must_wait(u64::from(inputs.search_decl().cost), words, force),
@@ -102,11 +105,11 @@ fn is_left(
     }
 }
 
-/// What the plan of a node's pair costs is known from now on, if there is one.
+/// Notes what the plan of a node's pair costs, if there is one.
 ///
 /// # Errors
 ///
-/// `NoMemory` where memory is wanting.
+/// `NoMemory` where memory runs out.
 fn note_cost(
     costs: &mut KnownCosts,
     number: u32,
@@ -127,12 +130,12 @@ fn note_cost(
     costs.note(number, cost)
 }
 
-/// What a node needs to be taken. None where it is known that it keeps waiting, the costs in force being these. What its plan costs
-/// is known then, if there is one.
+/// Prepares what a node needs to be taken. None where it is known that it keeps waiting, `force` being the costs in force. What its
+/// plan costs is known afterwards, if there is one.
 ///
 /// # Errors
 ///
-/// `NoMemory` where memory is wanting.
+/// `NoMemory` where memory runs out.
 fn prepare_node(
     alloc: Global,
     inputs: &Inputs,
@@ -161,12 +164,12 @@ fn prepare_node(
 }
 
 impl Desk {
-    /// What the nodes that are to be taken need, whose plans are put behind others. Those are left out of which it is known that
-    /// they keep waiting where the costs in force are these.
+    /// Prepares what the nodes that are to be taken need, and appends their plans to others. It leaves out those of which it is
+    /// known that they keep waiting where the costs in force are these.
     ///
     /// # Errors
     ///
-    /// `NoMemory` where memory is wanting.
+    /// `NoMemory` where memory runs out.
     pub(crate) fn prepare_nodes(
         &self,
         alloc: Global,
@@ -180,8 +183,10 @@ impl Desk {
         requires force { force < 2 ^ 63 }
         requires known { AreKnown inputs.now costs.old }
         ensures others { IfOk result (λ candidates. take (length plans.old.items) plans.new.items ≡ plans.old.items) }
-        ensures each { IfOk result (λ candidates. AreContenders inputs.now self.now.search.nodes (drop (length plans.old.items) plans.new.items) candidates.items) }
-        ensures queue { IfOk result (λ candidates. AreWithout inputs.now self.now.search.nodes force (queue_of inputs.now self.now.observed self.now.search) (numbers_in candidates.items)) }
+        ensures each { IfOk result (λ candidates.
+            AreContenders inputs.now self.now.search.nodes (drop (length plans.old.items) plans.new.items) candidates.items) }
+        ensures queue { IfOk result (λ candidates. AreWithout inputs.now self.now.search.nodes force
+            (queue_of inputs.now self.now.observed self.now.search) (numbers_in candidates.items)) }
         ensures known { AreKnown inputs.now costs.new }
     {
         let nodes = self.search.nodes();

@@ -1,3 +1,5 @@
+//! What a session goes on from, and the steps that change it.
+
 ghost use Rattle.std.specs.Prelude.{◌≡◌, false, ◌+◌, ◌-◌, ◌<◌, ◌≤◌, ◌^◌, length};
 ghost use Rattle.std.specs.List.{AllByRecursion};
 ghost use Rattle.machine.specs.Events.{IsQuiet};
@@ -15,17 +17,17 @@ use session_spec::{Latest, RefusedWish};
 use std::marker::Model;
 use w3_search::{NodeSample, Search};
 
-/// How many entries of the agenda are handed out behind the turns of a quantum.
+/// How many entries of the agenda are handed out after the turns of a quantum.
 const HANDED_AT_ONCE: usize = 8;
 
 /// What a session goes on from. Contracts see it as the definitions' table.
 pub(crate) struct Desk {
     pub(crate) machine: InstrumentedMachine,
     pub(crate) refused: Vec<RefusedWish>,
-    // What is or was shown, in the order of admission.
+    // What is or was shown, in the order of its admission.
     pub(crate) kits: Kits,
     pub(crate) search: Search,
-    // The samples that were taken together last, of what was wished and of the nodes under test.
+    // The samples of the last time that any were taken: of what was wished, and of the nodes under test.
     pub(crate) latest: Vec<Latest>,
     pub(crate) tests: Vec<NodeSample>,
     // How many ticks each hart had then.
@@ -36,7 +38,7 @@ pub(crate) struct Desk {
     pub(crate) room: usize,
     pub(crate) time: u64,
     pub(crate) due: u64,
-    // Work was done since the last admission.
+    // Whether work was done since the last admission.
     pub(crate) worked: bool,
     pub(crate) samples: u64,
     // When the last sample was taken.
@@ -77,11 +79,12 @@ impl Model for Desk {
       observed = d.observed;
     } };
 
-    ghost invariant = { λ d. (vec_len d.refused + d.room ≤ vec_capacity d.refused) × (vec_len d.kits.all + d.room ≤ vec_capacity d.kits.all) × (vec_len d.kits.live + d.room ≤ vec_capacity d.kits.live)
+    ghost invariant = { λ d. (vec_len d.refused + d.room ≤ vec_capacity d.refused)
+        × (vec_len d.kits.all + d.room ≤ vec_capacity d.kits.all) × (vec_len d.kits.live + d.room ≤ vec_capacity d.kits.live)
         × (vec_len d.kits.all + d.room ≤ vec_capacity d.latest) × (vec_len d.kits.all + d.room ≤ vec_capacity d.tests) };
 }
 
-// By a call of its own: what drops it need not prove the drops of all its parts.
+// Its drop is a function of its own, so that callers need not prove the drops of all its parts.
 impl Drop for Desk {
     fn drop(self) {
         let Desk {
@@ -106,7 +109,7 @@ impl Drop for Desk {
 }
 
 impl Desk {
-    /// Whether the hart can take a turn.
+    /// Returns whether the hart can take a turn.
     #[inline(always)]
     pub(crate) fn runnable(&self, hart: HartNo) -> bool
         requires { hart < length self.now.machine.state.core.harts }
@@ -115,14 +118,15 @@ impl Desk {
         self.machine.runnable(hart)
     }
 
-    /// The hart takes turns, at most so many. It answers how many of them were ticks.
+    /// Lets the hart take turns, at most `most`. Returns how many of them were ticks.
     #[inline(always)]
     pub(crate) fn turn(&mut self, hart: HartNo, most: u32) -> u32
         requires hart { hart < length self.old.machine.state.core.harts }
         requires time { self.old.time < 2 ^ 63 }
         requires idle { self.old.idle < 2 ^ 63 }
         ensures table { self.new ≡ table_turned hart most self.old }
-        ensures live { AreLive self.old.machine.state.placer self.old.kits self.old.live → AreLive self.new.machine.state.placer self.new.kits self.new.live }
+        ensures live { AreLive self.old.machine.state.placer self.old.kits self.old.live
+            → AreLive self.new.machine.state.placer self.new.kits self.new.live }
         ensures owns { result ≡ length (owns (quantum_turns most hart self.old.machine.state.core) self.old.machine.state.core) }
         ensures harts { length self.new.machine.state.core.harts ≡ length self.old.machine.state.core.harts }
         ensures later { self.new.time < self.old.time + 2 ^ 32 }
@@ -150,7 +154,8 @@ impl Desk {
         requires time { self.old.time < 2 ^ 63 }
         requires idle { self.old.idle < 2 ^ 63 }
         ensures table { self.new ≡ table_quiet self.old }
-        ensures live { AreLive self.old.machine.state.placer self.old.kits self.old.live → AreLive self.new.machine.state.placer self.new.kits self.new.live }
+        ensures live { AreLive self.old.machine.state.placer self.old.kits self.old.live
+            → AreLive self.new.machine.state.placer self.new.kits self.new.live }
         ensures quiet { IsQuiet self.new.machine.state.core }
         ensures harts { length self.new.machine.state.core.harts ≡ length self.old.machine.state.core.harts }
         ensures later { self.new.time < self.old.time + 2 ^ 32 }
@@ -192,7 +197,7 @@ impl Desk {
         self.last = self.time;
     }
 
-    /// Does each Free in the agenda that no unlinking of its point stands before, and forgets tests that are gone then. No hart is
+    /// Does each Free in the agenda before which no unlinking of its point stands, and forgets tests that are gone then. No hart is
     /// inside a trampoline.
     pub(crate) fn free(&mut self)
         requires quiet { IsQuiet self.old.machine.state.core }
@@ -232,11 +237,12 @@ impl Desk {
         ensures table { self.new ≡ table_judged self.old }
         ensures core { self.new.machine.state.core ≡ self.old.machine.state.core }
     {
+        // What this returns is read again below, where the search is shared.
         let _drops = self.search.on_sample(self.time, &self.tests);
         drop_tests(&mut self.machine, &self.kits, self.search.drops());
     }
 
-    /// Work is due next at the least multiple of the width above the time.
+    /// Sets when work is due next: at the least multiple of the width above the time.
     pub(crate) fn go_on(&mut self, width: u64)
         requires some { 1 ≤ width }
         requires time { self.old.time + width < 2 ^ 64 }
@@ -247,7 +253,7 @@ impl Desk {
         self.worked = true;
     }
 
-    /// An admission was done.
+    /// Notes that an admission was done.
     pub(crate) fn rest(&mut self)
         ensures { self.new ≡ record self.old { worked = false } }
     {

@@ -17,7 +17,7 @@ pub(crate) enum Failure {
 }
 
 impl Failure {
-    /// Why its wish is refused; want of memory is no cause.
+    /// Returns why its wish is refused. Running out of memory is no cause.
     pub(crate) fn pick_cause(self) -> Option<PickCause>
         ensures { result ≡ pick_cause_of self }
     {
@@ -34,7 +34,7 @@ impl Failure {
         }
     }
 
-    /// Why its node is barred; want of memory is no cause, and where no more instruments are allowed the node waits.
+    /// Returns why its node is barred. Running out of memory is no cause, and where no more instruments are allowed the node waits.
     pub(crate) fn bar_cause(self) -> Option<BarCause>
         ensures { result ≡ bar_cause_of self }
     {

@@ -1,9 +1,11 @@
+//! Why a session doesn't begin.
+
 use pn_types::{NoMemory, PickCause, Text};
 
 /// Why a session doesn't begin.
 #[derive(Drop)]
 pub enum StartFault {
-    /// Memory is wanting.
+    /// Out of memory.
     NoMemory,
     /// A wish of the opening is refused, the first such: the name of its metric, its focus, and why.
     BadPick(Text, Text, PickCause),

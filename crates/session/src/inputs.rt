@@ -1,3 +1,5 @@
+//! What a session is given.
+
 ghost use Rattle.std.specs.Prelude.{◌≡◌, ◌<◌, ◌^◌, IfOk, length};
 ghost use Rattle.session_spec.specs.Inputs.{inputs_of};
 ghost use Rattle.session_spec.specs.Searches.{rules_of};
@@ -13,7 +15,7 @@ use std::alloc::Global;
 use std::marker::Model;
 use w3_search::Search;
 
-/// How a search goes that has no hypotheses.
+/// The declaration of a search that has no hypotheses.
 const NO_SEARCH: SearchDecl = SearchDecl {
     line: 0,
     window: 1,
@@ -32,7 +34,7 @@ pub struct Inputs {
     pub tree: Tree,
     /// The numbers of the run.
     pub settings: Settings,
-    // The program's procedures, in the order of the tree, and its points, by address, with what plans look up of them.
+    // The program's procedures in the order of the tree, its points by address, and what plans look up of them.
     pub(crate) index: PlanIndex,
 }
 
@@ -41,10 +43,17 @@ impl Model for Inputs {
 
     ghost Value = { Inputs };
 
-    ghost view = { λ i. record { image = i.image; checked = i.checked; tree = i.tree; procs = i.index.procs; points = i.index.points; settings = i.settings } };
+    ghost view = { λ i. record {
+      image = i.image;
+      checked = i.checked;
+      tree = i.tree;
+      procs = i.index.procs;
+      points = i.index.points;
+      settings = i.settings;
+    } };
 }
 
-// By a call of its own: what drops it need not prove the drops of all its parts.
+// Its drop is a function of its own, so that callers need not prove the drops of all its parts.
 impl Drop for Inputs {
     fn drop(self) {
         let Inputs {
@@ -58,11 +67,11 @@ impl Drop for Inputs {
 }
 
 impl Inputs {
-    /// The inputs of these parts. The work is linear in the procedures and points.
+    /// Puts inputs together. The work is linear in the procedures and points.
     ///
     /// # Errors
     ///
-    /// `NoMemory` where memory is wanting.
+    /// `NoMemory` where memory runs out.
     pub fn new(
         alloc: Global,
         image: Image,
@@ -86,25 +95,25 @@ impl Inputs {
         })
     }
 
-    /// The ticks of a sample's interval.
+    /// Returns the ticks of a sample's interval.
     pub(crate) fn width(&self) -> u64
         ensures { result ≡ self.now.settings.width }
     {
         self.settings.width
     }
 
-    /// How the search goes. Where none is wanted, it is one without hypotheses.
+    /// Returns how the search goes. Where none is wanted, it is one without hypotheses.
     pub(crate) fn search_decl(&self) -> SearchDecl
         ensures { result ≡ (rules_of self.now).decl }
     {
         self.checked.search.unwrap_or(NO_SEARCH)
     }
 
-    /// The search, before anything is tested.
+    /// Returns the search, before anything is tested.
     ///
     /// # Errors
     ///
-    /// `NoMemory` where memory is wanting.
+    /// `NoMemory` where memory runs out.
     #[tactic(auto, unfolding(crate::specs::Contenders::first_search))]
     pub(crate) fn search(&self, alloc: Global) -> Result<Search, NoMemory>
         requires { AreGiven self.now }

@@ -1,4 +1,4 @@
-//! A pair gets an instrument, with what it needs at hand.
+//! Gives a pair an instrument, for which memory was taken.
 
 ghost use Rattle.std.specs.Prelude.{◌≡◌, ◌<◌, ◌^◌, IfErr, IfOk};
 ghost use Rattle.rv_mem.specs.Start.{program_of};
@@ -20,7 +20,7 @@ use session_kits::Kit;
 use session_spec::Shown;
 use std::alloc::Global;
 
-/// The pair of an instrument that was admitted with this plan, not armed yet.
+/// Returns the pair of an instrument that was admitted with this plan and isn't armed yet.
 fn new_kit(inputs: &Inputs, plan: &Plan, candidate: Candidate, number: InstrumentNo) -> Kit
     requires { predicted plan.now < 2 ^ 32 }
     ensures { result ≡ new_kit inputs.now plan.now candidate number }
@@ -48,12 +48,12 @@ fn new_kit(inputs: &Inputs, plan: &Plan, candidate: Candidate, number: Instrumen
 }
 
 impl Desk {
-    /// Admits the plan of a pair, which is ready, under the limit of the cost if there is one: the instrument of the number that is
-    /// answered is the pair's from now on. There is room for it.
+    /// Admits the plan of a pair, which is ready, under the limit of the cost if there is one, and returns the number of the
+    /// instrument, which is the pair's from now on. There is room for it.
     ///
     /// # Errors
     ///
-    /// Why it gets none. Then no pair and no instrument has changed, and the room is left.
+    /// Why it gets none. Then no pair and no instrument has changed, and the room is still there.
     pub(crate) fn instrument(
         &mut self,
         alloc: Global,
@@ -70,7 +70,12 @@ impl Desk {
         ensures ok { IfOk result (IsInstrumented inputs.now plan.now candidate limit self.old self.new) }
         ensures err { IfErr result (IsFailed plan.now candidate.fault limit self.old self.new) }
         ensures step { IsStep inputs.now plan.now self.old self.new }
-        ensures same { self.new ≡ record self.old { machine = self.new.machine; kits = self.new.kits; live = self.new.live; room = self.new.room } }
+        ensures same { self.new ≡ record self.old {
+          machine = self.new.machine;
+          kits = self.new.kits;
+          live = self.new.live;
+          room = self.new.room;
+        } }
     {
         if let Some(fault) = candidate.fault {
             return Err(Failure::NoPlan(fault));

@@ -1,4 +1,4 @@
-//! What plans cost that nodes waited for.
+//! The known costs of the plans of nodes that wait.
 
 ghost use Rattle.std.specs.Prelude.{◌≡◌, ◌<◌, IfSome, OnOk, [], length, true};
 ghost use Rattle.session_spec.specs.Inputs.{Inputs};
@@ -32,7 +32,7 @@ impl Model for KnownCosts {
     ghost view = { λ costs. costs.entries.items };
 }
 
-/// Whether two foci are the same.
+/// Returns whether two foci are the same.
 fn is_same(a: &Focus, b: &Focus) -> bool
     ensures { result ≡ true → a.now ≡ b.now }
 {
@@ -40,7 +40,7 @@ fn is_same(a: &Focus, b: &Focus) -> bool
 }
 
 impl KnownCosts {
-    /// No cost is known.
+    /// Makes a list in which no cost is known.
     pub(crate) fn new(alloc: Global) -> KnownCosts
         ensures { result ≡ [] }
     {
@@ -49,7 +49,7 @@ impl KnownCosts {
         }
     }
 
-    /// What the plan of this pair costs, if it is known of this node.
+    /// Returns what the plan of this pair costs, if that is known for this node.
     pub(crate) fn words(&self, node: u32, metric: u32, focus: &Focus) -> Option<u64>
         ensures { (i : Inputs) → AreKnown i self.now → IfSome result (IsCost i metric focus.now) }
     {
@@ -64,7 +64,7 @@ impl KnownCosts {
     ///
     /// # Errors
     ///
-    /// `NoMemory` where memory is wanting.
+    /// `NoMemory` where memory runs out.
     fn make_place(&mut self, node: u32) -> Result<(), NoMemory>
         ensures known { (i : Inputs) → AreKnown i self.old → AreKnown i self.new }
         ensures place { OnOk result (node < length self.new) }
@@ -76,11 +76,11 @@ impl KnownCosts {
         self.entries.resize(place + 1, None)
     }
 
-    /// What the plan of a node's pair costs is known from now on.
+    /// Notes what the plan of a node's pair costs.
     ///
     /// # Errors
     ///
-    /// `NoMemory` where memory is wanting.
+    /// `NoMemory` where memory runs out.
     pub(crate) fn note(&mut self, node: u32, cost: KnownCost) -> Result<(), NoMemory>
         ensures { (i : Inputs) → IsCost i cost.metric cost.focus cost.words → AreKnown i self.old → AreKnown i self.new }
     {

@@ -7,11 +7,11 @@ use mdl_check::CheckedWish;
 use pn_types::{Focus, NoMemory};
 use std::alloc::Global;
 
-/// Puts a copy of a wish behind the others.
+/// Appends a copy of a wish.
 fn put(list: &mut Vec<CheckedWish>, wish: &CheckedWish) -> Result<(), NoMemory>
     ensures { list.new.items ≡ (if is_ok result then list.old.items ++ wish.now ∷ [] else list.old.items) }
 {
-    // Its focus is put together here: the prover takes none that was made elsewhere.
+    // The focus is written out here, since the prover doesn't take one that was made elsewhere.
     list.push(CheckedWish {
         at: wish.at,
         show: wish.show,
@@ -25,11 +25,11 @@ fn put(list: &mut Vec<CheckedWish>, wish: &CheckedWish) -> Result<(), NoMemory>
     Ok(())
 }
 
-/// The wishes of the opening, in the order of the text.
+/// Copies the wishes of the opening, in the order of the text.
 ///
 /// # Errors
 ///
-/// `NoMemory` where memory is wanting.
+/// `NoMemory` where memory runs out.
 pub(crate) fn first(alloc: Global, wishes: &[CheckedWish]) -> Result<Vec<CheckedWish>, NoMemory>
     ensures { IfOk result (λ list. list.items ≡ filter (λ w. w.at == 0) wishes.now) }
 {
@@ -42,11 +42,11 @@ pub(crate) fn first(alloc: Global, wishes: &[CheckedWish]) -> Result<Vec<Checked
     Ok(list)
 }
 
-/// The wishes after the opening, in the order of the text.
+/// Copies the wishes after the opening, in the order of the text.
 ///
 /// # Errors
 ///
-/// `NoMemory` where memory is wanting.
+/// `NoMemory` where memory runs out.
 fn after_opening(alloc: Global, wishes: &[CheckedWish]) -> Result<Vec<CheckedWish>, NoMemory>
     ensures { IfOk result (λ list. list.items ≡ filter (λ w. not (w.at == 0)) wishes.now) }
 {
@@ -59,11 +59,11 @@ fn after_opening(alloc: Global, wishes: &[CheckedWish]) -> Result<Vec<CheckedWis
     Ok(list)
 }
 
-/// The later wishes, by tick, and those of one tick in the order of the text.
+/// Copies the later wishes, in the order of their ticks, and those of one tick in the order of the text.
 ///
 /// # Errors
 ///
-/// `NoMemory` where memory is wanting.
+/// `NoMemory` where memory runs out.
 pub(crate) fn later(alloc: Global, wishes: &[CheckedWish]) -> Result<Vec<CheckedWish>, NoMemory>
     ensures { IfOk result (λ list. list.items ≡ by_tick (filter (λ w. not (w.at == 0)) wishes.now)) }
 {

@@ -9,7 +9,7 @@ use report::{NodePart, SearchPart};
 use std::alloc::Global;
 use w3_search::{MAX_NODES, Node};
 
-/// The name of a phase.
+/// Returns the name of a phase.
 fn phase_name(alloc: Global, inputs: &Inputs, phase: u32) -> Result<Text, NoMemory>
     ensures { IfOk result (λ name. name ≡ phase_name inputs.now.checked.phases phase) }
 {
@@ -22,7 +22,7 @@ fn phase_name(alloc: Global, inputs: &Inputs, phase: u32) -> Result<Text, NoMemo
     }
 }
 
-/// The name of a hypothesis.
+/// Returns the name of a hypothesis.
 fn hypothesis_name(alloc: Global, inputs: &Inputs, hypothesis: u32) -> Result<Text, NoMemory>
     ensures { IfOk result (λ name. name ≡ hypothesis_name inputs.now hypothesis) }
 {
@@ -37,7 +37,7 @@ fn hypothesis_name(alloc: Global, inputs: &Inputs, hypothesis: u32) -> Result<Te
     }
 }
 
-/// A copy of a node.
+/// Returns a copy of a node.
 fn copy(node: &Node) -> Node
     ensures { result ≡ node.now }
 {
@@ -59,7 +59,7 @@ fn copy(node: &Node) -> Node
     }
 }
 
-/// What a report shows of a node.
+/// Returns what a report shows of a node.
 fn node_part(alloc: Global, inputs: &Inputs, node: &Node) -> Result<NodePart, NoMemory>
     ensures { IfOk result (λ part. part ≡ node_part inputs.now node.now) }
 {
@@ -71,7 +71,7 @@ fn node_part(alloc: Global, inputs: &Inputs, node: &Node) -> Result<NodePart, No
     })
 }
 
-/// What a report shows of each node.
+/// Returns what a report shows of each node.
 fn node_parts(alloc: Global, inputs: &Inputs, nodes: &[Node]) -> Result<Vec<NodePart>, NoMemory>
     ensures { IfOk result (λ parts. parts.items ≡ map (node_part inputs.now) nodes.now) }
 {
@@ -82,7 +82,7 @@ fn node_parts(alloc: Global, inputs: &Inputs, nodes: &[Node]) -> Result<Vec<Node
     Ok(parts)
 }
 
-/// What a report shows of a search, if one is wanted.
+/// Returns what a report shows of a search, if one is wanted.
 pub(crate) fn search_part(
     alloc: Global,
     inputs: &Inputs,

@@ -23,7 +23,7 @@ use session_kits::Kits;
 use std::alloc::Global;
 use w3_search::Search;
 
-/// Room to read an instrument on so many harts.
+/// Makes room for the readings of an instrument on `harts` harts.
 fn blank_sample(alloc: Global, harts: u32) -> Result<Sample, NoMemory>
     ensures { IfOk result (λ sample. length sample.readings ≡ harts) }
 {
@@ -32,33 +32,35 @@ fn blank_sample(alloc: Global, harts: u32) -> Result<Sample, NoMemory>
     })
 }
 
-/// What is begun at, which has 32 bits.
+/// Returns the value at the beginning, which has 32 bits.
 fn begun_at(initially: Option<u32>) -> u32
     ensures { at_first initially < 2 ^ 32 }
 {
     initially.unwrap_or(0)
 }
 
-/// What holds of any metrics: what each begins at has 32 bits.
+/// What holds of any metrics: the value at which each begins has 32 bits.
 fn metrics_are_narrow(metrics: &[Metric])
     ensures { AllByRecursion IsNarrowMetric metrics.now }
 {
     for metric in metrics {
+        // For the proof alone: `begun_at` says that the value has 32 bits.
         let _first = begun_at(metric.initially);
     }
 }
 
-/// What holds of any constraints: what each begins at has 32 bits.
+/// What holds of any constraints: the value at which each begins has 32 bits.
 fn constraints_are_narrow(constraints: &[Constraint])
     ensures { AllByRecursion IsNarrowConstraint constraints.now }
 {
     for constraint in constraints {
+        // For the proof alone: `begun_at` says that the value has 32 bits.
         let _first = begun_at(constraint.initially);
     }
 }
 
 impl Desk {
-    /// The desk of this machine and this search, where nothing was done yet. Work is due at this time.
+    /// Makes the desk of a machine and a search, where nothing was done yet and work is due at the time `due`.
     fn at_first(
         alloc: Global,
         machine: InstrumentedMachine,
@@ -92,11 +94,11 @@ impl Desk {
         }
     }
 
-    /// The desk before any wish is looked at.
+    /// Makes the desk as it is before any wish is looked at.
     ///
     /// # Errors
     ///
-    /// `NoMemory` where memory is wanting.
+    /// `NoMemory` where memory runs out.
     pub(crate) fn new(alloc: Global, inputs: &Inputs) -> Result<Desk, NoMemory>
         requires { AreGiven inputs.now }
         ensures first { IfOk result (λ desk. desk ≡ first_table inputs.now) }
@@ -119,14 +121,17 @@ impl Desk {
         Ok(Desk::at_first(alloc, machine, search, marks, sample, settings.width))
     }
 
-    /// Takes the memory to look at wishes and to take nodes with these plans, one each.
+    /// Reserves memory to look at wishes and to take nodes with these plans, one each.
     ///
     /// # Errors
     ///
-    /// `NoMemory` where memory is wanting. Then nothing but what is ready has changed.
+    /// `NoMemory` where memory runs out. Then no more has changed than which plans are ready.
     pub(crate) fn reserve(&mut self, alloc: Global, plans: &[Plan]) -> Result<(), NoMemory>
         requires { (p : Plan) → In p plans.now → predicted p < 2 ^ 32 }
-        ensures same { self.new ≡ record self.old { machine = record self.old.machine { ready = self.new.machine.ready }; room = self.new.room } }
+        ensures same { self.new ≡ record self.old {
+          machine = record self.old.machine { ready = self.new.machine.ready };
+          room = self.new.room;
+        } }
         ensures room { OnOk result (self.new.room ≡ length plans.now) }
         ensures ready { OnOk result (self.new.machine.ready ≡ map need_of plans.now) }
     {

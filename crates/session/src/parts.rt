@@ -17,7 +17,7 @@ use session_kits::Kit;
 use session_spec::{RefusedWish, Shown};
 use std::alloc::Global;
 
-/// What a report shows of a hart.
+/// Returns what a report shows of a hart.
 fn hart_part(machine: &InstrumentedMachine, budget: u64, hart: HartNo) -> HartPart
     requires { hart < length machine.now.state.core.harts }
     ensures { slice_get (map (hart_seen budget machine.now.state.core) machine.now.state.core.harts) hart ≡ Some result }
@@ -31,7 +31,7 @@ fn hart_part(machine: &InstrumentedMachine, budget: u64, hart: HartNo) -> HartPa
     }
 }
 
-/// What a report shows of each hart.
+/// Returns what a report shows of each hart.
 fn hart_parts(
     alloc: Global,
     machine: &InstrumentedMachine,
@@ -49,14 +49,14 @@ fn hart_parts(
     Ok(parts)
 }
 
-/// The metric of a number, if there is one.
+/// Returns the metric of a number, if there is one.
 fn metric(inputs: &Inputs, number: u32) -> Option<&Metric>
     ensures { option_map (λ metric. metric.now) result ≡ metric_of inputs.now number }
 {
     inputs.checked.metrics.as_slice().get(number as usize)
 }
 
-/// The name of the metric of a number, which is empty where there is none.
+/// Returns the name of the metric of a number, which is empty where there is none.
 fn name(alloc: Global, inputs: &Inputs, number: u32) -> Result<Text, NoMemory>
     ensures { IfOk result (λ name. name ≡ name_of (metric_of inputs.now number)) }
 {
@@ -66,7 +66,7 @@ fn name(alloc: Global, inputs: &Inputs, number: u32) -> Result<Text, NoMemory>
     }
 }
 
-/// The units of the metric of a number, which are empty where there is none.
+/// Returns the units of the metric of a number, which are empty where there is none.
 fn units(alloc: Global, inputs: &Inputs, number: u32) -> Result<Text, NoMemory>
     ensures { IfOk result (λ units. units ≡ units_of (metric_of inputs.now number)) }
 {
@@ -76,7 +76,7 @@ fn units(alloc: Global, inputs: &Inputs, number: u32) -> Result<Text, NoMemory>
     }
 }
 
-/// What a report shows of a wish that was refused.
+/// Returns what a report shows of a wish that was refused.
 pub(crate) fn refused_part(
     alloc: Global,
     inputs: &Inputs,
@@ -93,7 +93,7 @@ pub(crate) fn refused_part(
     })
 }
 
-/// What a report shows of each wish that was refused.
+/// Returns what a report shows of each wish that was refused.
 fn refused_parts(
     alloc: Global,
     inputs: &Inputs,
@@ -108,7 +108,7 @@ fn refused_parts(
     Ok(parts)
 }
 
-/// What a report shows of a pair of metric and focus that is or was shown.
+/// Returns what a report shows of a pair of metric and focus that is or was shown.
 fn shown_part(
     alloc: Global,
     inputs: &Inputs,
@@ -128,7 +128,7 @@ fn shown_part(
     })
 }
 
-/// What a report shows of each pair that was wished and is or was shown.
+/// Returns what a report shows of each pair that was wished and is or was shown.
 fn shown_parts(alloc: Global, inputs: &Inputs, kits: &[Kit]) -> Result<Vec<ShownPart>, NoMemory>
     ensures { IfOk result (λ parts. parts.items ≡ kit_parts inputs.now kits.now) }
 {
@@ -141,7 +141,7 @@ fn shown_parts(alloc: Global, inputs: &Inputs, kits: &[Kit]) -> Result<Vec<Shown
     Ok(parts)
 }
 
-/// What a report shows of a session, by what it goes on from.
+/// Returns what a report shows of a session, by what it goes on from.
 pub(crate) fn desk_parts(
     alloc: Global,
     inputs: &Inputs,

@@ -12,7 +12,7 @@ use mdl_plan::{PlanError, PlanFault, plan, start_plan};
 use pn_types::{Focus, NoMemory, Plan, Seq};
 use std::alloc::Global;
 
-/// The plan of a metric at a focus, started as the settings say, or why there is none.
+/// Returns the plan of a metric at a focus, started as the settings say, or why there is none.
 fn planned(alloc: Global, inputs: &Inputs, metric: u32, focus: &Focus) -> Result<Plan, PlanError>
     requires { AreGiven inputs.now }
     ensures answer { Answers result (planned inputs.now metric focus.now) }
@@ -32,7 +32,7 @@ fn planned(alloc: Global, inputs: &Inputs, metric: u32, focus: &Focus) -> Result
     Ok(start_plan(alloc, whole, inputs.settings.start))
 }
 
-/// A plan of nothing.
+/// Returns a plan of nothing.
 pub(crate) fn nothing(alloc: Global) -> Plan
     ensures { predicted result < 2 ^ 32 }
 {
@@ -43,11 +43,11 @@ pub(crate) fn nothing(alloc: Global) -> Plan
     }
 }
 
-/// The plan of a metric at a focus, or one of nothing and why there is none.
+/// Returns the plan of a metric at a focus, or one of nothing and why there is none.
 ///
 /// # Errors
 ///
-/// `NoMemory` where memory is wanting.
+/// `NoMemory` where memory runs out.
 pub(crate) fn plan_or_fault(
     alloc: Global,
     inputs: &Inputs,

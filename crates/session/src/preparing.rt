@@ -1,4 +1,4 @@
-//! What wishes need to be looked at, which takes memory.
+//! Takes the memory that is needed to look at wishes.
 
 ghost use Rattle.std.specs.Prelude.{◌<◌, IfOk};
 ghost use Rattle.machine.specs.Cores.{In};
@@ -22,11 +22,11 @@ pub(crate) struct Prepared {
     pub(crate) candidates: VecDeque<Option<Candidate>>,
 }
 
-/// What a wish needs to be looked at.
+/// Prepares what is needed to look at a wish.
 ///
 /// # Errors
 ///
-/// `NoMemory` where memory is wanting.
+/// `NoMemory` where memory runs out.
 fn prepare_wish(
     alloc: Global,
     inputs: &Inputs,
@@ -43,11 +43,11 @@ fn prepare_wish(
     Ok((plan, Some(candidate)))
 }
 
-/// What wishes need to be looked at.
+/// Prepares what is needed to look at wishes.
 ///
 /// # Errors
 ///
-/// `NoMemory` where memory is wanting.
+/// `NoMemory` where memory runs out.
 pub(crate) fn prepare_wishes(
     alloc: Global,
     inputs: &Inputs,
@@ -67,7 +67,7 @@ pub(crate) fn prepare_wishes(
     Ok(Prepared { plans, candidates })
 }
 
-/// How many of the first wishes aren't above a time.
+/// Returns how many wishes at the front are due at a time or before.
 pub(crate) fn count_due(wishes: &[CheckedWish], time: u64) -> usize
     ensures { IsCount time wishes.now result }
 {

@@ -1,18 +1,18 @@
-//! What is put behind others where there is room.
+//! Appends to lists that have room.
 
 ghost use Rattle.std.specs.Prelude.{◌≡◌, ◌+◌, ◌<◌, ◌≤◌, ◌++◌, ◌∷◌, [], vec_len, vec_capacity};
 
 use pn_types::{Focus, Quantum};
 use session_spec::RefusedWish;
 
-/// Puts a refused wish behind the others, for which there is room.
+/// Appends a refused wish, for which there is room.
 pub(crate) fn put_refused(list: &mut Vec<RefusedWish>, refused: RefusedWish)
     requires { vec_len list.old < vec_capacity list.old }
     ensures items { list.new.items ≡ list.old.items ++ refused ∷ [] }
     ensures len { vec_len list.new ≡ vec_len list.old + 1 }
     ensures room { vec_capacity list.old ≤ vec_capacity list.new }
 {
-    // Its parts are put together here: the prover takes no focus that was made elsewhere.
+    // There is room, so this can't fail. The focus is written out here, since the prover doesn't take one that was made elsewhere.
     let _room = list.push(RefusedWish {
         show: refused.show,
         metric: refused.metric,
@@ -26,11 +26,12 @@ pub(crate) fn put_refused(list: &mut Vec<RefusedWish>, refused: RefusedWish)
     });
 }
 
-/// Puts a quantum behind the others, for which there is room.
+/// Appends a quantum, for which there is room.
 #[inline(always)]
 pub(crate) fn put_quantum(list: &mut Vec<Quantum>, quantum: Quantum)
     requires { vec_len list.old < vec_capacity list.old }
     ensures items { list.new.items ≡ list.old.items ++ quantum ∷ [] }
 {
+    // There is room, so this can't fail.
     let _room = list.push(quantum);
 }

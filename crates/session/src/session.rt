@@ -1,3 +1,5 @@
+//! A session: its opening, its quanta and its end.
+
 ghost use Rattle.std.specs.Prelude.{◌≡◌, ℕ, ◌<◌, ◌≤◌, ◌^◌, ◌++◌, ◌∷◌, ◌&&◌, [], IfErr, IfNone, IfOk, IfSome, IsTrue, None, OnErr, false, length, nat_lt, sum_by, true};
 ghost use Rattle.machine.specs.Quanta.{KeepsBudget};
 ghost use Rattle.machine.specs.Turns.{is_runnable};
@@ -42,7 +44,7 @@ use std::marker::Model;
 /// The run of a program with instruments, quantum by quantum.
 pub struct Session {
     inputs: Inputs,
-    // The wishes after the opening, by tick, and how many of them were looked at.
+    // The wishes after the opening, in the order of their ticks, and how many of them were looked at.
     wishes: Vec<CheckedWish>,
     looked: usize,
     desk: Desk,
@@ -66,10 +68,11 @@ impl Model for Session {
 
     ghost view = { λ s. record { inputs = s.inputs; machine = s.desk.machine.state; quanta = s.quanta.items; closed = s.closed } };
 
-    ghost invariant = { λ s. IsKept s.inputs s.quanta.items s.closed (drop s.looked s.wishes.items) s.desk × (s.looked ≤ vec_len s.wishes) × AreKnown s.inputs s.costs };
+    ghost invariant = { λ s. IsKept s.inputs s.quanta.items s.closed (drop s.looked s.wishes.items) s.desk
+        × (s.looked ≤ vec_len s.wishes) × AreKnown s.inputs s.costs };
 }
 
-// By a call of its own: what drops it need not prove the drops of all its parts.
+// Its drop is a function of its own, so that callers need not prove the drops of all its parts.
 impl Drop for Session {
     fn drop(self) {
         let Session {
@@ -86,13 +89,13 @@ impl Drop for Session {
 }
 
 impl Session {
-    /// A session at its opening: the wishes at tick 0, in the order of the text; then the whole agenda, and then each instrument is
-    /// armed. It is given a program, what its configuration holds, the program's resources on the settings' harts, its procedures in
-    /// the order of the resources, its points by address, and the numbers of the run.
+    /// Opens a session: looks at the wishes at tick 0, in the order of the text, then does the whole agenda, and then arms each
+    /// instrument. It is given a program, what its configuration holds, the program's resources on the settings' harts, its
+    /// procedures in the order of the resources, its points by address, and the numbers of the run.
     ///
     /// # Errors
     ///
-    /// `NoMemory` where memory is wanting; `BadPick` with the first wish at tick 0 that is refused, if one is.
+    /// `NoMemory` where memory runs out; `BadPick` with the first wish at tick 0 that is refused, if one is.
     pub fn new(
         alloc: Global,
         image: Image,
@@ -111,7 +114,7 @@ impl Session {
         Session::begin(alloc, inputs)
     }
 
-    /// The same session, of inputs that were put together before.
+    /// Opens the same session, with inputs that were put together before.
     ///
     /// # Errors
     ///
@@ -137,69 +140,70 @@ impl Session {
         })
     }
 
-    /// The machine with its instruments, to look at.
+    /// Returns the machine with its instruments.
     pub fn machine(&self) -> &InstrumentedMachine
         ensures { result.now.state ≡ self.now.machine }
     {
         &self.desk.machine
     }
 
-    /// The quanta that it took.
+    /// Returns the quanta that it took.
     pub fn quanta(&self) -> &[Quantum]
         ensures { result.now ≡ self.now.quanta }
     {
         &self.quanta
     }
 
-    /// The time: how many of the program's words were executed.
+    /// Returns the time: how many of the program's words were executed.
     pub fn time(&self) -> u64
         ensures { result ≡ (state_of self.now).kept.time }
     {
         self.desk.time
     }
 
-    /// How many times samples were taken.
+    /// Returns how many times samples were taken.
     pub fn samples(&self) -> u64
         ensures { result ≡ (state_of self.now).kept.samples }
     {
         self.desk.samples
     }
 
-    /// Whether work was done at the end of the last quantum, so that an admission is due.
+    /// Returns whether work was done at the end of the last quantum, so that an admission is due.
     pub fn worked(&self) -> bool
         ensures { result ≡ (state_of self.now).kept.worked }
     {
         self.desk.worked
     }
 
-    /// The samples that were taken together last, by the place of what they show.
+    /// Returns the samples of the last time that any were taken, in the order of what they show.
     pub fn latest(&self) -> &[Latest]
         ensures { result.now ≡ (state_of self.now).latest }
     {
         &self.desk.latest
     }
 
-    /// What a report shows of it.
+    /// Returns what a report shows of it.
     ///
     /// # Errors
     ///
-    /// `NoMemory` where memory is wanting.
+    /// `NoMemory` where memory runs out.
     pub fn parts(&self) -> Result<ReportParts, NoMemory>
         ensures parts { IfOk result (λ parts. parts ≡ parts_of self.now.inputs (state_of self.now)) }
-        // So the report's text can be made of it.
+        // With these the report's text can be made.
         ensures harts { IfOk result (λ parts. length parts.harts ≤ MAX_HARTS) }
         ensures ticks { IfOk result (λ parts. sum_by (λ part. part.ticks) parts.harts < 2 ^ 64) }
     {
         desk_parts(self.alloc, &self.inputs, &self.desk)
     }
 
-    /// What holds of it: each of its quanta was allowed when it came; its machine is the one that the definitions say; and that came about
-    /// by events of which each could happen, is the unpatched program's behind a legal run of it, and so has its memory, output, ticks and
-    /// stops. What was recorded for an instrument, and what its part of a report shows, follows from its arming on, and is what its plan
-    /// measures on that run; so is what was told of it; and each sample is a difference of readings. Where all wishes are for the opening,
-    /// and none drops a pair, that is so of the whole run. The search's nodes are a history; each verdict is that of the program's own run,
-    /// by the samples of an instrument of the node's own; each barred node was barred when its turn came; behind the end each node has a
-    /// verdict, or says why not; and what is under test costs no more than the limit, at each moment.
+    /// What holds of it: each of its quanta was allowed when it came; its machine is the one that the definitions say. That machine
+    /// came about by events of which each could happen, and is the unpatched program's after a legal run of it, so it has that
+    /// run's memory, output, ticks and stops. The samples that were recorded for an instrument, that its part of a report shows,
+    /// and that were told of it, follow one another from its arming on, and are what its plan measures on that run; and each sample
+    /// is a difference of readings. Where all wishes are for the opening, and none drops a pair, this holds for the whole run. The
+    /// search's nodes are a history; each verdict is that of the program's own run, by the samples of an instrument of the node's
+    /// own; each barred node was barred when its turn came; after the end each node has a verdict, or says why not; and what is
+    /// under test costs no more than the limit, at each moment.
     pub fn laws(&self)
         ensures allowed { AreAllowed self.now.inputs self.now.quanta }
         ensures machine { self.now.machine ≡ (state_of self.now).kept.machine }
@@ -217,10 +221,11 @@ impl Session {
         ensures cost { IsWithin self.now.inputs (state_of self.now).kept }
         ensures moments { self.now.closed ≡ false → AreWithin self.now.inputs (state_of self.now) }
     {
+        // For the proof alone: `nodes` says that they are a history.
         let _nodes = self.desk.search.nodes();
     }
 
-    /// Whether the hart is runnable, and there are fewer quanta than there may be: then, and only then, a quantum of it can follow,
+    /// Returns whether the hart is runnable and there are fewer quanta than there may be: exactly then a quantum of it can follow,
     /// unless the session was closed. The hart is one of the settings'.
     #[inline(always)]
     pub fn runnable(&self, hart: u32) -> bool
@@ -233,11 +238,12 @@ impl Session {
         self.quanta.len() < MAX_QUANTA as usize && self.desk.runnable(HartNo::numbered(hart))
     }
 
-    /// Whether no quantum can follow: the list of those that it took is whole.
+    /// Returns whether no quantum can follow: the list of those that it took is whole.
     pub fn done(&self) -> bool
         requires { self.now.closed ≡ false }
         ensures whole { result ≡ true → IsWhole self.now.inputs self.now.quanta }
-        ensures open { result ≡ false → (hart : ℕ) × (hart < self.now.inputs.settings.harts) × (Halted self.now.inputs self.now.quanta hart → ⊥) }
+        ensures open { result ≡ false
+            → (hart : ℕ) × (hart < self.now.inputs.settings.harts) × (Halted self.now.inputs self.now.quanta hart → ⊥) }
     {
         for hart in 0..self.inputs.settings.harts {
             if self.runnable(hart) {
@@ -247,13 +253,13 @@ impl Session {
         true
     }
 
-    /// A quantum of the hart, at most so many turns, asked for by a worker: an admission, if work was done since the last; the
-    /// turns; some entries of the agenda; and the work that is due, if it is time. It answers the quantum's entry, which is put
-    /// behind the others, and none exactly where the hart can't take one. Then nothing has changed.
+    /// Lets the hart take a quantum of at most `turns` turns, asked for by a worker: an admission, if work was done since the last;
+    /// the turns; some entries of the agenda; and the work that is due, if it is time. Returns the quantum, which is appended to
+    /// the others, and none exactly where the hart can't take one. Then nothing has changed.
     ///
     /// # Errors
     ///
-    /// `NoMemory` where memory is wanting. Then nothing has changed.
+    /// `NoMemory` where memory runs out. Then nothing has changed.
     #[inline(always)]
     pub fn quantum(
         &mut self,
@@ -271,7 +277,8 @@ impl Session {
         ensures machine { self.new.machine ≡ (state_of self.new).kept.machine }
         // No hart has more ticks than the budget.
         ensures budget { KeepsBudget self.new.machine.core }
-        ensures asked { IfOk result (λ answer. IfSome answer (λ q. q ≡ quantum_of self.old.inputs worker hart turns (state_of self.old).kept)) }
+        ensures asked { IfOk result
+            (λ answer. IfSome answer (λ q. q ≡ quantum_of self.old.inputs worker hart turns (state_of self.old).kept)) }
         ensures halted { IfOk result (λ answer. IfNone answer (Halted self.old.inputs self.old.quanta hart)) }
         ensures none { IfOk result (λ answer. IfNone answer (self.new ≡ self.old)) }
         ensures going_on { IfOk result (λ answer. IfSome answer (λ q. Halted self.old.inputs self.old.quanta hart → ⊥)) }
@@ -303,8 +310,8 @@ impl Session {
         Ok(Some(quantum))
     }
 
-    /// The end: each hart that is inside a trampoline takes turns until it is outside, and where time passed since the last sample,
-    /// all that is armed is sampled once more. No quantum follows.
+    /// Ends the session: each hart that is inside a trampoline takes turns until it is outside, and where time passed since the
+    /// last sample, all that is armed is sampled once more. No quantum follows.
     pub fn close(&mut self)
         requires { self.old.closed ≡ false }
         ensures { self.new ≡ session_at self.old.inputs self.old.quanta true }

@@ -19,11 +19,11 @@ use pn_types::NoMemory;
 use session_spec::RefusedWish;
 use std::alloc::Global;
 
-/// The desk behind the admissions of the opening.
+/// Makes the desk after the admissions of the opening.
 ///
 /// # Errors
 ///
-/// `NoMemory` where memory is wanting.
+/// `NoMemory` where memory runs out.
 fn admitted(alloc: Global, inputs: &Inputs, costs: &mut KnownCosts) -> Result<Desk, NoMemory>
     requires given { AreGiven inputs.now }
     requires known { AreKnown inputs.now costs.old }
@@ -37,18 +37,18 @@ fn admitted(alloc: Global, inputs: &Inputs, costs: &mut KnownCosts) -> Result<De
     Ok(desk)
 }
 
-/// The first wish that was refused, if one was.
+/// Returns the first wish that was refused, if one was.
 fn first_refused(refused: &[RefusedWish]) -> Option<&RefusedWish>
     ensures { option_map (λ wish. wish.now) result ≡ first_refused refused.now }
 {
     refused.first()
 }
 
-/// Whether a wish of the opening is refused.
+/// Returns an error where a wish of the opening is refused.
 ///
 /// # Errors
 ///
-/// `NoMemory` where memory is wanting; `BadPick` with the first such wish, if there is one.
+/// `NoMemory` where memory runs out; `BadPick` with the first such wish, if there is one.
 fn pick(alloc: Global, inputs: &Inputs, refused: &[RefusedWish]) -> Result<(), StartFault>
     requires { first_refused refused.now ≡ bad_pick inputs.now }
     ensures picked { OnOk result (bad_pick inputs.now ≡ None) }
@@ -63,11 +63,11 @@ fn pick(alloc: Global, inputs: &Inputs, refused: &[RefusedWish]) -> Result<(), S
     }
 }
 
-/// The desk behind the opening.
+/// Makes the desk after the opening.
 ///
 /// # Errors
 ///
-/// `NoMemory` where memory is wanting; `BadPick` with the first wish of the opening that is refused, if one is.
+/// `NoMemory` where memory runs out; `BadPick` with the first wish of the opening that is refused, if one is.
 pub(crate) fn opened(
     alloc: Global,
     inputs: &Inputs,

@@ -1,4 +1,4 @@
-//! Nodes of the search are taken, one after another, with what they need at hand.
+//! Takes nodes of the search, one after another, for which memory was taken.
 
 ghost use Rattle.std.specs.Prelude.{◌≡◌, ◌+◌, ◌<◌, ◌≤◌, ◌^◌, List, false, length, map, slice_get};
 ghost use Rattle.std.specs.List.{AllByRecursion};
@@ -28,7 +28,7 @@ use std::collections::VecDeque;
 use w3_search::NodeState;
 
 impl Desk {
-    /// What a pair adds to the costs in force, in words.
+    /// Returns what a pair adds to the costs in force, in words.
     fn counted(&self, kit: &Kit) -> u64
         ensures { result ≡ counted self.now.machine.state.placer kit.now }
     {
@@ -38,7 +38,7 @@ impl Desk {
         kit.cost
     }
 
-    /// The costs in force of the search, in words.
+    /// Returns the costs in force of the search, in words.
     pub(crate) fn in_force(&self) -> u64
         requires few { length self.now.kits < 2 ^ 31 }
         requires low { AllByRecursion (λ k. k.cost < 2 ^ 32) self.now.kits }
@@ -53,7 +53,7 @@ impl Desk {
         force
     }
 
-    /// Whether a node waits.
+    /// Returns whether a node waits.
     fn waits(&self, node: u32) -> bool
         ensures { result ≡ option_map_or (λ node. is_waiting node.state) (slice_get self.now.search.nodes node) false }
     {
@@ -75,8 +75,8 @@ impl Desk {
         }
     }
 
-    /// Takes a node, for which there is room, where the costs in force are these. Its plan is ready. It answers the costs in force
-    /// behind it.
+    /// Takes a node, for which there is room and whose plan is ready, where `force` are the costs in force. Returns the costs in
+    /// force afterwards.
     fn take_node(
         &mut self,
         alloc: Global,
@@ -137,7 +137,8 @@ impl Desk {
         requires live { AreLive self.old.machine.state.placer self.old.kits self.old.live }
         requires few { length self.old.kits + length plans.now < 2 ^ 31 }
         requires costs { AllByRecursion (HasCost inputs.now) self.old.kits }
-        ensures kept { (ws : List CheckedWish) → kept_of ws self.new ≡ with_nodes inputs.now (numbers_in candidates.items) (kept_of ws self.old) }
+        ensures kept { (ws : List CheckedWish)
+            → kept_of ws self.new ≡ with_nodes inputs.now (numbers_in candidates.items) (kept_of ws self.old) }
         ensures kits { IsMore inputs.now self.old.kits self.new.kits }
         ensures few { length self.new.kits ≤ length self.old.kits + length plans.now }
         ensures live { AreLive self.new.machine.state.placer self.new.kits self.new.live }

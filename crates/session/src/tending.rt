@@ -13,7 +13,7 @@ use pn_types::HartNo;
 use session_kits::hand_out;
 
 impl Desk {
-    /// The work that is due: it settles, samples, frees, arms and judges.
+    /// Does the work that is due: it settles, samples, frees, arms and judges.
     #[inline(never)]
     fn work(&mut self, width: u64)
         requires time { self.old.time < 2 ^ 57 + 2 ^ 32 }
@@ -35,8 +35,8 @@ impl Desk {
         self.go_on(width);
     }
 
-    /// The hart's turns, some entries of the agenda, and the work that is due, if it is time. It answers how many of the turns were
-    /// ticks.
+    /// Does the hart's turns, some entries of the agenda, and the work that is due, if it is time. Returns how many of the turns
+    /// were ticks.
     #[inline(always)]
     pub(crate) fn tend(&mut self, hart: HartNo, most: u32, width: u64) -> u32
         requires hart { hart < length self.old.machine.state.core.harts }
@@ -61,7 +61,8 @@ impl Desk {
         owns
     }
 
-    /// The end: it settles, and samples and judges once more where time passed since the last sample. Then the search ends.
+    /// Does what the end asks for: it settles, and samples and judges once more where time passed since the last sample. Then the
+    /// search ends.
     pub(crate) fn end(&mut self)
         requires time { self.old.time ≤ 2 ^ 57 }
         requires idle { self.old.idle < 2 ^ 49 }
@@ -80,7 +81,7 @@ impl Desk {
         self.search.finish();
     }
 
-    /// The opening behind its admissions: the whole agenda is handed out, and then all that is placed is armed.
+    /// Does what is left of the opening after its admissions: hands out the whole agenda, and then arms all that is placed.
     pub(crate) fn open(&mut self)
         requires quiet { IsQuiet self.old.machine.state.core }
         requires places { self.old.places ≡ length self.old.machine.state.core.harts }

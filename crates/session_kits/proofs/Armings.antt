@@ -52,7 +52,7 @@ module _ (time : ℕ) (first : Instrumented) (old : List Kit) (harts : ℕ) wher
         harts = (h.harts).1;
       })
 
-  -- the live places behind it stay so
+  -- the live places after it stay so
   pub armed_places : (m : Instrumented) (front : List Kit) (k : Kit) (left : List Kit) → AreArmed time first old harts m front (k ∷ left)
       → (n : ℕ) (live : List ℕ) → AreLiveFrom n m.placer left live → (now : Instrumented) → now ≡ machine_armed m k.shown → AreLiveFrom n now.placer left live
   armed_places m front k left h n live a now to =

@@ -1,4 +1,4 @@
--- The places of those pairs that may still be sampled stay such places, whatever a session does.
+-- The places of those pairs that may still be sampled go on being such places, whatever a session does.
 use Rattle.std.proofs.Common.{◌≡◌, ℕ, ◌+◌, ◌<◌, Option, Some, None, List, [], ◌∷◌, ◌++◌, map, length, refl, sym, ap, ap₂, ◌∙◌, subst, inl, inr, arith, append_assoc}
 use Rattle.std.specs.Prelude.{◌&&◌, Bool, true, false, cond, is_some, not, slice_get}
 use Rattle.std.specs.Option.{option_map_or}
@@ -34,7 +34,7 @@ places_later n p q (k ∷ ks) (at ∷ live) l b (inl a) = inl (a.0, places_later
 places_later n p q (k ∷ ks) (at ∷ live) l b (inr a) =
     inr (a.0, gone_test p q k a.1 (l.gone k.shown.instrument.n b.0 (state_gone p k a.1)), places_later (n + 1) p q ks (at ∷ live) l b.1 a.2)
 
--- what is gone stays so
+-- what is gone stays gone
 pub live_later : (p q : Placements) (kits : List Kit) (live : List ℕ) → Later p q → AreLive p kits live → AreLive q kits live
 live_later p q kits live l a = record {
   roster = l.roster;

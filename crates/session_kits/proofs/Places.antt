@@ -70,7 +70,7 @@ module _ {I : List Kit → List Kit → Type 0} {p : Placements} {now : List Kit
   pub walk_end : Walk I p now [] → I now []
   walk_end w = subst (λ xs. I xs []) (sym w.all) (last I p pass w.front w.left w.places w.holds)
 
--- It goes on behind the pair, of which then J holds.
+-- It goes on after the pair, of which then J holds.
 module _ {I : List Kit → List Kit → Type 0} {p : Placements} {now : List Kit} {at : ℕ} {k : Kit} {live : List ℕ} (h : Here I p now at k live) (J : List Kit → List Kit → Type 0) (q : Placements)
     (a : AreLiveFrom (length h.front + 1) q h.behind live) where
   -- which became another
@@ -95,7 +95,7 @@ module _ {I : List Kit → List Kit → Type 0} {p : Placements} {now : List Kit
 
 -- ---- in a turn of a loop
 
--- the live place that is read, and those behind it
+-- the live place that is read, and those after it
 pub live_turn : (live : List ℕ) (turn at d : ℕ) → turn < length live → at ≡ get_or live turn d → drop turn live ≡ at ∷ drop (turn + 1) live
 live_turn live turn at d l e = drop_more live turn d l ∙ ap (λ n. n ∷ drop (turn + 1) live) (sym e)
 
@@ -130,13 +130,13 @@ few_live n p (k ∷ ks) [] a = omega arith
 few_live n p (k ∷ ks) (at ∷ live) (inl a) = omega (arith, few_live (n + 1) p ks live a.1)
 few_live n p (k ∷ ks) (at ∷ live) (inr a) = omega (arith, few_live (n + 1) p ks (at ∷ live) a.2)
 
--- none is before the first place or behind it
+-- none is before the first place or after it
 pub first_live : (n : ℕ) (p : Placements) (ks : List Kit) (at : ℕ) (live : List ℕ) → AreLiveFrom n p ks (at ∷ live) → n ≤ at
 first_live n p [] at live a = absurd a
 first_live n p (k ∷ ks) at live (inl a) = omega (arith, a.0)
 first_live n p (k ∷ ks) at live (inr a) = omega (arith, a.0)
 
--- a pair behind others is at the place behind theirs
+-- a pair after others is at the place after theirs
 pub get_at : (front : List Kit) (k : Kit) (ks : List Kit) → slice_get (front ++ k ∷ ks) (length front) ≡ Some k
 get_at [] k ks = refl
 get_at (x ∷ front) k ks = get_at front k ks

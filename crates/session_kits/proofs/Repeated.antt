@@ -12,7 +12,7 @@ once_more a count counter d new l e =
     let one : count - counter ≡ suc (count - (counter + 1)) = omega arith in
     ap (λ (x : InstrumentedData). repeated (count - (counter + 1)) a x.state) e ∙ sym (ap (λ n. repeated n a d.state) one)
 
--- an act that changes nothing may as well be done so many times
+-- an act that changes nothing may as well be done any number of times
 unchanged : (a : Act) (n : ℕ) (m : Instrumented) → done a m ≡ m → repeated n a m ≡ m
 unchanged a zero m e = refl
 unchanged a (suc n) m e = ap (repeated n a) e ∙ unchanged a n m e
@@ -20,7 +20,7 @@ unchanged a (suc n) m e = ap (repeated n a) e ∙ unchanged a n m e
 abbrev with_ready : Instrumented → List Need → InstrumentedData
 with_ready state ready = record { state = state; ready = ready }
 
--- it was done some of so many times, and now changed nothing
+-- it was done some of a number of times, and now changed nothing
 pub none_more : (a : Act) (count left : ℕ) (first d new : InstrumentedData) → new ≡ record d { state = done a d.state } → new ≡ d → repeated left a d.state ≡ repeated count a first.state → d.ready ≡ first.ready
     → new ≡ record first { state = repeated count a first.state }
 none_more a count left first d new e same coming ready =

@@ -19,7 +19,7 @@ small_at [] i all l = (let no : ⊥ = omega (arith, l) in absurd no)
 small_at (h ∷ hs) zero all l = all.0
 small_at (h ∷ hs) (suc i) all l = small_at hs i all.1 (omega (arith, l))
 
--- the ticks of a hart, and of those behind it
+-- the ticks of a hart, and of those after it
 pub ticks_first : (i count : ℕ) (before now : List ℕ) → 0 < count
     → ticks_between (range_with_len i count) before now ≡ slice_index now i - slice_index before i + ticks_between (range_with_len (i + 1) (count - 1)) before now
 ticks_first i zero before now l = omega (arith, l)

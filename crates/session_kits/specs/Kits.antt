@@ -36,7 +36,8 @@ kit_sampled m time k =
 
 -- the sample of a pair, if it is armed, from its last one or its arming to now
 abbrev pub kit_bin : Instrumented → ℕ → Kit → Option Bin
-kit_bin m time k = if is_armed m.placer k.shown then Some (record { from = k.shown.from; to = time; sum = difference k.last (kit_reading m k) }) else None
+kit_bin m time k =
+    if is_armed m.placer k.shown then Some (record { from = k.shown.from; to = time; sum = difference k.last (kit_reading m k) }) else None
 
 -- that of a pair which was wished, with its place among those
 unfoldable pub kit_latest : Instrumented → ℕ → ℕ → Kit → List Latest
@@ -49,14 +50,16 @@ abbrev pub kits_latest : Instrumented → ℕ → ℕ → List Kit → List Late
 kits_latest m time place [] = []
 kits_latest m time place (k ∷ ks) = kit_latest m time place k ++ kits_latest m time (place_behind k.shown.node place) ks
 
--- that of a node's pair, where each hart had so many ticks when its last sample ended
+-- that of a node's pair, where `marks` says how many ticks each hart had when its last sample ended
 abbrev pub kit_ticks : Instrumented → List ℕ → Kit → ℕ
 kit_ticks m marks k = ticks_between (range_with_len k.first k.count) marks (ticks_of m)
 
 abbrev pub kit_test_by : Option ℕ → Instrumented → List ℕ → Kit → List NodeSample
 kit_test_by None m marks k = []
 kit_test_by (Some n) m marks k =
-    if is_armed m.placer k.shown then record { node = n; from = k.shown.from; value = difference k.last (kit_reading m k); ticks = kit_ticks m marks k } ∷ [] else []
+    if is_armed m.placer k.shown
+    then record { node = n; from = k.shown.from; value = difference k.last (kit_reading m k); ticks = kit_ticks m marks k } ∷ []
+    else []
 
 unfoldable pub kit_test : Instrumented → List ℕ → Kit → List NodeSample
 kit_test m marks k = kit_test_by k.shown.node m marks k
@@ -65,7 +68,7 @@ abbrev pub kits_tests : Instrumented → List ℕ → List Kit → List NodeSamp
 kits_tests m marks [] = []
 kits_tests m marks (k ∷ ks) = kit_test m marks k ++ kits_tests m marks ks
 
--- what a sample of a pair is put down as
+-- as what a sample of a pair is recorded
 abbrev pub latest_by : Option ℕ → ℕ → Option Bin → List Latest
 latest_by None place (Some b) = record { shown = place; from = b.from; to = b.to; sum = b.sum } ∷ []
 latest_by None place None = []
@@ -76,11 +79,11 @@ test_by (Some n) ticks (Some b) = record { node = n; from = b.from; value = b.su
 test_by (Some n) ticks None = []
 test_by None ticks bin = []
 
--- its harts are some of so many
+-- its harts are some of a number of harts
 abbrev pub HasHarts : ℕ → Kit → Type 0
 HasHarts harts k = k.first + k.count ≤ harts
 
--- its histogram, if it has one, can take one sample more
+-- its histogram, if it has one, can take one more sample
 abbrev pub HasFew : Kit → Type 0
 HasFew k = IfSome k.hist (λ hist. hist.count < 2 ^ 32)
 
@@ -126,12 +129,12 @@ AreLiveFrom n p (k ∷ ks) [] = (is_gone_test p k ≡ true) × AreLiveFrom (n + 
 AreLiveFrom n p (k ∷ ks) (at ∷ live) =
     ((at ≡ n) × AreLiveFrom (n + 1) p ks live) ⊎ ((n < at) × (is_gone_test p k ≡ true) × AreLiveFrom (n + 1) p ks (at ∷ live))
 
--- These places are those of all pairs but of some tests that are gone; and gone is what stays so.
+-- These places are those of all pairs but of some tests that are gone; and what is gone stays gone.
 pub record AreLive (p : Placements) (kits : List Kit) (live : List ℕ) : Type 0 where
   pub roster : IsRoster p
   pub below : AreBelow p.count (map (λ (k : Kit). k.shown) kits)
   pub places : AreLiveFrom 0 p kits live
 
--- those of these places that are no test's which is gone
+-- these places without those of tests that are gone
 abbrev pub live_of : Placements → List Kit → List ℕ → List ℕ
 live_of p kits live = filter (λ at. not (option_map_or (is_gone_test p) (slice_get kits at) false)) live

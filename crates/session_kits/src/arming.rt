@@ -1,4 +1,4 @@
-//! What is shown is armed.
+//! Arms what is shown.
 
 ghost use Rattle.std.specs.Prelude.{◌≡◌, ◌+◌, ◌≤◌, length, vec_capacity, vec_len};
 ghost use Rattle.std.specs.List.{AllByRecursion};
@@ -14,7 +14,7 @@ use instrument::State;
 use instrumented::InstrumentedMachine;
 use machine::Sample;
 
-/// Whether the instrument of a pair is being placed.
+/// Returns whether the instrument of a pair is being placed.
 fn is_placing(machine: &InstrumentedMachine, kit: &Kit) -> bool
     ensures { result ≡ is_placing (state_of machine.now.state.placer kit.now.shown.instrument.n) }
 {

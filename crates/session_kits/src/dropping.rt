@@ -1,4 +1,4 @@
-//! Tests that ended are dropped.
+//! Drops tests that ended.
 
 ghost use Rattle.std.specs.Prelude.{◌≡◌, Some, find, map, not};
 ghost use Rattle.std.specs.Option.{option_map};
@@ -12,14 +12,14 @@ use crate::kits::Kits;
 use instrument::{InstrumentNo, State};
 use instrumented::InstrumentedMachine;
 
-/// Whether the instrument is being placed or armed.
+/// Returns whether the instrument is being placed or armed.
 fn stands(machine: &InstrumentedMachine, number: InstrumentNo) -> bool
     ensures { result ≡ not (is_leaving (state_of machine.now.state.placer number.n)) }
 {
     matches!(machine.state(number), State::Placing | State::Armed)
 }
 
-/// Whether an instrument is that of a node.
+/// Returns whether an instrument is that of a node.
 fn is_of(kit: &Kit, node: u32) -> bool
     ensures { result ≡ is_same_number kit.now.shown.node (Some node) }
 {
@@ -29,14 +29,14 @@ fn is_of(kit: &Kit, node: u32) -> bool
     }
 }
 
-/// Whether a node is tested by an instrument.
+/// Returns whether a node is tested by an instrument.
 fn tests(machine: &InstrumentedMachine, kit: &Kit, node: u32) -> bool
     ensures { result ≡ tests machine.now.state.placer node kit.now.shown }
 {
     is_of(kit, node) && stands(machine, kit.shown.instrument)
 }
 
-/// The instrument that tests a node.
+/// Returns the instrument that tests a node.
 fn find_tester(machine: &InstrumentedMachine, kits: &Kits, node: u32) -> Option<InstrumentNo>
     requires { AreLiveFrom 0 machine.now.state.placer kits.now.all.items kits.now.live.items }
     ensures { result ≡ option_map (λ k. k.shown.instrument) (find (λ k. tests machine.now.state.placer node k.shown) kits.now.all.items) }
@@ -53,7 +53,10 @@ fn find_tester(machine: &InstrumentedMachine, kits: &Kits, node: u32) -> Option<
 /// Drops the instrument that tests a node, if there is one.
 fn drop_test(machine: &mut InstrumentedMachine, kits: &Kits, node: u32)
     requires live { AreLiveFrom 0 machine.old.state.placer kits.now.all.items kits.now.live.items }
-    ensures machine { machine.new ≡ record machine.old { state = dropped_by (tester_of machine.old.state.placer node (map (λ k. k.shown) kits.now.all.items)) machine.old.state } }
+    ensures machine { machine.new ≡ record machine.old {
+      state = dropped_by
+          (tester_of machine.old.state.placer node (map (λ k. k.shown) kits.now.all.items)) machine.old.state;
+    } }
     ensures core { machine.new.state.core ≡ machine.old.state.core }
 {
     if let Some(number) = find_tester(machine, kits, node) {
@@ -64,7 +67,8 @@ fn drop_test(machine: &mut InstrumentedMachine, kits: &Kits, node: u32)
 /// Drops the instruments that test these nodes, one after another. It takes no memory.
 pub fn drop_tests(machine: &mut InstrumentedMachine, kits: &Kits, nodes: &[u32])
     requires live { AreLive machine.old.state.placer kits.now.all.items kits.now.live.items }
-    ensures machine { machine.new ≡ record machine.old { state = dropped_tests nodes.now (map (λ k. k.shown) kits.now.all.items) machine.old.state } }
+    ensures machine { machine.new
+        ≡ record machine.old { state = dropped_tests nodes.now (map (λ k. k.shown) kits.now.all.items) machine.old.state } }
     ensures core { machine.new.state.core ≡ machine.old.state.core }
 {
     for node in nodes {

@@ -18,14 +18,14 @@ pub struct Kits {
     pub live: Vec<usize>,
 }
 
-/// Whether a pair is a test whose instrument is gone.
+/// Returns whether a pair is a test whose instrument is gone.
 fn is_gone_test(machine: &InstrumentedMachine, kit: &Kit) -> bool
     ensures { result ≡ is_gone_test machine.now.state.placer kit.now }
 {
     kit.shown.node.is_some() && matches!(machine.state(kit.shown.instrument), State::Gone)
 }
 
-/// Whether the pair at a place, if there is one, is a test whose instrument is gone.
+/// Returns whether the pair at a place, if there is one, is a test whose instrument is gone.
 fn is_gone_at(machine: &InstrumentedMachine, kits: &[Kit], place: usize) -> bool
     ensures { result ≡ option_map_or (is_gone_test machine.now.state.placer) (slice_get kits.now place) false }
 {
@@ -35,7 +35,7 @@ fn is_gone_at(machine: &InstrumentedMachine, kits: &[Kit], place: usize) -> bool
     }
 }
 
-/// Keeps those of these places that are no test's whose instrument is gone.
+/// Removes from these places those of tests whose instruments are gone.
 fn retain_live(machine: &InstrumentedMachine, kits: &[Kit], live: &mut Vec<usize>)
     ensures live { live.new.items ≡ live_of machine.now.state.placer kits.now live.old.items }
     ensures less { vec_len live.new ≤ vec_len live.old }
@@ -45,7 +45,7 @@ fn retain_live(machine: &InstrumentedMachine, kits: &[Kit], live: &mut Vec<usize
 }
 
 impl Kits {
-    /// Puts a pair behind the others, for which there is room.
+    /// Appends a pair, for which there is room.
     pub fn put(&mut self, kit: Kit)
         requires room { vec_len self.old.all < vec_capacity self.old.all }
         requires live_room { vec_len self.old.live < vec_capacity self.old.live }
@@ -55,8 +55,8 @@ impl Kits {
         ensures live_capacity { vec_capacity self.old.live ≤ vec_capacity self.new.live }
     {
         let place = self.all.len();
-        let _room = self.live.push(place);
-        let _room = self.all.push(kit);
+        self.live.push_reserved(place);
+        self.all.push_reserved(kit);
     }
 
     /// Forgets tests whose instruments are gone, so that they cost nothing from now on.

@@ -8,7 +8,7 @@ ghost use Rattle.session_spec.specs.Readings.{ticks_between, ticks_of};
 use instrumented::InstrumentedMachine;
 use pn_types::HartNo;
 
-/// How many ticks the hart of a number had.
+/// Returns how many ticks the hart of a number had.
 #[tactic(auto, using(crate::proofs::Ticks::ticks_at))]
 fn ticks_at(machine: &InstrumentedMachine, hart: u32) -> u64
     requires hart { hart < length machine.now.state.core.harts }
@@ -18,7 +18,7 @@ fn ticks_at(machine: &InstrumentedMachine, hart: u32) -> u64
     machine.ticks(HartNo::numbered(hart))
 }
 
-/// How many ticks so many harts from a number on had in all, where each had had so many before.
+/// Returns how many ticks `count` harts from number `first` on had in all since each had as many as its mark says.
 pub(crate) fn ticks_since(
     machine: &InstrumentedMachine,
     marks: &[u64],
@@ -38,7 +38,7 @@ pub(crate) fn ticks_since(
     ticks
 }
 
-/// Marks how many ticks each hart had.
+/// Sets the marks to how many ticks each hart had so far.
 pub fn mark_ticks(machine: &InstrumentedMachine, marks: &mut Vec<u64>)
     requires marks { vec_len marks.old ≡ length machine.now.state.core.harts }
     requires most { length machine.now.state.core.harts ≤ MAX_HARTS }

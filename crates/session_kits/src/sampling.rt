@@ -23,14 +23,14 @@ use machine::Sample;
 use session_spec::Latest;
 use w3_search::NodeSample;
 
-/// What was added between two sums modulo 2^64.
+/// Returns the difference of two sums modulo 2^64.
 fn added(earlier: u64, later: u64) -> u64
     ensures { result ≡ difference earlier later }
 {
     later.wrapping_sub(earlier)
 }
 
-/// What the instrument of a pair reads, which isn't gone. No hart is inside a trampoline.
+/// Returns what the instrument of a pair reads. It isn't gone, and no hart is inside a trampoline.
 pub fn read_kit(machine: &InstrumentedMachine, kit: &Kit, sample: &mut Sample) -> u64
     requires quiet { IsQuiet machine.now.state.core }
     requires there { state_of machine.now.state.placer kit.now.shown.instrument.n ≡ Gone → ⊥ }
@@ -42,14 +42,14 @@ pub fn read_kit(machine: &InstrumentedMachine, kit: &Kit, sample: &mut Sample) -
     machine.read(kit.shown.instrument, kit.first, kit.count, sample)
 }
 
-/// Whether the instrument of a pair is armed.
+/// Returns whether the instrument of a pair is armed.
 pub fn is_armed(machine: &InstrumentedMachine, kit: &Kit) -> bool
     ensures { result ≡ is_armed machine.now.state.placer kit.now.shown }
 {
     matches!(machine.state(kit.shown.instrument), State::Armed)
 }
 
-/// Puts a sample behind the others of a histogram, if there is one.
+/// Appends a sample to a histogram, if there is one.
 fn record_bin(hist: &mut Option<Hist>, bin: Bin)
     requires { IfSome hist.old (λ hist. hist.count < 2 ^ 32) }
     ensures { hist.new ≡ option_map (λ hist. pushed hist bin) hist.old }
@@ -89,14 +89,14 @@ fn sample_kit(
     Some(bin)
 }
 
-/// Puts a sample, if there is one, behind the others of what was wished, for which there is room.
+/// Appends a sample, if there is one, to those of what was wished. There is room for it.
 fn put_latest(list: &mut Vec<Latest>, node: Option<u32>, place: u32, bin: Option<Bin>)
     requires { vec_len list.old < vec_capacity list.old }
     ensures items { list.new.items ≡ list.old.items ++ latest_by node place bin }
     ensures room { vec_capacity list.old ≤ vec_capacity list.new }
 {
     if let (None, Some(bin)) = (node, bin) {
-        let _room = list.push(Latest {
+        list.push_reserved(Latest {
             shown: place,
             from: bin.from,
             to: bin.to,
@@ -105,8 +105,8 @@ fn put_latest(list: &mut Vec<Latest>, node: Option<u32>, place: u32, bin: Option
     }
 }
 
-/// Puts a sample, if there is one, behind the others of nodes, for which there is room. Its ticks are those of so many harts from a
-/// number on, since the last sample.
+/// Appends a sample, if there is one, to those of nodes. There is room for it. Its ticks are those that the pair's harts had since
+/// the last sample.
 fn put_test(
     list: &mut Vec<NodeSample>,
     node: Option<u32>,
@@ -121,12 +121,13 @@ fn put_test(
     requires small { AllByRecursion (λ x. x.ticks < 2 ^ 58) machine.now.state.core.harts }
     requires most { length machine.now.state.core.harts ≤ MAX_HARTS }
     requires harts { first + count ≤ length machine.now.state.core.harts }
-    ensures items { list.new.items ≡ list.old.items ++ test_by node (ticks_between (range_with_len first count) marks.now (ticks_of machine.now.state)) bin }
+    ensures items { list.new.items
+        ≡ list.old.items ++ test_by node (ticks_between (range_with_len first count) marks.now (ticks_of machine.now.state)) bin }
     ensures room { vec_capacity list.old ≤ vec_capacity list.new }
 {
     if let (Some(node), Some(bin)) = (node, bin) {
         let ticks = ticks_since(machine, marks, first, count);
-        let _room = list.push(NodeSample {
+        list.push_reserved(NodeSample {
             node,
             from: bin.from,
             value: bin.sum,
@@ -135,7 +136,7 @@ fn put_test(
     }
 }
 
-/// The place behind a pair's, where only those that were wished have places.
+/// Returns the place that follows a pair's, where only pairs that were wished have places.
 fn place_behind(node: Option<u32>, place: u32) -> u32
     requires { place + 1 < 2 ^ 32 }
     ensures { result ≡ place_behind node place }
@@ -146,7 +147,7 @@ fn place_behind(node: Option<u32>, place: u32) -> u32
     }
 }
 
-/// Samples each pair that is armed. It puts the samples of those that were wished behind the latest, and those of nodes behind the
+/// Samples each pair that is armed. It appends the samples of those that were wished to the latest, and those of nodes to the
 /// tests; there is room for them. The marks are how many ticks each hart had at the last sample.
 pub fn sample_kits(
     machine: &InstrumentedMachine,

@@ -153,7 +153,7 @@ module _ (i : Inputs) (m : Instrumented) (own : List ℕ) (ss : List Shown) (las
     abbrev new : Shown
     new = record { instrument = record { n = m.placer.count }; node = node; metric = metric; focus = focus; armed = None; from = 0 }
 
-    -- the scene behind it
+    -- the scene after it
     scene_is : scene_at (opening_of i) acts ≡ record { core = m.core; placer = q; plans = t.plans ++ plan ∷ [] }
     scene_is = scene_on (opening_of i) t.acts a ∙ (ap (λ z. (does a z).scene) (t.leads).scene ∙ ap (λ r. (admits plan r (scene_with t.plans m)).scene) ok)
 

@@ -171,7 +171,7 @@ armed_number : (r : Bool) (time : ℕ) (s : Shown) → (cond r (record s { armed
 armed_number true time s = refl
 armed_number false time s = refl
 
--- one behind the armings has the number of one before them
+-- one after the armings has the number of one before them
 record Renumbered (x : Shown) (ss : List Shown) : Type 0 where
   s : Shown
   listed : In s ss
@@ -187,7 +187,7 @@ armed_apart time m [] a = tt
 armed_apart time m (s ∷ ss) a =
     ((λ x h e. let r = renumbered time (machine_armed m s) ss x h in a.0 r.s r.listed (sym r.same ∙ (e ∙ armed_number (is_ready m s) time s))), armed_apart time (machine_armed m s) ss a.1)
 
--- behind the armings of a due work
+-- after the armings of a due work
 pub record AreTied (i : Inputs) (m : Instrumented) (own : List ℕ) (ss : List Shown) (lasts : List ℕ) : Type 0 where
   pub tied : IsTied i (arm_all m ss) own (all_armed (length own) m ss) (lasts_armed i m ss lasts)
   pub quiet : IsQuiet (arm_all m ss).core

@@ -1,4 +1,4 @@
--- An instrument that is armed behind an act was armed before it, unless the act armed it.
+-- An instrument that is armed after an act was armed before it, unless the act armed it.
 use Rattle.std.proofs.Common.{◌≡◌, ℕ, List, [], ◌∷◌, Option, Some, None, Ok, Err, refl, sym, ap, ◌∙◌, subst, ⊎_elim}
 use Rattle.std.specs.Prelude.{map, Bool, true, false, cond, Result, ◌==◌}
 use Rattle.std.proofs.lemmas.Bool.{eqb-true}

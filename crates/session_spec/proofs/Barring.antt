@@ -245,7 +245,7 @@ module _ (i : Inputs) where
       cond_both (is_due s.kept) (state_done i q) s (λ (x : State). IsKept s.kept.search.nodes x.kept.search.nodes)
       (λ _. kept_on s.kept.search.nodes q.kept.search.nodes (state_done i q).kept.search.nodes (kept_same s.kept.search q.kept.search (quiet_search s)) (kept_done q)) (λ _. kept_none s.kept.search.nodes)
 
-  -- a quantum behind its admission
+  -- a quantum after its admission
   kept_tend : (h n : ℕ) (s : State) → IsKept (state_admitted i s).kept.search.nodes (tend i h n s).kept.search.nodes
   unfolding tend
   kept_tend h n s =

@@ -47,7 +47,7 @@ all_quiet (suc n) m q = all_quiet n (done Hands m) (λ h x e. q h x (subst (λ h
 
 -- ---- the first admission
 
--- behind the wishes at tick 0, and the first nodes of the search
+-- after the wishes at tick 0, and the first nodes of the search
 abbrev pub picked : Inputs → Kept
 picked i = with_tests i (wished i)
 
@@ -75,7 +75,7 @@ no_ticks a (suc n) = ap (λ (l : List ℕ). 0 ∷ l) (no_ticks (a + 1) n)
 pub first_marks : (i : Inputs) → marks_of i (first_state i) ≡ replicate i.settings.harts 0
 first_marks i = ap (λ own. map (ticks_by own) (range_with_len 0 i.settings.harts)) (take_all (first_state i).kept.last [] (omega arith)) ∙ no_ticks 0 i.settings.harts
 
--- what was read last at the opening, of so many
+-- what was read last at the opening, of a number of instruments
 abbrev pub opened_lasts : Inputs → List ℕ
 opened_lasts i = lasts_armed i (with_agenda (picked i)).machine (with_agenda (picked i)).shown (lasts_with (picked i).shown [])
 

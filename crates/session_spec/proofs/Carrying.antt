@@ -1,4 +1,4 @@
--- What is so of the tests, as instruments are armed and dropped, nodes grow old and time goes on.
+-- What holds of the tests, as instruments are armed and dropped and time goes on.
 use Rattle.std.proofs.Common.{◌≡◌, ℕ, ◌≤◌, Bool, true, false, cond, Some, List, [], ◌∷◌, ◌++◌, length, refl, sym, ap, subst, ◌∙◌, arith, inl, inr, ◌⊎◌, ⊎_elim}
 use Rattle.std.proofs.lemmas.Bool.{true≢false, eq-eqb}
 use Rattle.std.proofs.lemmas.List.{length-append}

@@ -1,4 +1,4 @@
--- What is so of nodes that are made, that end with their phase, and that end with the search.
+-- What holds of nodes that are made, that end with their phase, and that end with the search.
 use Rattle.std.proofs.Common.{◌≡◌, ℕ, ◌<◌, ◌≤◌, true, false, Option, List, map, refl, sym, ap, subst, ◌∙◌, arith, inl, inr, ◌⊎◌}
 use Rattle.std.specs.Prelude.{◌==◌, ◌&&◌}
 use Rattle.std.proofs.lemmas.Bool.{true≢false, and_parts, cases_Bool, cond-false, cond-true}

@@ -180,7 +180,7 @@ places_like n (x ∷ xs) (y ∷ ys) a =
 
 -- ---- through an admission
 
--- what is so of pairs that were told this, and for which that was recorded
+-- what holds of pairs that were told this, and for which that was recorded
 record AreTelling (f : List Latest) (rs : List (List Bin)) (xs : List Shown) : Type 0 where
   fed : AreFed 0 f xs rs
   below : (l : Latest) → In l f → l.shown < places_behind 0 xs

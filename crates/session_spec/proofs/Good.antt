@@ -55,7 +55,7 @@ few_slots vars = let l = slots_fold vars 0 in omega arith
 abbrev pub AreWords : Inputs → Type 0
 AreWords i = (p : Point) → In p i.points → (word : ℕ) × (program_word (program_of i.image) p.at ≡ Some word)
 
--- and so is a site
+-- a site too
 pub site_word : (i : Inputs) → AreWords i → (s : Site) → IsSiteOf i.points s → (word : ℕ) × (program_word (program_of i.image) s.at ≡ Some word)
 site_word i words s k =
     let a = any_true (λ (p : Point). p.at == s.at) i.points k.at in
@@ -108,7 +108,7 @@ pub record IsSoundPlan (i : Inputs) (plan : Plan) : Type 0 where
   pub words : predicted plan < 2 ^ 32
   pub slots : slot_count plan.vars < 2 ^ 32
 
--- and so is what starts cold
+-- and what starts cold
 started_sound : (i : Inputs) (start : Start) (plan : Plan) → IsSoundPlan i plan → IsSoundPlan i (started start plan)
 started_sound i Warm plan k = k
 started_sound i Cold plan k = record {

@@ -18,7 +18,7 @@ use Rattle.session_spec.specs.Bins.{AreMeasured, IsMeasured}
 
 -- ---- intervals that may be empty
 
--- An interval, empty or not, of the whole run, behind the arming at time a, with what the plan measures at the focus over it.
+-- An interval, empty or not, of the whole run, after the arming at time a, with what the plan measures at the focus over it.
 pub record IsSpan (i : Inputs) (owns : List ℕ) (plan : Plan) (focus : Focus) (a : ℕ) (b : Bin) : Type 0 where
   pub behind : a ≤ b.from
   pub ordered : b.from ≤ b.to

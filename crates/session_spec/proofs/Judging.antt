@@ -1,4 +1,4 @@
--- The samples of a due work, and what the search makes of them, keep what is so of the nodes and their tests.
+-- The samples of a due work, and what the search makes of them, keep what holds of the nodes and their tests.
 use Rattle.std.proofs.Common.{◌≡◌, ℕ, ◌^◌, ◌<◌, ◌≤◌, true, false, Option, Some, List, [], ◌∷◌, length, map, refl, sym, ap, subst, ◌∙◌, arith, inl, inr, ⊎_elim}
 use Rattle.std.specs.Prelude.{drop, not, slice_get}
 use Rattle.std.specs.Option.{option_map_or}

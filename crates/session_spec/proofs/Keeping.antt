@@ -1,4 +1,4 @@
--- What was recorded for each instrument stays so through each quantum, and through the end.
+-- What was recorded for each instrument stays recorded through each quantum, and through the end.
 use Rattle.std.proofs.Common.{◌≡◌, ℕ, ◌+◌, List, [], ◌∷◌, ◌++◌, None, Ok, length, map, refl, sym, ap, subst, ◌∙◌, arith}
 use Rattle.std.specs.Prelude.{Option, nat_lt}
 use Rattle.std.proofs.lemmas.Bool.{cond_both}
@@ -40,7 +40,7 @@ use Rattle.session_spec.proofs.Intervals.{NoneEmptyIn}
 use Rattle.session_spec.proofs.Passing.{none_closed, none_worked}
 use Rattle.session_spec.proofs.Pairs.{ArePairs, arms_are, many_armed, many_room, many_sampled, new_pair, pairs_armed, pairs_longer, pairs_push, pairs_room, pairs_sampled, pairs_since, pairs_tell}
 
--- What is so of a session whose run has these harts, and for whose instruments this was recorded.
+-- What holds of a session whose run has these harts, and for whose instruments this was recorded.
 pub record IsTelling (i : Inputs) (owns : List ℕ) (rs : List (List Bin)) (k : Kept) : Type 0 where
   pub time : k.time ≡ length owns
   pub roster : IsRoster k.machine.placer

@@ -26,7 +26,7 @@ led_of i m own ss lasts t = record { program = t.program; acts = t.acts; plans =
 
 -- ---- acts
 
--- behind an act that doesn't arm it
+-- after an act that doesn't arm it
 pub armed_back : (i : Inputs) (m : Instrumented) (own : List ℕ) → IsLed i m own → (a : Act) (s : Shown) → IsNoArmingOf s.instrument.n a
     → is_armed (done a m).placer s ≡ true → is_armed m.placer s ≡ true
 armed_back i m own b a s n e =
@@ -76,7 +76,7 @@ arms_back i m own (t ∷ ss) b q s other e = by (is_ready m t) refl e (λ d c k 
     by false r l ih = ih m b q l
     by true r l ih = armed_back i m own b (Arms t.instrument.n) s (λ k. other t (inl refl) (sym k)) (ih (done (Arms t.instrument.n) m) (led i m own b q t r) (armed_quiet i m own b q t r) l)
 
--- What is armed behind armings was armed by them, or before, when all were sampled.
+-- What is armed after armings was armed by them, or before, when all were sampled.
 pub armed_last : (i : Inputs) (m : Instrumented) (own : List ℕ) (time : ℕ) (ss : List Shown) → IsLed i m own → IsQuiet m.core → AreApart ss
     → AreFromLast m.placer time ss → AreFromLast (arm_all m ss).placer time (all_armed time m ss)
 armed_last i m own time [] b q a f x h e = absurd h

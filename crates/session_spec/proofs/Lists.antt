@@ -18,7 +18,7 @@ pub all_map : {A B : Type 0} (P : B → Type 0) (f : A → B) (xs : List A) → 
 all_map P f [] k = tt
 all_map P f (x ∷ xs) k = (k x, all_map P f xs k)
 
--- of each that it makes of what is so
+-- what holds of each that it makes
 pub map_all : {A B : Type 0} (P : A → Type 0) (Q : B → Type 0) (f : A → B) (xs : List A) → ((x : A) → P x → Q (f x)) → AllByRecursion P xs → AllByRecursion Q (map f xs)
 map_all P Q f [] k a = tt
 map_all P Q f (x ∷ xs) k a = (k x a.0, map_all P Q f xs k a.1)

@@ -1,4 +1,4 @@
--- What is wished for the opening is armed at time 0, and stays so.
+-- What is wished for the opening is armed at time 0, and stays armed.
 use Rattle.std.proofs.Common.{◌≡◌, ℕ, zero, suc, ◌≤◌, Bool, true, false, cond, Some, None, List, [], ◌∷◌, ◌++◌, length, map, refl, sym, ap, subst, ◌∙◌, arith, ⊎_elim}
 use Rattle.std.specs.Prelude.{nat_lt, slice_get}
 use Rattle.std.proofs.lemmas.Bool.{true≢false, cond_both}
@@ -101,7 +101,7 @@ module _ (i : Inputs) (program : IsProgram i.image) (good : ArePlansGood i) wher
           let zero_is : a.0 ≡ 0 = omega (arith, low, past) in
           a.1 ∙ ap (λ (t : ℕ). Some t) zero_is
 
--- ---- what was armed stays so
+-- ---- what was armed stays armed
 
 abbrev Stay : List Shown → List Shown → Type 0
 Stay xs ys = (n : ℕ) (x : Shown) (a : ℕ) → slice_get xs n ≡ Some x → x.armed ≡ Some a → HasBecome ys n x

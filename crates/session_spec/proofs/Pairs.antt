@@ -28,7 +28,8 @@ use Rattle.session_spec.proofs.Intervals.{AreSpans, NoneEmpty, NoneEmptyIn, all_
 
 -- ---- one instrument
 
--- One that is being placed wasn't armed, and one that is armed was. Behind its arming its samples follow one another to the last one.
+-- One that is being placed wasn't armed, and one that is armed was. After its arming its samples follow one another to the last
+-- one.
 pub record IsPair (i : Inputs) (owns : List ℕ) (stage : Stage) (x : Shown) (r : List Bin) : Type 0 where
   pub plan : Plan
   pub planned : planned i x.metric x.focus ≡ Ok plan
@@ -38,7 +39,7 @@ pub record IsPair (i : Inputs) (owns : List ℕ) (stage : Stage) (x : Shown) (r 
   pub samples : (a : ℕ) → x.armed ≡ Some a → AreSpans i owns plan x.focus a a r x.from
   pub past : (a : ℕ) → x.armed ≡ Some a → x.from ≤ length owns
 
--- of those behind the last that was recorded, nothing was
+-- of those after the last that was recorded, nothing was
 abbrev pub ArePairs : Inputs → List ℕ → Placements → List Shown → List (List Bin) → Type 0
 ArePairs i owns p [] [] = Unit {0}
 ArePairs i owns p [] (r ∷ rs) = ⊥
@@ -245,7 +246,7 @@ module _ (i : Inputs) (owns : List ℕ) where
     same_armed true x = refl
     same_armed false x = refl
 
-    -- the first of them, behind the armings of the others
+    -- the first of them, after the armings of the others
     head_armed : (x : Shown) (xs : List Shown) (r : List Bin) (m : Instrumented) → IsRoster m.placer → AreApart (tags (x ∷ xs)) → IsPair i owns (state_of m.placer x.instrument.n) x r
         → IsPair i owns (state_of (arm_all (machine_armed m x) xs).placer (armed_at time m x).instrument.n) (armed_at time m x) r
     head_armed x xs r m z a o =

@@ -88,7 +88,7 @@ record Passes (s : State) : Type 0 where
   kept : IsPassing s.kept
   none : NoneEmptyIn s.recorded
 
--- behind the samples of a due work
+-- after the samples of a due work
 record IsSampled (k : Kept) : Type 0 where
   until : AreUntil k.last k.shown
   now : k.last ≡ k.time
@@ -211,7 +211,7 @@ module _ (i : Inputs) where
 
     -- ---- what is told
 
-    -- behind each quantum no sample is empty
+    -- after each quantum no sample is empty
     pub none_worked : (quanta : List Quantum) → NoneEmptyIn (work i quanta).recorded
     none_worked quanta = (work_passes quanta).none
 
@@ -223,6 +223,6 @@ module _ (i : Inputs) where
         cond_both (nat_lt q.kept.last q.kept.time) (state_last i q) q (λ (x : State). NoneEmptyIn (state_ended x).recorded)
         (λ e. none_more q (ltb-true q.kept.last q.kept.time e) quiet) (λ _. quiet.none)
 
-    -- nor behind the end
+    -- nor after the end
     pub none_closed : (quanta : List Quantum) → NoneEmptyIn (closed i (work i quanta)).recorded
     none_closed quanta = none_behind (work i quanta) (work_passes quanta)

@@ -58,7 +58,7 @@ any x = Unit {0}
 abbrev at_zero : Shown → Type 0
 at_zero x = x.armed ≡ Some 0
 
--- one behind the armings, and what was there
+-- one after the armings, and what was there
 was_at : (t : ℕ) (xs : List Shown) (m : Instrumented) (k : ℕ) (y : Shown) → slice_get (all_armed t m xs) k ≡ Some y → (x : Shown) × (slice_get xs k ≡ Some x) × (y.instrument.n ≡ x.instrument.n)
 was_at t [] m k y e = absurd cc
 was_at t (z ∷ xs) m zero y e =
@@ -121,7 +121,7 @@ module _ (i : Inputs) where
 
   module _ (owns : List ℕ) (rs : List (List Bin)) (Z : Shown → Type 0) (k : Kept) (s : IsStaying i Z owns rs k) (n : ℕ) (y : Shown) (e : slice_get (all_armed k.time k.machine k.shown) n ≡ Some y)
       (o : y.node ≡ None) where
-    -- one behind the armings, and what it was
+    -- one after the armings, and what it was
     record WasArmed : Type 0 where
       x : Shown
       listed : slice_get k.shown n ≡ Some x
@@ -178,7 +178,7 @@ module _ (i : Inputs) where
 never : (a : ℕ) → None ≡ Some a → ⊥
 never a e = cc
 
--- what is so of a state
+-- what holds of a state
 record IsAll (i : Inputs) (s : State) : Type 0 where
   tells : Tells i s
   wishes : s.kept.wishes ≡ []

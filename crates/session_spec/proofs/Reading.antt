@@ -72,7 +72,7 @@ module _ (i : Inputs) (good : ArePlansGood i) where
   unfolding work lasts_of
   work_sound quanta p = from_sound quanta (first_state i) (lasts_first i) (opens i p good)
 
-  -- behind the end
+  -- after the end
   last_sound : (s : State) (lasts : List ℕ) → IsSound i s lasts → IsQuiet s.kept.machine.core → IsSound i (state_last i s) (lasts_now i s.kept.machine s.kept.shown lasts)
   last_sound s lasts k quiet =
       let read = lasts_now i s.kept.machine s.kept.shown lasts in

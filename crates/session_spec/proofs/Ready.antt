@@ -121,7 +121,7 @@ module _ (i : Inputs) (own : List ℕ) where
       by true e f = let z : Armed ≡ Placing = sym ((ready_arms m x r e).itself (ready_placing m x e)) ∙ f in cc
       by false e f = true≢false (sym (is_ready_then i m own p x f) ∙ e)
 
-  -- none is being placed behind the armings
+  -- none is being placed after the armings
   pub none_placing : (t : ℕ) → t ≡ length own → (xs : List Shown) (m : Instrumented) → IsRoster m.placer → AreApart (tags xs) → IsPlaced i m own → (k : ℕ) (x : Shown) → slice_get xs k ≡ Some x
       → state_of (arm_all m xs).placer x.instrument.n ≡ Placing → ⊥
   none_placing t timed [] m r a p k x e f = cc

@@ -186,7 +186,7 @@ closed_rules i s =
     by true = verdicts_rules (tests_now i (state_quiet s)) (state_sampled i (state_quiet s)).kept ∙ sampled_rules i (state_quiet s)
     by false = refl
 
--- ---- behind quanta
+-- ---- after quanta
 
 pub opened_rules : (i : Inputs) → (opened i).search.rules ≡ rules_of i
 unfolding wished with_agenda with_arms

@@ -1,4 +1,4 @@
--- What is so of the nodes and their tests stays so through an admission.
+-- What holds of the nodes and their tests goes on holding through an admission.
 use Rattle.std.proofs.Common.{◌≡◌, ℕ, ◌+◌, true, Option, Some, None, Ok, List, [], ◌∷◌, ◌++◌, refl, sym, ap, subst, ◌∙◌, arith, inr}
 use Rattle.std.specs.Prelude.{slice_get}
 use Rattle.std.proofs.lemmas.Bool.{true≢false}
@@ -124,7 +124,7 @@ module _ (i : Inputs) (owns : List ℕ) where
     new_placing : state_of m.placer p.count ≡ Placing
     new_placing = ap (λ (q : Placements). state_of q p.count) placer_is ∙ (numbers.admissions_tell p plan cost placer (s.roster).numbered e).state
 
-    -- behind the nodes that the search has then
+    -- after the nodes that the search has then
     seen_more : (v : SearchData) (x : Shown) → v.rules ≡ rules_of i → Grows (IsNode i owns) no_node k.search.nodes v.nodes → x.instrument.n ≡ p.count
         → ((n : ℕ) → x.node ≡ Some n → IsTaken v.nodes n)
         → ((n : ℕ) → x.node ≡ Some n → NotOf n (tags k.shown)) → OneTest i owns m.placer v.nodes no_node x → IsSeen i owns (record k { machine = m; search = v; shown = k.shown ++ x ∷ [] })

@@ -1,4 +1,4 @@
--- What is so of the nodes of a session's search, and of the instruments that test them.
+-- What holds of the nodes of a session's search, and of the instruments that test them.
 use Rattle.std.proofs.Common.{◌≡◌, ℕ, ◌<◌, ◌≤◌, Bool, true, false, cond, Option, Some, Ok, List, [], ◌∷◌, length}
 use Rattle.std.specs.Prelude.{◌==◌, ◌⊎◌, map, slice_get}
 use Rattle.pn_types.specs.declared.plan.Plan.{Plan}

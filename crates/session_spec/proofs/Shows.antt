@@ -1,4 +1,4 @@
--- What is known of shown instruments goes on behind each act.
+-- What is known of shown instruments goes on after each act.
 use Rattle.std.proofs.Common.{◌≡◌, ℕ, ◌<◌, List, [], ◌∷◌, ◌++◌, Some, refl, sym, ap, ◌∙◌, subst, arith, append_assoc, inl, inr}
 use Rattle.std.specs.Prelude.{slice_get}
 use Rattle.machine.specs.Cores.{In}

@@ -16,7 +16,7 @@ use Rattle.instrument.proofs.Folds.{find_append, find_first, find_map, find_none
 use Rattle.instrument.proofs.Numbers as numbers
 use Rattle.session_spec.specs.Rosters.{IsRoster}
 
--- Those that are gone stay so, and one that wasn't dropped is what it was.
+-- Those that are gone stay gone, and one that wasn't dropped is what it was.
 pub record Since (p q : Placements) : Type 0 where
   pub roster : IsRoster q
   pub count : p.count ≤ q.count
@@ -48,7 +48,7 @@ found xs single n x h e =
     let g = find_gives (λ (y : Instrument). y.no == n) xs z.0 z.1 in
     z.1 ∙ ap (λ (y : Instrument). Some y) (single z.0 x g.0 h (eqb-true (z.0).no n g.1 ∙ sym e))
 
--- what is found in one list, and what isn't, is so in another
+-- what is found in one list is found in another, and what isn't found, isn't
 by_listing : (n : ℕ) (xs ys : List Instrument) → ((x : Instrument) → In x ys → x.no ≡ n → In x xs) → at_no n xs ≡ None → at_no n ys ≡ None
 by_listing n xs ys h e = by (at_no n ys) refl
   where

@@ -1,4 +1,4 @@
--- What is so of the nodes and their tests stays so through each quantum. So each verdict tells what it must.
+-- What holds of the nodes and their tests goes on holding through each quantum. So each verdict tells what it must.
 use Rattle.std.proofs.Common.{◌≡◌, ℕ, true, Some, ◌+◌, ◌^◌, ◌<◌, ◌≤◌, List, [], ◌∷◌, ◌++◌, length, refl, sym, subst, arith, ◌⊎◌}
 use Rattle.std.specs.Prelude.{nat_lt, slice_get}
 use Rattle.std.proofs.lemmas.Bool.{cond_both}
@@ -179,6 +179,6 @@ module _ (i : Inputs) (some : 1 ≤ (rules_of i).decl.window) (quanta : List Qua
   pub all_judged : (work i quanta).kept.time < 2 ^ 64 → (k : ℕ) (n : Node) → slice_get (work i quanta).kept.search.nodes k ≡ Some n → is_judged n.state ≡ true → IsRuled i (work i quanta).owns n
   all_judged low k n e j = ((seen_work i some quanta low).nodes k n e).judged j
 
-  -- behind the end each node has one, or none
+  -- after the end each node has one, or none
   pub all_ended : (closed i (work i quanta)).kept.time < 2 ^ 64 → Each (λ n. IsRuled i (closed i (work i quanta)).owns n ⊎ IsUnjudged i n) (closed i (work i quanta)).kept.search.nodes
   all_ended low = closed_told i some (work i quanta) low (seen_work i some quanta (omega (arith, low, time_before i (work i quanta))))

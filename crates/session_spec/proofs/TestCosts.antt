@@ -27,7 +27,7 @@ pub record IsCounted (i : Inputs) (k : Kept) : Type 0 where
   pub below : AreBelow k.machine.placer.count k.shown
   pub within : IsWithin i k
 
--- those that are gone stay so
+-- those that are gone stay gone
 pub record Later (p q : Placements) : Type 0 where
   pub roster : IsRoster q
   pub count : p.count ≤ q.count

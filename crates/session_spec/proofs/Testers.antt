@@ -28,7 +28,7 @@ use Rattle.session_spec.proofs.Running.{begins, may, metric_sampled}
 use Rattle.session_spec.proofs.Sampling.{armed_is}
 use Rattle.session_spec.proofs.Tried.{IsBack, from_samples, is_tried, sample_on, tried_old}
 
--- ---- what was recorded at a place; nothing, behind the last
+-- ---- what was recorded at a place; nothing, after the last
 
 abbrev pub row : List (List Bin) → ℕ → List Bin
 row [] k = []
@@ -274,7 +274,7 @@ module _ (i : Inputs) (owns : List ℕ) (p : Placements) (t : ℕ) (timed : t �
 
 -- ---- armings
 
--- One behind the armings: as it was, if it wasn't being placed.
+-- One after the armings: as it was, if it wasn't being placed.
 pub record IsBehind (m : Instrumented) (x y : Shown) : Type 0 where
   pub same : (y ≡ x) ⊎ (state_of m.placer x.instrument.n ≡ Placing)
   pub node : y.node ≡ x.node

@@ -143,7 +143,7 @@ module _ (i : Inputs) (good : ArePlansGood i) (own : List ℕ) where
 pub tester_stands : (p : Placements) (n : ℕ) (s : Shown) → tests p n s ≡ true → (state_of p s.instrument.n ≡ Placing) ⊎ (state_of p s.instrument.n ≡ Armed)
 tester_stands p n s e = stands (state_of p s.instrument.n) (and_parts (is_same_number s.node (Some n)) (not (is_leaving (state_of p s.instrument.n))) e).1
 
--- Behind verdicts the same is shown, with what was read of it last.
+-- After verdicts the same is shown, with what was read of it last.
 pub record IsJudged (i : Inputs) (own lasts : List ℕ) (k d : Kept) : Type 0 where
   pub moved : Moves i own lasts k d
   pub once : IsAtOnce k d

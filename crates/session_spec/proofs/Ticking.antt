@@ -120,7 +120,7 @@ pub many_harts : (more h n : ℕ) (image : Image) → length (harts_from more h 
 many_harts zero h n image = refl
 many_harts (suc more) h n image = ap suc (many_harts more (h + 1) n image)
 
--- a list of harts with so many ticks each
+-- a list of harts with the ticks that each has
 listed : (f : ℕ → ℕ) (xs : List Hart) (a : ℕ) → ((k : ℕ) (x : Hart) → slice_get xs k ≡ Some x → x.ticks ≡ f (a + k))
     → map (λ (x : Hart). x.ticks) xs ≡ map f (range_with_len a (length xs))
 listed f [] a e = refl

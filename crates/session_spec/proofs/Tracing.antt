@@ -118,7 +118,7 @@ module _ (i : Inputs) where
 
   -- ---- the steps of a quantum
 
-  -- what is so of a state
+  -- what holds of a state
   pub record IsTraced (s : State) : Type 0 where
     pub seen : IsSeen i s.owns s.kept
     pub tells : Tells i s
@@ -191,7 +191,7 @@ module _ (i : Inputs) where
     traced_first : AreTraced i xs1 rs1 first.nodes
     traced_first = traced_sampled i s.owns p k.time z.seen.time low k.search.rules.hypotheses k.search.rules.decl.window k.shown s.recorded k.search.nodes z.tells.many z.seen.alone z.seen.tests z.traced
 
-    -- behind the step of the search
+    -- after the step of the search
     traced_judged : (a : Kept) (rs : List (List Bin)) → a.time ≡ k.time → a.search ≡ k.search → AreTraced i a.shown rs first.nodes
         → AreTraced i (with_verdicts samples a).shown rs (with_verdicts samples a).search.nodes
     unfolding with_verdicts search_step

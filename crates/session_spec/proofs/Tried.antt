@@ -68,7 +68,7 @@ get_changed f (suc i) (n ∷ ns) (suc k) m e = get_changed f i ns k m e
 abbrev pub sample_on : List Hypothesis → ℕ → ℕ → NodeSample → Node → Node
 sample_on hs w t s n = cond (may_take s n) (judged hs w (sampled t s n)) n
 
--- it is as it was, or was under test, and is or was so now
+-- it is as it was, or was under test, and is now or was until now
 abbrev pub IsFrom : List Node → ℕ → Node → Type 0
 IsFrom ns k m = (y : Node) × (slice_get ns k ≡ Some y) × ((m ≡ y) ⊎ ((y.state ≡ Active) × (is_tried m.state ≡ true)))
 
@@ -172,7 +172,7 @@ back_phases t (p ∷ ps) v =
     cond_both (nat_le p.at t) (with_phases t ps (begun v)) v (λ (w : SearchData). IsBack v.nodes w.nodes)
     (λ _. back_on v.nodes (begun v).nodes (with_phases t ps (begun v)).nodes (back_begun v) (back_phases t ps (begun v))) (λ _. back_none v.nodes)
 
--- of the nodes behind the samples
+-- of the nodes after the samples
 pub back_step : (t : ℕ) (v : SearchData) → IsBack v.nodes (with_all_phases t (with_all_families v)).nodes
 back_step t v =
     let f = with_all_families v in

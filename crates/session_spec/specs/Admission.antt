@@ -20,7 +20,8 @@ use Rattle.session_spec.specs.Tests.{with_tests}
 
 -- An instrument that was wished shows the pair of a wish from its admission to its dropping.
 abbrev pub shows : Placements → CheckedWish → Shown → Bool
-shows p w s = is_none s.node && ((s.metric == w.metric) && (is_same_focus (Some s.focus) (Some w.focus) && not (is_leaving (state_of p s.instrument.n))))
+shows p w s = is_none s.node
+    && ((s.metric == w.metric) && (is_same_focus (Some s.focus) (Some w.focus) && not (is_leaving (state_of p s.instrument.n))))
 
 abbrev pub shown_now : Kept → CheckedWish → Option Shown
 shown_now k w = find (shows k.machine.placer w) k.shown
@@ -41,7 +42,14 @@ admitted plan k = record k { machine = done (Admits plan None) k.machine }
 
 -- the instrument of the next number shows the pair
 abbrev pub shown_next : CheckedWish → Kept → Shown
-shown_next w k = record { instrument = record { n = k.machine.placer.count }; node = None; metric = w.metric; focus = w.focus; armed = None; from = 0 }
+shown_next w k = record {
+  instrument = record { n = k.machine.placer.count };
+  node = None;
+  metric = w.metric;
+  focus = w.focus;
+  armed = None;
+  from = 0;
+}
 
 abbrev pub with_answer : Result Placements Refused → CheckedWish → Plan → Kept → Kept
 with_answer (Err refused) w plan k = with_refused (cause_of_refusal refused) w k

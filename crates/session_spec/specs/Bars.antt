@@ -25,7 +25,7 @@ pub record HasNoPlan (i : Inputs) (n : Node) (c : BarCause) : Type 0 where
   pub planned : planned i (metric_of i n) n.focus ≡ Err fault
   pub cause : bar_of_plan fault ≡ c
 
--- there is one, and it needn't wait for the tests in force to end; but no instrument of it could be admitted, by this cause
+-- there is a plan, which needn't wait for the tests in force to end; but no instrument of it could be admitted, by this cause
 pub record HasNoRoom (i : Inputs) (k : Kept) (n : Node) (c : BarCause) : Type 0 where
   pub plan : Plan
   pub planned : planned i (metric_of i n) n.focus ≡ Ok plan
@@ -40,8 +40,8 @@ IsBarredBy i k n c = HasNoPlan i n c ⊎ HasNoRoom i k n c
 
 -- ---- when
 
--- In the course of these quanta nodes could be taken in k: at the opening, behind its wishes, or at the admission with which a quantum
--- began, behind the wishes that were due then.
+-- In the course of these quanta nodes could be taken in k: at the opening, after its wishes, or at the admission with which a
+-- quantum began, after the wishes that were due then.
 abbrev pub WasOffered : Inputs → List Quantum → Kept → Type 0
 WasOffered i quanta k =
     (k ≡ wished i)

@@ -14,10 +14,12 @@ use Rattle.session_spec.specs.Work.{closed, state_admitted, state_armed, state_q
 abbrev pub IsWithin : Inputs → Kept → Type 0
 IsWithin i k = in_force i k.machine.placer k.shown ≤ (rules_of i).decl.cost
 
--- They are so in each state through which a next quantum goes: at each node's turn, where the search takes nodes; behind the admission,
--- the turns and the entries of the agenda; and at a due work when the machine is quiet, behind the samples, and behind the armings.
+-- They are within the limit in each state through which a next quantum goes: at each node's turn, where the search takes nodes;
+-- after the admission, the turns and the entries of the agenda; and at a due work when the machine is quiet, after the samples, and
+-- after the armings.
 pub record AreWithin (i : Inputs) (s : State) : Type 0 where
-  pub taking : (before behind : List ℕ) → take taken_at_once (waiting_of (with_wishes i s.kept.wishes s.kept).search.nodes) ≡ before ++ behind
+  pub taking : (before behind : List ℕ)
+      → take taken_at_once (waiting_of (with_wishes i s.kept.wishes s.kept).search.nodes) ≡ before ++ behind
       → IsWithin i (with_nodes i before (with_wishes i s.kept.wishes s.kept))
   pub admitted : IsWithin i (state_admitted i s).kept
   pub turned : (h n : ℕ) → IsWithin i (state_turned h n (state_admitted i s)).kept
@@ -26,7 +28,8 @@ pub record AreWithin (i : Inputs) (s : State) : Type 0 where
   pub sampled : (h n : ℕ) → IsWithin i (state_sampled i (state_quiet (handed_on i h n s))).kept
   pub armed : (h n : ℕ) → IsWithin i (state_armed (state_sampled i (state_quiet (handed_on i h n s)))).kept
 
--- They are so behind each quantum, through the next one, and behind the end. Where the observed cost is above its limit, no node is taken.
+-- They are within the limit after each quantum, through the next one, and after the end. Where the observed cost is above its
+-- limit, no node is taken.
 pub record CostsStay : Type 0 where
   pub works : (i : Inputs) (quanta : List Quantum) → IsWithin i (work i quanta).kept
   pub moments : (i : Inputs) (quanta : List Quantum) → AreWithin i (work i quanta)

@@ -31,7 +31,7 @@ is_armed p s = is_armed_state (state_of p s.instrument.n)
 abbrev pub measure_at : Inputs → List ℕ → Plan → List ℕ → ℕ → ℕ → ℕ → ℕ
 measure_at i owns plan harts a b c = measure (program_of i.image) plan harts a b c owns (start i.image i.settings.harts)
 
--- what the plan of a pair does
+-- what the plan of a pair measures
 abbrev pub measure_by : Result Plan PlanFault → Inputs → List ℕ → ℕ → ℕ → ℕ → List ℕ → ℕ
 measure_by (Err fault) i harts a b c owns = 0
 measure_by (Ok plan) i harts a b c owns = measure_at i owns plan harts a b c
@@ -47,9 +47,10 @@ sample_of i owns time s = record { from = s.from; to = time; sum = measured i ow
 abbrev pub recorded_with : Inputs → Placements → List ℕ → ℕ → List Shown → List (List Bin) → List (List Bin)
 recorded_with i p owns time [] rs = rs
 recorded_with i p owns time (s ∷ ss) [] = []
-recorded_with i p owns time (s ∷ ss) (r ∷ rs) = (if is_armed p s then r ++ sample_of i owns time s ∷ [] else r) ∷ recorded_with i p owns time ss rs
+recorded_with i p owns time (s ∷ ss) (r ∷ rs) =
+    (if is_armed p s then r ++ sample_of i owns time s ∷ [] else r) ∷ recorded_with i p owns time ss rs
 
--- the place behind an instrument's, where only those that were wished have places
+-- the place after an instrument's, where only those that were wished have places
 abbrev pub place_behind : Option ℕ → ℕ → ℕ
 place_behind None n = n + 1
 place_behind (Some node) n = n
@@ -65,7 +66,7 @@ latest_from n i p owns time (s ∷ ss) =
 abbrev pub sampled_to : Placements → ℕ → Shown → Shown
 sampled_to p time s = if is_armed p s then record s { from = time } else s
 
--- What patches cost in an interval of so many ticks: the turns that weren't ticks, per 1,000 ticks.
+-- What patches cost in an interval of a number of ticks: the turns that weren't ticks, per 1,000 ticks.
 abbrev pub observed_cost : ℕ → ℕ → ℕ
 observed_cost idle ticks = idle * 1000 / ticks
 
@@ -81,7 +82,7 @@ with_samples k = record k {
 
 -- ---- what is freed
 
--- Each Free is done that no unlinking of its point stands before.
+-- Each Free before which no unlinking of its point stands is done.
 unfoldable pub with_frees : Kept → Kept
 with_frees k = record k { machine = repeated (length k.machine.placer.book.agenda) Sweeps k.machine }
 
@@ -112,7 +113,7 @@ abbrev pub all_armed : ℕ → Instrumented → List Shown → List Shown
 all_armed time m [] = []
 all_armed time m (s ∷ ss) = armed_at time m s ∷ all_armed time (machine_armed m s) ss
 
--- Each instrument is armed that is ready.
+-- Each instrument that is ready is armed.
 unfoldable pub with_arms : Kept → Kept
 with_arms k = record k { machine = arm_all k.machine k.shown; shown = all_armed k.time k.machine k.shown }
 

@@ -31,7 +31,8 @@ pub record Inputs : Type 0 where
 
 -- these parts as inputs
 abbrev pub inputs_of : Image → Checked → Resources → List Proc → List Point → Settings → Inputs
-inputs_of image checked tree procs points settings = record { image = image; checked = checked; tree = tree; procs = procs; points = points; settings = settings }
+inputs_of image checked tree procs points settings =
+    record { image = image; checked = checked; tree = tree; procs = procs; points = points; settings = settings }
 
 -- ---- plans
 
@@ -39,12 +40,12 @@ inputs_of image checked tree procs points settings = record { image = image; che
 abbrev pub harts_of : Inputs → Focus → List ℕ
 harts_of i focus = (part i.tree focus).harts
 
--- no metric is wished by a number that none has
+-- a number that no metric has isn't wished
 abbrev pub plan_by : Option Metric → Inputs → Focus → Result Plan PlanFault
 plan_by None i focus = Err (TooManySites 0)
 plan_by (Some m) i focus = started_if i.settings.start (plan_of i.checked.constraints m focus i.tree i.procs i.points)
 
--- The plan of a metric at a focus, or why there is none. Cold it is without what is open.
+-- The plan of a metric at a focus, or why there is none. With a cold start it is without what is open.
 unfoldable pub planned : Inputs → ℕ → Focus → Result Plan PlanFault
 planned i metric focus = plan_by (slice_get i.checked.metrics metric) i focus
 
@@ -55,7 +56,7 @@ cause_of_plan (NoConstraint axis) = cause.NoConstraint axis
 cause_of_plan (TooManySites n) = cause.TooManySites n
 cause_of_plan (TooManyStmts at) = cause.TooManyStmts at
 
--- want of memory is none
+-- running out of memory is no cause
 abbrev pub cause_of_refusal : Refused → Option PickCause
 cause_of_refusal refused.NoMemory = None
 cause_of_refusal (refused.OverCost n) = Some (cause.OverCost n)
@@ -66,7 +67,7 @@ cause_of_refusal (refused.Unmovable at) = Some (cause.Unmovable at)
 
 -- ---- wishes
 
--- a wish stands before those of its tick
+-- a wish is put before those of its tick
 abbrev pub put_by_tick : CheckedWish → List CheckedWish → List CheckedWish
 put_by_tick w [] = w ∷ []
 put_by_tick w (x ∷ xs) = if nat_le w.at x.at then w ∷ x ∷ xs else x ∷ put_by_tick w xs

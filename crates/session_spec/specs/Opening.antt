@@ -14,7 +14,7 @@ abbrev pub with_all : Inputs → List CheckedWish → Kept → Kept
 with_all i [] k = k
 with_all i (w ∷ ws) k = with_all i ws (with_wish i w k)
 
--- behind the wishes at tick 0, in the order of the text
+-- after the wishes at tick 0, in the order of the text
 unfoldable pub wished : Inputs → Kept
 wished i = with_all i (first_wishes i) (first_kept i)
 
@@ -22,7 +22,7 @@ abbrev pub first_refused : List RefusedWish → Option RefusedWish
 first_refused [] = None
 first_refused (r ∷ rs) = Some r
 
--- The wish for which a session doesn't begin: the first of them that is refused.
+-- The wish by which a session doesn't begin: the first of them that is refused.
 abbrev pub bad_pick : Inputs → Option RefusedWish
 bad_pick i = first_refused (wished i).refused
 

@@ -24,7 +24,8 @@ pub record IsWholeRun (i : Inputs) (owns : List ℕ) (x : Shown) (r : List Bin) 
   pub samples : AreMeasured i owns plan x.focus 0 0 r (length owns)
   pub bins : AreMeasured i owns plan x.focus 0 0 (hist_of i.settings.bins r).bins (length owns)
 
--- each pair that was wished is so
+-- this holds for each pair that was wished
 abbrev pub AreWholeRuns : Inputs → State → Type 0
 AreWholeRuns i s =
-    (n : ℕ) (x : Shown) (samples : List Bin) → slice_get s.kept.shown n ≡ Some x → slice_get s.recorded n ≡ Some samples → x.node ≡ None → IsWholeRun i s.owns x samples
+    (n : ℕ) (x : Shown) (samples : List Bin)
+    → slice_get s.kept.shown n ≡ Some x → slice_get s.recorded n ≡ Some samples → x.node ≡ None → IsWholeRun i s.owns x samples

@@ -23,11 +23,11 @@ read_now i m s = reading_by (instrument_at m.placer s.instrument.n) (harts_of i 
 
 -- ---- what was read last of each instrument
 
--- one that was admitted was not read yet
+-- an instrument that was just admitted was not read yet
 abbrev pub lasts_with : List Shown → List ℕ → List ℕ
 lasts_with ss lasts = lasts ++ replicate (length ss - length lasts) 0
 
--- what is read last behind a due work
+-- what is read last after a due work
 abbrev pub last_now : Inputs → Instrumented → Shown → ℕ → ℕ
 last_now i m s last = if is_armed m.placer s then read_now i m s else last
 
@@ -36,11 +36,12 @@ lasts_now i m [] lasts = []
 lasts_now i m (s ∷ ss) [] = []
 lasts_now i m (s ∷ ss) (last ∷ lasts) = last_now i m s last ∷ lasts_now i m ss lasts
 
--- what is read last behind the armings of a due work: of an instrument that is armed, its readings then
+-- what is read last after the armings of a due work: of an instrument that is armed, its readings then
 abbrev pub lasts_armed : Inputs → Instrumented → List Shown → List ℕ → List ℕ
 lasts_armed i m [] lasts = []
 lasts_armed i m (s ∷ ss) [] = []
-lasts_armed i m (s ∷ ss) (last ∷ lasts) = (if is_ready m s then read_now i (machine_armed m s) s else last) ∷ lasts_armed i (machine_armed m s) ss lasts
+lasts_armed i m (s ∷ ss) (last ∷ lasts) =
+    (if is_ready m s then read_now i (machine_armed m s) s else last) ∷ lasts_armed i (machine_armed m s) ss lasts
 
 -- ---- samples as they are read
 
@@ -53,7 +54,8 @@ recorded_read i m time [] lasts rs = rs
 recorded_read i m time (s ∷ ss) [] rs = []
 recorded_read i m time (s ∷ ss) (last ∷ lasts) [] = []
 recorded_read i m time (s ∷ ss) (last ∷ lasts) (r ∷ rs) =
-    (if is_armed m.placer s then r ++ record { from = s.from; to = time; sum = sum_read i m s last } ∷ [] else r) ∷ recorded_read i m time ss lasts rs
+    (if is_armed m.placer s then r ++ record { from = s.from; to = time; sum = sum_read i m s last } ∷ [] else r)
+    ∷ recorded_read i m time ss lasts rs
 
 -- ---- ticks
 

@@ -22,9 +22,10 @@ latest_read n i m time (s ∷ ss) (last ∷ lasts) =
     (if is_none s.node && is_armed m.placer s then record { shown = n; from = s.from; to = time; sum = sum_read i m s last } ∷ [] else [])
     ++ latest_read (place_behind s.node n) i m time ss lasts
 
--- the samples of the nodes under test, where each hart had so many ticks when its last sample ended
+-- the samples of the nodes under test, where `marks` says how many ticks each hart had when its last sample ended
 abbrev pub node_read : Inputs → Instrumented → ℕ → List ℕ → ℕ → Shown → ℕ → NodeSample
-node_read i m time marks n s last = record { node = n; from = s.from; value = sum_read i m s last; ticks = ticks_between (harts_of i s.focus) marks (ticks_of m) }
+node_read i m time marks n s last =
+    record { node = n; from = s.from; value = sum_read i m s last; ticks = ticks_between (harts_of i s.focus) marks (ticks_of m) }
 
 abbrev pub node_read_by : Option ℕ → Inputs → Instrumented → ℕ → List ℕ → Shown → ℕ → List NodeSample
 node_read_by None i m time marks s last = []
@@ -35,9 +36,9 @@ nodes_read i m time marks [] lasts = []
 nodes_read i m time marks (s ∷ ss) [] = []
 nodes_read i m time marks (s ∷ ss) (last ∷ lasts) = node_read_by s.node i m time marks s last ++ nodes_read i m time marks ss lasts
 
--- ---- what they have to do with the state
+-- ---- how they follow from the state
 
--- so many of these ticks were hart h's
+-- how many of these ticks were hart h's
 abbrev pub ticks_by : List ℕ → ℕ → ℕ
 ticks_by owns h = length (filter (λ g. g == h) owns)
 

@@ -1,4 +1,4 @@
--- What a session's state is to the unpatched program.
+-- How a session's state follows from the unpatched program.
 use Rattle.std.specs.Prelude.{◌≡◌, List, length}
 use Rattle.rv_exec.specs.Run.{run, IsLegal}
 use Rattle.machine.specs.Cores.{start_core}
@@ -10,8 +10,8 @@ use Rattle.session_spec.specs.Inputs.{Inputs}
 use Rattle.session_spec.specs.States.{State}
 
 -- Events, each of which could happen when it came, lead from the start of the image to the session's machine, in which no hart has
--- more ticks than the budget. Those that are ticks are a legal run of the unpatched program, and the machine is that program behind
--- this run. The time is how many they are.
+-- more ticks than the budget. Those that are ticks are a legal run of the unpatched program, and the machine is that program after
+-- this run. The time is the number of these ticks.
 pub record IsRun (i : Inputs) (s : State) : Type 0 where
   pub events : List Event
   pub legal : Legal events (start_core i.image i.settings.harts i.settings.budget)

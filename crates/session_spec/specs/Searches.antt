@@ -30,7 +30,7 @@ rules_of i = rules_by i.checked.search i
 
 -- ---- metrics
 
--- the number of the first metric of this name, from a number on; where none has it, the number behind the last
+-- the number of the first metric of this name, from a number on; where none has it, the number after the last
 abbrev pub number_from : ℕ → List ℕ → List Metric → ℕ
 number_from n name [] = n
 number_from n name (m ∷ ms) = if bytes_eq name m.name then n else number_from (n + 1) name ms
@@ -50,7 +50,7 @@ bar_of_plan (NoConstraint axis) = bar.NoConstraint axis
 bar_of_plan (TooManySites n) = bar.TooManySites n
 bar_of_plan (TooManyStmts at) = bar.TooManyStmts at
 
--- want of memory is no cause, nor is a number of instruments that is reached: such a node isn't taken
+-- running out of memory is no cause, nor is the limit of instruments: where it is reached the node isn't taken
 abbrev pub bar_of_refusal : Refused → Option BarCause
 bar_of_refusal refused.NoMemory = None
 bar_of_refusal (refused.OverCost n) = Some (bar.OverCost n)

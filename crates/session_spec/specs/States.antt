@@ -10,10 +10,10 @@ use Rattle.session_spec.specs.declared.data.Shown.{Shown}
 use Rattle.session_spec.specs.Inputs.{Inputs, later_wishes}
 use Rattle.session_spec.specs.Searches.{rules_of}
 
--- What a session goes on from: the machine with its instruments, the wishes whose tick is to come, those that were refused, all
--- instruments that show or showed something in the order of their admission, the search, the time, at which time work is due next,
--- whether it was done since the last admission, how many samples were taken, when the last one was, how many turns since then
--- weren't ticks, and what the patches cost in the interval that it ended.
+-- What a session goes on from: the machine with its instruments, the wishes whose ticks are to come, those that were refused, all
+-- instruments that show or showed something in the order of their admission, the search, the time, the time at which work is due
+-- next, whether work was done since the last admission, how many samples were taken, when the last one was taken, how many turns
+-- since then weren't ticks, and what the patches cost in the interval that it ended.
 pub record Kept : Type 0 where
   pub machine : Instrumented
   pub wishes : List CheckedWish

@@ -46,14 +46,21 @@ in_force i p (s ∷ ss) = (if counts p s then words_of i s else 0) + in_force i 
 
 -- ---- a node that waits is taken
 
--- by a cause it can't be tested
+-- by this cause it can't be tested
 abbrev pub barred : Option BarCause → ℕ → Kept → Kept
 barred None n k = k
 barred (Some cause) n k = record k { search = with_state n (Barred cause) k.search }
 
 -- the instrument of the next number tests it
 abbrev pub tests_next : Inputs → ℕ → Node → Kept → Shown
-tests_next i n node k = record { instrument = record { n = k.machine.placer.count }; node = Some n; metric = metric_of i node; focus = node.focus; armed = None; from = 0 }
+tests_next i n node k = record {
+  instrument = record { n = k.machine.placer.count };
+  node = Some n;
+  metric = metric_of i node;
+  focus = node.focus;
+  armed = None;
+  from = 0;
+}
 
 abbrev pub tested : Inputs → ℕ → Node → Plan → Kept → Kept
 tested i n node plan k = record k {
@@ -66,7 +73,7 @@ abbrev pub with_test : Result Placements Refused → Inputs → ℕ → Node →
 with_test (Err refused) i n node plan k = barred (bar_of_refusal refused) n k
 with_test (Ok placer) i n node plan k = tested i n node plan k
 
--- It keeps waiting where its cost isn't above the limit, but is together with the costs in force.
+-- It keeps waiting where its cost isn't above the limit, but its cost together with the costs in force is.
 abbrev pub must_wait : ℕ → ℕ → ℕ → Bool
 must_wait limit words force = nat_le words limit && nat_lt limit (force + words)
 
@@ -99,7 +106,7 @@ abbrev pub with_nodes : Inputs → List ℕ → Kept → Kept
 with_nodes i [] k = k
 with_nodes i (n ∷ ns) k = if is_full k.machine.placer then k else with_nodes i ns (with_node i n k)
 
--- so many are taken at once
+-- how many are taken at once, at most
 abbrev pub taken_at_once : ℕ
 taken_at_once = 64
 

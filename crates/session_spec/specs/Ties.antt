@@ -20,7 +20,7 @@ opening_of i = record { image = i.image; harts = i.settings.harts; budget = i.se
 
 -- ---- an instrument that is or was shown
 
--- It was armed in the course of these acts, and read at a moment since at which no hart was inside a trampoline. What was read last
+-- It was armed in the course of these acts, and read at a later moment at which no hart was inside a trampoline. What was read last
 -- is its readings then.
 pub record IsRead (o : Opening) (acts : List Act) (harts : List ℕ) (s : Shown) (last : ℕ) : Type 0 where
   pub course : Course
@@ -38,7 +38,8 @@ pub record IsShown (i : Inputs) (acts : List Act) (s : Shown) (last : ℕ) : Typ
   pub good : IsGood i plan
   pub listed : slice_get (scene_at (opening_of i) acts).plans s.instrument.n ≡ Some plan
   pub number : s.instrument.n < (scene_at (opening_of i) acts).placer.count
-  pub armed : (x : Instrument) → In x (scene_at (opening_of i) acts).placer.instruments → x.no ≡ s.instrument.n → x.state ≡ Armed → IsSome s.armed
+  pub armed : (x : Instrument)
+      → In x (scene_at (opening_of i) acts).placer.instruments → x.no ≡ s.instrument.n → x.state ≡ Armed → IsSome s.armed
   pub read : IsSome s.armed → IsRead (opening_of i) acts (harts_of i s.focus) s last
 
 abbrev pub AreShown : Inputs → List Act → List Shown → List ℕ → Type 0

@@ -50,18 +50,20 @@ pub record IsTested (i : Inputs) (s : State) (k : ℕ) (n : Node) : Type 0 where
 abbrev pub IsJudged : Inputs → State → ℕ → Node → Type 0
 IsJudged i s k n = IsVerdict i s.owns n × IsTested i s k n
 
--- each node that was judged is
+-- this holds for each node that was judged
 abbrev pub AreJudged : Inputs → State → Type 0
-AreJudged i s = (k : ℕ) (n : Node) → slice_get s.kept.search.nodes k ≡ Some n → (n.state ≡ Confirmed) ⊎ (n.state ≡ Rejected) → IsJudged i s k n
+AreJudged i s =
+    (k : ℕ) (n : Node) → slice_get s.kept.search.nodes k ≡ Some n → (n.state ≡ Confirmed) ⊎ (n.state ≡ Rejected) → IsJudged i s k n
 
--- ---- each node, behind the end
+-- ---- each node, after the end
 
 -- Node k wasn't judged when the search ended: it was barred when its turn came in the course of these quanta, or its phase or the search
 -- ended before its window did.
 abbrev pub IsOpenEnd : Inputs → List Quantum → ℕ → Node → Type 0
 IsOpenEnd i quanta k n =
-    ((cause : BarCause) × (n.state ≡ Barred cause) × WasBarred i quanta k n cause) ⊎ ((n.state ≡ Unfinished n.seen) × (n.seen < (rules_of i).decl.window))
+    ((cause : BarCause) × (n.state ≡ Barred cause) × WasBarred i quanta k n cause)
+    ⊎ ((n.state ≡ Unfinished n.seen) × (n.seen < (rules_of i).decl.window))
 
--- what a session that is closed behind these quanta tells of each node
+-- what a session that is closed after these quanta tells of each node
 abbrev pub AreEnded : Inputs → List Quantum → State → Type 0
 AreEnded i quanta s = (k : ℕ) (n : Node) → slice_get s.kept.search.nodes k ≡ Some n → IsJudged i s k n ⊎ IsOpenEnd i quanta k n

@@ -1,4 +1,4 @@
--- The turns of a quantum, and what is done of the agenda behind them.
+-- The turns of a quantum, and what is done of the agenda after them.
 use Rattle.std.specs.Prelude.{ℕ, ◌+◌, ◌-◌, List, length}
 use Rattle.machine.specs.Events.{Event}
 use Rattle.machine.specs.Replays.{owns}
@@ -15,7 +15,7 @@ with_turns turns k = record k {
   idle = k.idle + (length turns - length (owns turns k.machine.core));
 }
 
--- the hart takes so many turns, or fewer where it can take no more
+-- the hart takes a number of turns, or fewer where it can take no more
 unfoldable pub with_hart : ℕ → ℕ → Kept → Kept
 with_hart h n k = with_turns (quantum_turns n h k.machine.core) k
 

@@ -20,7 +20,8 @@ ticks_in owns harts b c = length (filter (λ h. list_any (λ x. x == h) harts) (
 
 -- the sample of the node that an instrument tests, from its last one, or its arming, to now
 abbrev pub node_sample : Inputs → List ℕ → ℕ → ℕ → Shown → NodeSample
-node_sample i owns time n s = record { node = n; from = s.from; value = measured i owns s time; ticks = ticks_in owns (harts_of i s.focus) s.from time }
+node_sample i owns time n s =
+    record { node = n; from = s.from; value = measured i owns s time; ticks = ticks_in owns (harts_of i s.focus) s.from time }
 
 abbrev pub node_samples_by : Option ℕ → Inputs → Placements → List ℕ → ℕ → Shown → List NodeSample
 node_samples_by None i p owns time s = []
@@ -51,7 +52,8 @@ without_tests (n ∷ ns) k = without_tests ns (without_tester (tester_of k.machi
 
 -- The search's step with these samples. The instruments of the nodes whose test it ended are dropped.
 unfoldable pub with_verdicts : List NodeSample → Kept → Kept
-with_verdicts samples k = without_tests (search_step k.time samples k.search).drops (record k { search = search_step k.time samples k.search })
+with_verdicts samples k =
+    without_tests (search_step k.time samples k.search).drops (record k { search = search_step k.time samples k.search })
 
 -- At the end of the search no node waits or is under test any more.
 unfoldable pub with_search_end : Kept → Kept

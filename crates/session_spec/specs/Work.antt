@@ -1,4 +1,4 @@
--- A quantum, and the state of a session behind a list of quanta.
+-- A quantum, and the state of a session after a list of quanta.
 use Rattle.std.specs.Prelude.{◌≡◌, ℕ, ◌-◌, ◌<◌, ◌≤◌, ◌⊎◌, nat_le, nat_lt, if◌then◌else◌, Bool, false, IsTrue, List, [], ◌∷◌, ◌++◌, length, map, replicate}
 use Rattle.fold_hist.specs.declared.bin.Bin.{Bin}
 use Rattle.pn_types.specs.declared.limits.TheConstants.{MAX_QUANTA, MAX_QUANTUM, MAX_WORKERS}
@@ -82,8 +82,8 @@ state_done i s = state_next i.settings.width (state_judged (tests_now i s) (stat
 abbrev pub state_worked : Inputs → State → State
 state_worked i s = if is_due s.kept then state_done i (state_quiet s) else s
 
--- Behind a quantum of so many turns of hart h: an admission, if work was done since the last; the turns; up to eight entries of
--- the agenda; and the due work, if it is time.
+-- After a quantum of at most n turns of hart h: an admission, if work was done since the last; the turns; up to eight entries
+-- of the agenda; and the due work, if it is time.
 unfoldable pub tend : Inputs → ℕ → ℕ → State → State
 tend i h n s = state_worked i (state_handed (state_turned h n (state_admitted i s)))
 
@@ -96,17 +96,18 @@ abbrev pub work_from : Inputs → List Quantum → State → State
 work_from i [] s = s
 work_from i (q ∷ quanta) s = work_from i quanta (tend i q.hart q.turns s)
 
--- The state of a session behind these quanta.
+-- The state of a session after these quanta.
 unfoldable pub work : Inputs → List Quantum → State
 work i quanta = work_from i quanta (first_state i)
 
 -- ---- which quanta there may be
 
--- the entry of a quantum of a hart that a worker asks for: it owns as many ticks as its turns have
+-- the entry of a quantum of a hart that a worker asks for: its ticks are those of its turns
 abbrev pub quantum_of : Inputs → ℕ → ℕ → ℕ → Kept → Quantum
-quantum_of i worker h n k = record { worker = worker; hart = h; turns = n; owns = length (owns_taken h n (with_admission i k).machine.core) }
+quantum_of i worker h n k =
+    record { worker = worker; hart = h; turns = n; owns = length (owns_taken h n (with_admission i k).machine.core) }
 
--- the entry is in range, its hart is runnable, and it owns what it must
+-- the entry is in range, its hart is runnable, and it has the ticks of its turns
 pub record IsAllowed (i : Inputs) (k : Kept) (q : Quantum) : Type 0 where
   pub worker : q.worker < MAX_WORKERS
   pub hart : q.hart < i.settings.harts
@@ -144,4 +145,5 @@ state_ended s = record s { kept = with_search_end s.kept }
 -- The closed form: the machine settles, and where time passed since the last sample, all that is armed is sampled once more, and
 -- the search judges. Then the search ends.
 unfoldable pub closed : Inputs → State → State
-closed i s = state_ended (if nat_lt (state_quiet s).kept.last (state_quiet s).kept.time then state_last i (state_quiet s) else state_quiet s)
+closed i s =
+    state_ended (if nat_lt (state_quiet s).kept.last (state_quiet s).kept.time then state_last i (state_quiet s) else state_quiet s)

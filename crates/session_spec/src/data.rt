@@ -1,7 +1,9 @@
+//! What a session keeps of what it shows, and the samples that it tells of.
+
 use instrument::InstrumentNo;
 use pn_types::{Focus, PickCause};
 
-/// An instrument that shows a metric at a focus, or did: to the user, or to the search, which tests a node by it.
+/// An instrument that shows or showed a metric at a focus: to the user, or to the search, which tests a node by it.
 #[derive(Drop)]
 pub struct Shown {
     /// The instrument.
@@ -21,7 +23,7 @@ pub struct Shown {
 /// A wish that was refused.
 #[derive(Drop)]
 pub struct RefusedWish {
-    /// The metric was to be shown, and not dropped.
+    /// Whether the metric was to be shown, and not dropped.
     pub show: bool,
     /// The metric's number, from 0.
     pub metric: u32,

@@ -5,7 +5,7 @@ ghost use Rattle.session_spec.specs.Laws.{BarsTold, BinsTold, FeedTold, OpensAtZ
 
 // ---- The run, and what is measured of it.
 
-/// The machine came about by events of which each could happen, and is the unpatched program's behind a legal run of it. No hart has
+/// The machine came about by events of which each could happen, and is the unpatched program's after a legal run of it. No hart has
 /// more ticks than the budget.
 pub fn runs_told()
     ensures { RunsTold }
@@ -22,12 +22,13 @@ pub fn samples_read()
     ensures { SamplesRead }
 {}
 
-/// What was told of samples when they were taken is, of each wished pair, what was recorded for it, and of no other place.
+/// What was told of samples when they were taken is, for each wished pair, what was recorded for it, and nothing was told of any
+/// other place.
 pub fn feed_told()
     ensures { FeedTold }
 {}
 
-/// What was wished for the opening, and wasn't dropped there, is armed at time 0, and stays so.
+/// What was wished for the opening, and wasn't dropped there, is armed at time 0, and stays armed.
 pub fn opens_at_zero()
     ensures { OpensAtZero }
 {}
@@ -40,9 +41,9 @@ pub fn printed_told()
 
 // ---- The search.
 
-/// The verdict on each node is come to by the samples of an instrument of its own: from its arming on, as many as the window has. It is
-/// that of the program's own run from the arming to the last of them, which comes later. Behind the end each node has its verdict, or was
-/// barred when its turn came, or its phase or the search ended before its window did.
+/// Each node's verdict is that of the samples of an instrument of its own: from its arming on, as many as the window has. It is the
+/// verdict on the program's own run from the arming to the last of them, which comes later. After the end each node has its
+/// verdict, or was barred when its turn came, or its phase or the search ended before its window did.
 pub fn verdicts_told()
     ensures { VerdictsTold }
 {}

@@ -3,12 +3,12 @@ use Rattle.std.specs.Prelude.{ℕ, zero, suc, ◌+◌, ◌*◌, List, [], ◌∷
 use Rattle.std.specs.Fmt.{decimal}
 use Rattle.std.specs.List.{concat}
 
--- the wish for the time of procedure number i: one more for every 2000 ticks
+-- the wish for the time of procedure number i: one more every 2000 ticks
 unfoldable pub wish : ℕ → List ℕ
 wish i = concat (
     codes "at " ∷ decimal (2000 * (i + 1)) ∷ codes " show cpu_inclusive /Code/program/w" ∷ decimal i ∷ codes ";\n" ∷ [])
 
--- the wishes for so many procedures, from number i on
+-- the wishes for a number of procedures, from number i on
 abbrev pub wishes : ℕ → ℕ → List ℕ
 wishes zero i = []
 wishes (suc left) i = wish i ++ wishes left (i + 1)

@@ -25,7 +25,7 @@ after_procedure x = generated (generated x)
 
 -- ---- the procedures that are called
 
--- what a procedure of this kind does behind its loop: 1 takes the lock and gives it back, 2 writes a byte, and 0 does nothing
+-- what a procedure of this kind does after its loop: 1 takes the lock and gives it back, 2 writes a byte, and 0 does nothing
 unfoldable pub ending : ℕ → List ℕ
 ending kind =
     if kind == 1 then codes "la a0, lock_a\ncall lock_acquire\nla a0, lock_a\ncall lock_release\n"
@@ -39,7 +39,7 @@ procedure i length ending = concat (
     ∷ codes "\nloop" ∷ decimal i ∷ codes ":\naddi t1, t1, -1\nbnez t1, loop" ∷ decimal i ∷ codes "\n"
     ∷ ending ∷ codes "ld ra, 0(sp)\naddi sp, sp, 16\nret\n.end\n" ∷ [])
 
--- so many procedures, from number i on, by the state before their draws
+-- a number of procedures, from number i on, by the state before their draws
 abbrev pub procedures : ℕ → ℕ → ℕ → List ℕ
 procedures zero i x = []
 procedures (suc left) i x = procedure i (loop_length x) (ending (kind x)) ++ procedures left (i + 1) (after_procedure x)
@@ -50,7 +50,7 @@ procedures (suc left) i x = procedure i (loop_length x) (ending (kind x)) ++ pro
 unfoldable pub call : ℕ → List ℕ
 call i = concat (codes "call w" ∷ decimal i ∷ codes "\n" ∷ [])
 
--- the calls of so many procedures, from number i on
+-- the calls of a number of procedures, from number i on
 abbrev pub calls : ℕ → ℕ → List ℕ
 calls zero i = []
 calls (suc left) i = call i ++ calls left (i + 1)
@@ -61,8 +61,8 @@ main_procedure n = concat (
     codes ".proc main\nli s1, 20\nagain:\n" ∷ calls n 0
     ∷ codes "addi s1, s1, -1\nbeqz s1, fin\nj again\nfin:\nli a0, 0\nli a7, 93\necall\n.end\n" ∷ [])
 
--- The program of n procedures, drawn from a seed. Behind the main procedure stand those that take a lock, give it back and
--- write, and behind all procedures the lock, which nobody has.
+-- The program of n procedures, drawn from a seed. After the main procedure come those that take a lock, give it back and write, and
+-- after all procedures the lock, which nobody has.
 unfoldable pub program_text : ℕ → ℕ → List ℕ
 program_text n seed = concat (
     main_procedure n

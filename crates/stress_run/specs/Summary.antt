@@ -37,11 +37,13 @@ nodes_of (Some search) = search.nodes
 -- how many nodes there are, and what came of them
 abbrev pub nodes_text : List NodePart → List ℕ
 nodes_text nodes =
-    codes " nodes " ++ decimal (length nodes) ++ codes " true " ++ decimal (count_of is_confirmed nodes) ++ codes " false " ++ decimal (count_of is_rejected nodes)
+    codes " nodes " ++ decimal (length nodes)
+    ++ codes " true " ++ decimal (count_of is_confirmed nodes) ++ codes " false " ++ decimal (count_of is_rejected nodes)
     ++ codes " barred " ++ decimal (count_of is_barred nodes) ++ codes " waiting " ++ decimal (count_of is_waiting nodes) ++ codes "\n"
 
 -- The line: how many procedures were drawn, the ticks of all harts together, how many samples were taken, and the nodes.
 abbrev pub summary_text : ℕ → ReportParts → List ℕ
 summary_text procs p =
-    codes "stress " ++ decimal procs ++ codes " ticks " ++ decimal (sum_by (λ part. part.ticks) p.harts) ++ codes " samples " ++ decimal p.samples
+    codes "stress " ++ decimal procs
+    ++ codes " ticks " ++ decimal (sum_by (λ part. part.ticks) p.harts) ++ codes " samples " ++ decimal p.samples
     ++ nodes_text (nodes_of p.search)

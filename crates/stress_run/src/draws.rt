@@ -1,3 +1,5 @@
+//! Numbers that are drawn from a seed.
+
 ghost use Rattle.std.specs.Prelude.{◌≡◌, ◌≤◌, ◌<◌};
 ghost use Rattle.stress_run.specs.Program.{drawn};
 ghost use Rattle.turn_order.specs.Orders.{generated};
@@ -5,7 +7,7 @@ ghost use Rattle.turn_order.specs.Orders.{generated};
 use std::marker::Model;
 use turn_order::generated;
 
-/// The numbers that are drawn from a seed, one behind another. Contracts see the generator's state.
+/// The numbers that are drawn from a seed, one after another. Contracts see the generator's state.
 #[derive(Drop)]
 pub(crate) struct Draws {
     state: u64,
@@ -20,7 +22,7 @@ impl Model for Draws {
 }
 
 impl Draws {
-    /// Nothing is drawn yet.
+    /// Makes the numbers of a seed, of which none is drawn yet.
     pub(crate) fn of_seed(seed: u32) -> Draws
         ensures { result ≡ seed }
     {
@@ -29,7 +31,7 @@ impl Draws {
         }
     }
 
-    /// The next number, which is below the bound.
+    /// Draws the next number, which is below the bound.
     #[tactic(auto, unfolding(crate::specs::Program::drawn))]
     pub(crate) fn draw(&mut self, below: u64) -> u64
         requires { 1 ≤ below }

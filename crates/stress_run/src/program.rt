@@ -1,3 +1,5 @@
+//! The program of a stress run.
+
 ghost use Rattle.std.specs.Prelude.{◌≡◌, IfOk, string_bytes};
 ghost use Rattle.stress_run.specs.Program.{call, calls, ending, main_procedure, procedure, procedures, program_text};
 
@@ -5,7 +7,7 @@ use crate::draws::Draws;
 use pn_types::NoMemory;
 use std::alloc::Global;
 
-/// The call of a procedure.
+/// Returns the call of a procedure.
 #[tactic(auto, unfolding(crate::specs::Program::call))]
 fn call(alloc: Global, number: u32) -> Result<String, NoMemory>
     ensures { IfOk result (λ text. string_bytes text ≡ call number) }
@@ -13,7 +15,7 @@ fn call(alloc: Global, number: u32) -> Result<String, NoMemory>
     Ok(format!(in alloc; "call w{number}\n")?)
 }
 
-/// The calls of all procedures.
+/// Returns the calls of all procedures.
 #[tactic(auto, using(crate::proofs::Texts::next_call, std::proofs::Common::append_assoc))]
 fn calls(alloc: Global, procs: u32) -> Result<String, NoMemory>
     ensures { IfOk result (λ text. string_bytes text ≡ calls procs 0) }
@@ -25,7 +27,7 @@ fn calls(alloc: Global, procs: u32) -> Result<String, NoMemory>
     Ok(text)
 }
 
-/// The procedure that calls the others.
+/// Returns the procedure that calls the others.
 #[tactic(auto, unfolding(crate::specs::Program::main_procedure))]
 fn main_procedure(alloc: Global, procs: u32) -> Result<String, NoMemory>
     ensures { IfOk result (λ text. string_bytes text ≡ main_procedure procs) }
@@ -48,7 +50,7 @@ fn main_procedure(alloc: Global, procs: u32) -> Result<String, NoMemory>
     Ok(text)
 }
 
-/// What a procedure of this kind does behind its loop.
+/// Returns what a procedure of this kind does after its loop.
 #[tactic(auto, unfolding(crate::specs::Program::ending))]
 fn ending(kind: u64) -> &'static str
     ensures { result.now ≡ ending kind }
@@ -60,7 +62,7 @@ fn ending(kind: u64) -> &'static str
     }
 }
 
-/// A procedure with a loop of this length and this ending.
+/// Returns a procedure with a loop of this length and this ending.
 #[tactic(auto, unfolding(crate::specs::Program::procedure))]
 fn procedure(alloc: Global, number: u32, length: u64, ending: &str) -> Result<String, NoMemory>
     ensures { IfOk result (λ text. string_bytes text ≡ procedure number length ending.now) }
@@ -82,7 +84,7 @@ fn procedure(alloc: Global, number: u32, length: u64, ending: &str) -> Result<St
     Ok(text)
 }
 
-/// All procedures that are called. The length of each one's loop is drawn, and then its kind.
+/// Returns all procedures that are called. The length of each one's loop is drawn, and then its kind.
 #[tactic(auto, using(crate::proofs::Texts::next_procedure, std::proofs::Common::append_assoc))]
 fn procedures(alloc: Global, procs: u32, seed: u32) -> Result<String, NoMemory>
     ensures { IfOk result (λ text. string_bytes text ≡ procedures procs 0 seed) }
@@ -97,13 +99,13 @@ fn procedures(alloc: Global, procs: u32, seed: u32) -> Result<String, NoMemory>
     Ok(text)
 }
 
-/// The program of a stress run, as the assembler's text: `main` calls the procedures `w0`, `w1` and so on, as many as
-/// `procs` says, 20 times over. Each goes 1 to 50 times round a loop, and then does nothing, takes the lock `lock_a` and
-/// gives it back, or writes a byte, as is drawn from the seed.
+/// Returns the program of a stress run, as the assembler's text: `main` calls the procedures `w0`, `w1` and so on, `procs` of them,
+/// 20 times over. Each of these runs a loop 1 to 50 times, and then does nothing, takes the lock `lock_a` and gives it back, or
+/// writes a byte, as is drawn from the seed.
 ///
 /// # Errors
 ///
-/// `NoMemory` where memory is wanting.
+/// `NoMemory` where memory runs out.
 pub fn program_text(alloc: Global, procs: u32, seed: u32) -> Result<Vec<u8>, NoMemory>
     ensures { IfOk result (λ text. text.items ≡ program_text procs seed) }
 {

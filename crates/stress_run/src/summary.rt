@@ -1,3 +1,5 @@
+//! The line that sums up a stress run.
+
 ghost use Rattle.std.specs.Prelude.{◌≡◌, ◌++◌, ◌<◌, ◌^◌, IfOk, OnOk, sum_by};
 ghost use Rattle.stress_run.specs.Summary.{count_of, is_barred, is_confirmed, is_rejected, is_waiting, nodes_of, nodes_text, summary_text};
 
@@ -6,7 +8,7 @@ use report::{HartPart, NodePart, ReportParts, SearchPart};
 use std::alloc::Global;
 use w3_search::NodeState;
 
-/// The ticks of all harts together.
+/// Returns the ticks of all harts together.
 fn ticks(harts: &[HartPart]) -> u64
     requires { sum_by (λ part. part.ticks) harts.now < 2 ^ 64 }
     ensures { result ≡ sum_by (λ part. part.ticks) harts.now }
@@ -55,7 +57,7 @@ fn waiting(nodes: &[NodePart]) -> usize
         .count()
 }
 
-/// The nodes of a search, if there is one.
+/// Returns the nodes of a search, if there is one.
 fn nodes(search: &Option<SearchPart>) -> &[NodePart]
     ensures { result.now ≡ nodes_of search.now }
 {
@@ -65,7 +67,7 @@ fn nodes(search: &Option<SearchPart>) -> &[NodePart]
     }
 }
 
-/// How many nodes there are, and what came of them.
+/// Appends how many nodes there are, and what came of them.
 fn add_nodes(alloc: Global, out: &mut Vec<u8>, nodes: &[NodePart]) -> Result<(), NoMemory>
     ensures { OnOk result (out.new.items ≡ out.old.items ++ nodes_text nodes.now) }
 {
@@ -80,11 +82,11 @@ fn add_nodes(alloc: Global, out: &mut Vec<u8>, nodes: &[NodePart]) -> Result<(),
     out.extend_from_slice(others.as_bytes())
 }
 
-/// The line that sums up a stress run with so many procedures. The harts' ticks together are below 2^64.
+/// Returns the line that sums up a stress run with `procs` procedures. The harts' ticks together are below 2^64.
 ///
 /// # Errors
 ///
-/// `NoMemory` where memory is wanting.
+/// `NoMemory` where memory runs out.
 pub fn summary_text(alloc: Global, procs: u32, parts: &ReportParts) -> Result<Vec<u8>, NoMemory>
     requires { sum_by (λ part. part.ticks) parts.now.harts < 2 ^ 64 }
     ensures { IfOk result (λ text. text.items ≡ summary_text procs parts.now) }

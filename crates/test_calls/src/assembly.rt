@@ -7,7 +7,7 @@ use pn_types::Image;
 use rv_asm::{AsmError, AsmFault, assemble};
 use std::alloc::Global;
 
-/// Whether the first segment stands at 0x10000 and has these bytes.
+/// Returns whether the first segment stands at 0x10000 and has these bytes.
 fn begins_with(image: &Image, bytes: &[u8]) -> bool {
     match image.segments.as_slice() {
         [segment, ..] => segment.at == 0x10000 && segment.bytes.as_slice() == bytes,
@@ -15,7 +15,7 @@ fn begins_with(image: &Image, bytes: &[u8]) -> bool {
     }
 }
 
-/// Whether the text is that of a program with these bytes.
+/// Returns whether the text is that of a program with these bytes.
 fn has_text(alloc: Global, text: &[u8], bytes: &[u8]) -> bool
     requires { length text.now < 2 ^ 31 }
 {
@@ -54,7 +54,7 @@ const FAULTY: [(&[u8], AsmFault); 10] = [
     ),
 ];
 
-/// The first text that has another fault than the one beside it, or none.
+/// Returns the first text that has another fault than the one beside it, or none.
 fn first_other<'a>(alloc: Global, rows: &[(&'a [u8], AsmFault)]) -> Option<&'a [u8]> {
     for (text, fault) in rows {
         if text.len() > 100 || assemble(alloc, text).err() != Some(AsmError::Fault(*fault)) {
@@ -69,8 +69,8 @@ fn names_the_first_faulty_line(rt: HostRuntime) {
     compare(&rt, first_other(rt.alloc(), &FAULTY), None);
 }
 
-/// Whether the data, the name of the object, its module and the name of the procedure are as the text says, and the procedure's size;
-/// none where it is refused or has other segments or symbols.
+/// Returns whether the data, the name of the object, its module and the name of the procedure are as the text says, and the
+/// procedure's size; none where it is refused or has other segments or symbols.
 fn place_data_and_symbols(alloc: Global) -> Option<([bool; 4], u64)> {
     let text =
         b"_start: .proc f\nret\n.end\n.module m\n.data\n.object o 2\n.half -1\n.align 2\n.ascii \"a\\n#\"";

@@ -1,4 +1,4 @@
-//! How a test compares.
+//! Compares what was found with what is due.
 
 use std::fmt::Debug;
 use std::process::Abort;

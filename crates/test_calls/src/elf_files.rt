@@ -8,7 +8,7 @@ use elf_form::{
 use elf_load::load;
 use std::alloc::Global;
 
-/// A file header, a program header, a section header and a symbol, one behind the other.
+/// A file header, a program header, a section header and a symbol, one after the other.
 const PARTS: &[u8; 208] = b"\x7fELF\x02\x01\x01\0\0\0\0\0\0\0\0\0\
 \x02\0\xf3\0\x01\0\0\0\0\0\x01\0\0\0\0\0\x40\0\0\0\0\0\0\0\
 \x78\0\0\0\0\0\0\0\0\0\0\0\x40\0\x38\0\x01\0\x40\0\x01\0\0\0\

@@ -1,3 +1,5 @@
+//! Words that a hart executes.
+
 use crate::comparison::compare;
 use crate::images::image;
 use pn_types::{HartNo, NoMemory};
@@ -18,8 +20,8 @@ const WORDS: [u32; 5] = [
     0x18a5_b62f,
 ];
 
-/// What the words lead to, one behind the other; whether the hart has the reservation of the data behind each of the first two, and
-/// behind the last, which finds it, but an address that is no multiple of 8; and the registers that the first four name first.
+/// Returns what the words lead to, one after the other; whether the hart has the reservation of the data after the first, after the
+/// second, and after the last, which refuses an address that is no multiple of 8; and the registers that the first four name first.
 fn execute_words(alloc: Global) -> Result<([Next; 5], [bool; 3], [u64; 4]), NoMemory> {
     let hart = HartNo::first();
     let mut shared = Shared {
@@ -64,8 +66,8 @@ fn executes_words_in_turn(rt: HostRuntime) {
     );
 }
 
-/// Whether the hart goes on behind an `ecall` that writes three bytes of the data, its pc and its stop, what it answers, and
-/// whether these are the output.
+/// Returns whether the hart goes on after an `ecall` that writes three bytes of the data, its pc and its stop, what the call
+/// returns, and whether these bytes are the output.
 fn write_three(alloc: Global) -> Result<(bool, u64, Option<Cause>, u64, bool), NoMemory> {
     let mut shared = Shared {
         mem: Mem::new(alloc, &image(alloc)?, 1)?,

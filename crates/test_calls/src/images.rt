@@ -9,7 +9,11 @@ use std::alloc::Global;
 /// `li a7, 93`, `li a0, 7` and `ecall`: exit with status 7.
 const EXIT: &[u8; 12] = b"\x93\x08\xd0\x05\x13\x05\x70\0\x73\0\0\0";
 
-/// Text of 12 bytes that ends the program with status 7, 4 zeros behind it, and data that touches the zeros.
+/// Returns an image: text of 12 bytes that ends the program with status 7, 4 zeros after it, and data that touches the zeros.
+///
+/// # Errors
+///
+/// `NoMemory` where memory runs out.
 pub fn image(alloc: Global) -> Result<Image, NoMemory>
     ensures { IfOk result IsImage }
 {

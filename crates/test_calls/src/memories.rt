@@ -1,3 +1,5 @@
+//! Loads and stores at the borders of segments.
+
 use crate::comparison::compare;
 use crate::images::image;
 use pn_types::NoMemory;
@@ -5,10 +7,10 @@ use rv_mem::Mem;
 use rv_word::MemStop;
 use std::alloc::Global;
 
-/// A load of so many bytes, at most 8, at an address, and its answer.
+/// A load: its address, how many bytes, at most 8, and what it returns.
 type Load = (u64, u32, Result<u64, MemStop>);
 
-/// A store of so many bytes, at most 8, at an address, and its answer.
+/// A store: its address, how many bytes, at most 8, and what it returns.
 type Store = (u64, u32, Result<(), MemStop>);
 
 /// What is stored.
@@ -53,7 +55,7 @@ const LOADS_BEHIND: [Load; 5] = [
     (0x7002_fffc, 4, Ok(0xc2c1_0000)),
 ];
 
-/// The first load that is answered otherwise, or tells otherwise whether the bytes are readable.
+/// Returns the first load that returns something else, or whose bytes are readable or not against what it says.
 fn first_other_load(mem: &Mem, loads: &[Load]) -> Option<Load> {
     for load in loads {
         let (at, n, answer) = *load;
@@ -64,7 +66,7 @@ fn first_other_load(mem: &Mem, loads: &[Load]) -> Option<Load> {
     None
 }
 
-/// The first store that is answered otherwise.
+/// Returns the first store that returns something else.
 fn first_other_store(mem: &mut Mem, stores: &[Store]) -> Option<Store> {
     for store in stores {
         let (at, n, answer) = *store;
@@ -75,7 +77,7 @@ fn first_other_store(mem: &mut Mem, stores: &[Store]) -> Option<Store> {
     None
 }
 
-/// The first other load with 32 harts.
+/// Returns the first load with 32 harts that returns something else.
 fn load_at_borders(alloc: Global) -> Result<Option<Load>, NoMemory> {
     let mem = Mem::new(alloc, &image(alloc)?, 32)?;
     Ok(first_other_load(&mem, &LOADS))
@@ -86,7 +88,7 @@ fn loads_at_the_borders(rt: HostRuntime) {
     compare(&rt, load_at_borders(rt.alloc()), Ok(None));
 }
 
-/// The first other store with two harts, and the first other load behind the stores.
+/// Returns the first store with two harts that returns something else, and the first such load after the stores.
 fn store_at_borders(alloc: Global) -> Result<(Option<Store>, Option<Load>), NoMemory> {
     let mut mem = Mem::new(alloc, &image(alloc)?, 2)?;
     let store = first_other_store(&mut mem, &STORES);
@@ -98,7 +100,7 @@ fn stores_at_the_borders(rt: HostRuntime) {
     compare(&rt, store_at_borders(rt.alloc()), Ok((None, None)));
 }
 
-/// Bytes of the data, of the text, and where with one hart there is none.
+/// Returns what loads of bytes return in the data, in the text, and where with one hart there are none.
 fn touch_bytes(alloc: Global) -> Result<[Result<u8, MemStop>; 3], NoMemory> {
     let mem = Mem::new(alloc, &image(alloc)?, 1)?;
     Ok([mem.byte(0x10013), mem.byte(0x10003), mem.byte(0x7002_0000)])

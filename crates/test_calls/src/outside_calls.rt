@@ -10,7 +10,7 @@ use std::alloc::Global;
 use std::test::Fail;
 use std::{fs, rt};
 
-/// Whether a reading of at most so many bytes gives these.
+/// Returns whether a reading of at most `most` bytes gives these.
 fn gives<F: Files>(alloc: Global, files: &mut F, name: &str, most: u64, bytes: &[u8]) -> bool {
     match read_whole(alloc, files, name, most) {
         Ok(read) => read.as_slice() == bytes,
@@ -18,12 +18,12 @@ fn gives<F: Files>(alloc: Global, files: &mut F, name: &str, most: u64, bytes: &
     }
 }
 
-/// The fault of a reading of at most so many bytes, if it has one.
+/// Returns the fault of a reading of at most `most` bytes, if it has one.
 fn fault_of<F: Files>(alloc: Global, files: &mut F, name: &str, most: u64) -> Option<ReadFault> {
     read_whole(alloc, files, name, most).err()
 }
 
-/// What is given, one behind the other: a file twice, and one that is absent.
+/// What is given, in this order: a file twice, and one that is absent.
 const GIVEN: [(&str, Option<&[u8]>); 3] = [
     ("a", Some(b"first")),
     ("b", None),
@@ -42,8 +42,8 @@ fn mem_files(alloc: Global) -> Result<MemFiles, NoMemory> {
     Ok(files)
 }
 
-/// Whether the file that was given twice reads as it was given last, and one that wasn't given is empty; the faults of a reading of
-/// too many bytes and of the absent file; and the faults that are counted.
+/// Returns whether the file that was given twice reads as it was given last, and one that wasn't given is empty; the faults of a
+/// reading of too many bytes and of the absent file; and the faults that are counted.
 fn read_given(alloc: Global) -> Result<([bool; 2], [Option<ReadFault>; 2], [u64; 2]), NoMemory> {
     let mut files = mem_files(alloc)?;
     let given = [
@@ -63,7 +63,8 @@ fn files_in_memory_give_what_they_were_given(rt: HostRuntime) {
     compare(&rt, read_given(rt.alloc()), Ok(([true; 2], faults, [0, 1])));
 }
 
-/// Whether a file reads as it was given, and what is answered at its end and for an unknown file, with what was read of the end.
+/// Returns whether a file reads as it was given, and what readings return at its end and for an unknown file, with what was read at
+/// the end.
 fn read_sure(alloc: Global) -> Result<(bool, [Result<usize, Failed>; 2], [u8; 4]), NoMemory> {
     let mut files = SureFiles::new(alloc);
     files.give(alloc, "a", Vec::from_slice(alloc, b"some bytes")?)?;
@@ -83,7 +84,7 @@ fn sure_files_give_what_they_were_given(rt: HostRuntime) {
     );
 }
 
-/// So many bytes, which repeat the numbers below 251.
+/// Returns `count` bytes, which repeat the numbers below 251.
 fn counted(alloc: Global, count: u32) -> Result<Vec<u8>, NoMemory> {
     let mut bytes = Vec::new(alloc);
     for number in 0..count {
@@ -92,7 +93,7 @@ fn counted(alloc: Global, count: u32) -> Result<Vec<u8>, NoMemory> {
     Ok(bytes)
 }
 
-/// What is answered, and how many faults are counted, where this reading of a file of two pieces fails.
+/// Returns the fault that is returned, and how many faults are counted, where this reading of a file of two pieces fails.
 fn failing_reading(alloc: Global, call: u64) -> Result<(Option<ReadFault>, u64), NoMemory> {
     let mut files = MemFiles::new(alloc);
     let fails = Vec::from_slice(alloc, &[call])?;
@@ -115,7 +116,7 @@ fn each_failing_reading_is_reported(rt: HostRuntime) {
     compare(&rt, readings, [failed, failed, failed, Ok((None, 0))]);
 }
 
-/// Whether twenty bytes are written five at a time where this writing fails, how many of them the sink has then, and its
+/// Returns whether twenty bytes are written five at a time where this writing fails, how many of them the sink has then, and its
 /// faults.
 fn failing_writing(alloc: Global, call: u64) -> Result<(bool, usize, u64), NoMemory> {
     let bytes = b"abcdefghijklmnopqrst";
@@ -147,7 +148,7 @@ fn each_failing_writing_leaves_what_came_before(rt: HostRuntime) {
     compare(&rt, writings, due);
 }
 
-/// What two writings answer where there is room for the first, whether the sink has that one alone, and its faults.
+/// Returns what two writings return where there is room for the first, whether the sink has that one alone, and its faults.
 fn overfill(alloc: Global) -> Result<([Result<(), Failed>; 2], bool, u64), NoMemory> {
     let mut full = SureSink::new(alloc, 3)?;
     let written = [write_all(&mut full, b"abc"), write_all(&mut full, b"d")];
@@ -163,7 +164,7 @@ fn a_sink_without_room_fails(rt: HostRuntime) {
     );
 }
 
-/// What one writing and a whole one answer where no piece is taken, and the sink's faults.
+/// Returns what one writing and a whole one return where no piece is taken, and the sink's faults.
 fn write_to_idle(
     alloc: Global,
 ) -> Result<(Result<usize, Failed>, Result<(), Failed>, u64), NoMemory> {
@@ -188,12 +189,12 @@ fn what_is_dropped_is_accepted(rt: HostRuntime) {
 fn an_absent_file_fails(rt: HostRuntime) {
     let mut files = OsFiles::new(rt);
     let absent = fault_of(rt.alloc(), &mut files, "absent", 100);
-    // there is one count for all names
+    // There is one count for all names.
     let faults = files.faults("written");
     compare(&rt, (absent, faults), (Some(ReadFault::Outside), 1));
 }
 
-/// Whether a file is written in these pieces.
+/// Returns whether a file is written in these pieces.
 fn is_written<R: rt::Files + Drop>(alloc: Global, rt: R, name: &str, pieces: &[&[u8]]) -> bool {
     let Ok(name) = String::from_str(alloc, name) else {
         return false;

@@ -18,7 +18,7 @@ fn procedure(alloc: Global, name: &[u8], start: u64, len: u64) -> Result<Proc, N
     })
 }
 
-/// A point with its kinds in the order entry, after, return and call.
+/// Returns a point with its kinds in the order entry, after, return and call.
 fn point(at: u64, proc_no: u32, kinds: (bool, bool, bool, bool)) -> Point {
     let (entry, after, ret, call) = kinds;
     Point {
@@ -31,7 +31,7 @@ fn point(at: u64, proc_no: u32, kinds: (bool, bool, bool, bool)) -> Point {
     }
 }
 
-/// The text of the points of main, which calls f twice, and of f.
+/// Returns the text of the points of main, which calls f twice, and of f.
 fn write_points(alloc: Global) -> Result<Vec<u8>, NoMemory> {
     let main = procedure(alloc, b"main", 0x10000, 16)?;
     let f = procedure(alloc, b"f", 0x10010, 4)?;
@@ -75,7 +75,7 @@ fn site(alloc: Global, at: u64, first: Stmt, second: Stmt) -> Result<Site, NoMem
     Ok(Site { at, stmts })
 }
 
-/// The time of waiting in a procedure.
+/// Returns the time of waiting in a procedure.
 fn plan(alloc: Global) -> Result<Plan, NoMemory> {
     let timer = variable(alloc, b"sync_wait", true)?;
     let counter = variable(alloc, b"in_proc", false)?;
@@ -100,7 +100,7 @@ fn plan(alloc: Global) -> Result<Plan, NoMemory> {
 
 const FOCUS: &[u8] = b"/Code/program/lock_acquire,/Machine,/SyncObject";
 
-/// The text of the plan.
+/// Returns the text of the plan.
 fn write_plan(alloc: Global) -> Result<Vec<u8>, NoMemory> {
     let plan = plan(alloc)?;
     plan_text(alloc, b"sync_wait", FOCUS, 40, &plan)

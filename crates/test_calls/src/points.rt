@@ -9,7 +9,7 @@ use pn_types::{Image, NoMemory, Point, Proc, Seq, SymKind, Symbol, Text};
 use rv_asm::{AsmError, assemble};
 use std::alloc::Global;
 
-/// The program with these symbols instead of its own.
+/// Returns the program with these symbols instead of its own.
 fn with_symbols(image: Image, symbols: Vec<Symbol>) -> Image
     requires image { IsImage image }
     requires few { length symbols.items < 2 ^ 32 }
@@ -36,7 +36,7 @@ fn point_of(row: &Row) -> Point {
     }
 }
 
-/// Whether these are the points of the text's procedures, of which none is skipped.
+/// Returns whether these are the points of the text's procedures, of which none is skipped.
 fn has_points(alloc: Global, text: &[u8], rows: &[Row]) -> Result<bool, AsmError>
     requires { length text.now < 2 ^ 31 }
 {
@@ -55,7 +55,7 @@ fn are_points(points: &[Point], rows: &[Row]) -> bool {
     points.len() == rows.len()
 }
 
-/// main calls f twice, then exits.
+/// `main` calls `f` twice, then exits.
 #[test]
 fn lists_points(rt: HostRuntime) {
     let text = b".proc m\ncall f\ncall f\nli a7, 93\necall\n.end\n.proc f\nret\n.end\n";
@@ -84,8 +84,8 @@ fn tells_kinds_apart(rt: HostRuntime) {
     compare(&rt, has_points(rt.alloc(), text, &rows).ok(), Some(true));
 }
 
-/// Symbols by their names, kinds, addresses and sizes. The second `l` by address has the name of the first, and `a` stands behind `m`
-/// among them.
+/// Symbols by their names, kinds, addresses and sizes. The second `l` by address has the name of the first, and `a` stands after
+/// `m` among them.
 const SYMBOLS: [(u8, SymKind, u64, u64); 11] = [
     (b'l', SymKind::Func, 0x10010, 4),
     (b'd', SymKind::Object, 0x10000, 8),
@@ -100,7 +100,7 @@ const SYMBOLS: [(u8, SymKind, u64, u64); 11] = [
     (b'b', SymKind::Func, 0xfffc, 8),
 ];
 
-/// A symbol of the module `program`.
+/// Returns a symbol of the module `program`.
 fn symbol(alloc: Global, name: u8, kind: SymKind, at: u64, size: u64) -> Result<Symbol, NoMemory> {
     let name = Text::from_vec(vec![in alloc; name]?);
     let module = Text::from_vec(Vec::from_slice(alloc, b"program")?);
@@ -121,7 +121,7 @@ fn symbols(alloc: Global) -> Result<Vec<Symbol>, NoMemory> {
     Ok(symbols)
 }
 
-/// Whether a procedure has this name, its first address and its length.
+/// Returns whether a procedure has this name, its first address and its length.
 fn place_of(procedure: &Proc, name: &[u8]) -> (bool, u64, u64) {
     (
         procedure.name.bytes() == name,
@@ -130,7 +130,8 @@ fn place_of(procedure: &Proc, name: &[u8]) -> (bool, u64, u64) {
     )
 }
 
-/// The places of the procedures `m`, `t` and `l`, and how many symbols are skipped; none where there are other symbols or procedures.
+/// Returns the places of the procedures `m`, `t` and `l`, and how many symbols are skipped; none where there are other symbols or
+/// procedures.
 fn keep_procedures(alloc: Global) -> Option<([(bool, u64, u64); 3], u32)> {
     let symbols = symbols(alloc).ok()?;
     if symbols.len() != SYMBOLS.len() {
@@ -152,7 +153,7 @@ fn keeps_procedures(rt: HostRuntime) {
     compare(&rt, keep_procedures(rt.alloc()), Some((places, 7)));
 }
 
-/// Whether the text's one object is named `o`.
+/// Returns whether the text's one object is named `o`.
 fn list_objects(alloc: Global) -> Result<bool, AsmError> {
     let text = b".proc f\nret\n.end\n.data\n.object o 2\n.half -1\n";
     let image = assemble(alloc, text)?;

@@ -1,3 +1,5 @@
+//! Turns of harts, and the orders in which they take them.
+
 ghost use Rattle.std.specs.Prelude.{◌≡◌, ◌<◌, length};
 
 use crate::comparison::compare;
@@ -8,7 +10,7 @@ use rv_word::Cause;
 use std::alloc::Global;
 use turn_order::{Order, Ready, generated};
 
-/// One turn of the hart, if it can take one. It answers whether it could.
+/// Lets the hart take one turn, if it can. Returns whether it could.
 fn take_turn(machine: &mut PlainMachine, hart: HartNo) -> bool
     requires { hart < length machine.old.state.harts }
     ensures { length machine.new.state.harts ≡ length machine.old.state.harts }
@@ -20,8 +22,8 @@ fn take_turn(machine: &mut PlainMachine, hart: HartNo) -> bool
     may
 }
 
-/// Which of four turns the second of two harts can take; and its ticks, its stop and where it stands, and the bytes of the output,
-/// at the end.
+/// Returns which of four turns the second of two harts can take; and its ticks, its stop and where it stands, and the bytes of the
+/// output, at the end.
 fn run_second(alloc: Global) -> Result<([bool; 4], u64, Option<Cause>, u64, usize), NoMemory> {
     let mut machine = PlainMachine::new(alloc, &image(alloc)?, 2, 100)?;
     let last = HartNo::numbered(1);
@@ -51,7 +53,8 @@ fn runs_to_the_exit(rt: HostRuntime) {
     );
 }
 
-/// The harts that orders pick of two; and once the first of them is gone, how many there are, and the first of all and from 5 on.
+/// Returns the harts that orders pick of two; and once the first of them is gone, how many there are, and the first of all and from
+/// 5 on.
 fn pick_in_turn(
     alloc: Global,
 ) -> Result<([Option<HartNo>; 4], usize, [Option<HartNo>; 2]), NoMemory> {
@@ -64,7 +67,7 @@ fn pick_in_turn(
         round.pick(&ready),
         round.after(one).pick(&ready),
         round.after(four).pick(&ready),
-        // the generator begins at 1, and its first value, shifted by 33 bits, is even
+        // The generator begins at 1, and its first value, shifted by 33 bits, is even.
         Order::of_seed(1).pick(&ready),
     ];
     ready.remove(one);

@@ -165,7 +165,8 @@ fn text(alloc: Global, name: &str) -> Result<Text, NoMemory> {
     Ok(Text::from_vec(Vec::from_slice(alloc, name.as_bytes())?))
 }
 
-/// What a report says of the node of a row. The numbers of its phase and hypothesis and the parts of its focus aren't printed.
+/// Returns what a report says of the node of a row. The numbers of its phase and hypothesis and the parts of its focus aren't
+/// printed.
 fn node_part(alloc: Global, row: &Row) -> Result<NodePart, NoMemory> {
     Ok(NodePart {
         phase: text(alloc, row.phase)?,
@@ -190,7 +191,7 @@ fn node_part(alloc: Global, row: &Row) -> Result<NodePart, NoMemory> {
     })
 }
 
-/// What a report says of nodes whose tests take three samples.
+/// Returns what a report says of nodes whose tests take three samples.
 fn search_part(alloc: Global, full: bool, rows: &[Row]) -> Result<SearchPart, NoMemory> {
     let mut nodes = Vec::new(alloc);
     for row in rows {
@@ -203,7 +204,7 @@ fn search_part(alloc: Global, full: bool, rows: &[Row]) -> Result<SearchPart, No
     })
 }
 
-/// The report of a run of one hart, with this search.
+/// Returns the report of a run of one hart, with this search.
 fn report_with(alloc: Global, search: Option<SearchPart>) -> Result<Vec<u8>, NoMemory> {
     let hart = HartPart {
         ticks: 800,
@@ -228,7 +229,7 @@ const BEFORE: &str = "paradyn report 1\n\
     output 0\n\
     \n";
 
-/// The report with these lines on the search.
+/// Returns the report with these lines on the search.
 fn expected(alloc: Global, lines: &[&str]) -> Result<Vec<u8>, NoMemory> {
     let mut bytes = Vec::from_slice(alloc, BEFORE.as_bytes())?;
     for line in lines {
@@ -237,7 +238,7 @@ fn expected(alloc: Global, lines: &[&str]) -> Result<Vec<u8>, NoMemory> {
     Ok(bytes)
 }
 
-/// The report of the search in two phases.
+/// Returns the report of the search in two phases.
 fn report_two_phases(alloc: Global) -> Result<Vec<u8>, NoMemory> {
     let search = search_part(alloc, false, &TWO_PHASES)?;
     report_with(alloc, Some(search))
@@ -251,7 +252,7 @@ fn lines_of_a_search_are_written(rt: HostRuntime) {
     compare(&rt, reports, due);
 }
 
-/// The report of a node with two samples in this state.
+/// Returns the report of a node with two samples in this state.
 fn report_state(alloc: Global, state: NodeState) -> Result<Vec<u8>, NoMemory> {
     let row = Row {
         state,
@@ -266,7 +267,7 @@ fn report_state(alloc: Global, state: NodeState) -> Result<Vec<u8>, NoMemory> {
     report_with(alloc, Some(search))
 }
 
-/// What is due of the first state of which something else is written.
+/// Returns what is due of the first state of which something else is written.
 fn first_other(alloc: Global) -> Result<Option<&'static str>, NoMemory> {
     let start = "search nodes 1\nnode 0 phase global parent none Never /Code,/Machine,/SyncObject ";
     for (state, text) in STATES {
@@ -282,7 +283,7 @@ fn each_state_is_written(rt: HostRuntime) {
     compare(&rt, first_other(rt.alloc()), Ok(None));
 }
 
-/// Whether the report of a full search begins as it says so, and ends with its last node.
+/// Returns whether the report of a full search begins as it says so, and ends with its last node.
 fn report_full(alloc: Global) -> Result<[bool; 2], NoMemory> {
     let mut rows = Vec::new(alloc);
     for _ in 0..MAX_NODES {

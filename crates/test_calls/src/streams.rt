@@ -27,7 +27,7 @@ const READING: Reading = Reading {
     ended: true,
 };
 
-/// What is read behind a set on the same thread, and what the gauge gives at its end.
+/// Returns what is read after a set on the same thread, and what the gauge gives at its end.
 fn set_and_read<R: Wait>(rt: &R, alloc: Global) -> Result<[Reading; 2], NoMemory> {
     let (dial, mut writer, mut readers) = gauge(alloc, 2)?;
     dial.set(rt, &mut writer, READING);
@@ -40,7 +40,7 @@ fn reads_what_was_set(rt: HostRuntime) {
     compare(&rt, set_and_read(&rt, rt.alloc()), Ok([READING; 2]));
 }
 
-/// How many lists there are of three items that went, with room 1 and no take, to two views, and whether each has all.
+/// Returns how many lists there are of three items that went, with room 1 and no take, to two views, and whether each has all.
 fn gather_waiting<R: Wait>(rt: &R, alloc: Global) -> Result<(usize, bool), NoMemory> {
     let (mut publisher, views) = streams(alloc, 2, 1)?;
     let items = [item(1), item(2), item(3)];
@@ -95,8 +95,8 @@ fn take_two<R: Wait>(rt: &R, flag: &AtomicU64, mut view: View) -> Result<View, N
     Ok(view)
 }
 
-/// Whether the first item was taken before the second was published, how many items the view took, and how many lists are gathered
-/// and how long the first is.
+/// Returns whether the first item was taken before the second was published, how many items the view took, and how many lists are
+/// gathered and how long the first is.
 fn pass_two<R: Threads + Wait + Sync>(
     rt: &R,
     alloc: Global,

@@ -15,7 +15,7 @@ use std::alloc::Global;
 /// Where the stack ends: the frame pointer of f.
 const STACK_END: u64 = FIRST_STACK_AT + STACK_LEN as u64;
 
-/// A text of 68 bytes.
+/// Returns a text of 68 bytes.
 fn image(alloc: Global) -> Result<Image, NoMemory>
     ensures { IfOk result IsImage }
 {
@@ -34,7 +34,7 @@ fn image(alloc: Global) -> Result<Image, NoMemory>
     })
 }
 
-/// A stack on which f was called from main, with this return address and next frame pointer in its last 16 bytes.
+/// Returns a stack on which f was called from main, with this return address and next frame pointer in its last 16 bytes.
 fn stack(alloc: Global, frame: (u64, u64)) -> Result<Mem, NoMemory> {
     let mut mem = Mem::new(alloc, &image(alloc)?, 1)?;
     let _stored = mem.store(STACK_END - 8, 8, frame.0);
@@ -70,7 +70,7 @@ const G: Procedure = Procedure {
 
 const ASKING_F: Procedure = Procedure { asks: true, ..F };
 
-/// The conditions at the entry.
+/// Returns the conditions at the entry.
 fn conds(alloc: Global, asks: bool) -> Result<Vec<Cond>, NoMemory> {
     let mut conds = Vec::new(alloc);
     if asks {
@@ -83,7 +83,7 @@ fn conds(alloc: Global, asks: bool) -> Result<Vec<Cond>, NoMemory> {
     Ok(conds)
 }
 
-/// The procedure, at whose entry the timer is started.
+/// Returns the procedure, at whose entry the timer is started.
 fn timed(alloc: Global, procedure: Procedure) -> Result<Vec<Open>, NoMemory>
     ensures { IfOk result (λ opens. AllByRecursion IsSmall opens.items) }
 {
@@ -122,14 +122,14 @@ const BEFORE: WalkStart = WalkStart {
     fp: 0,
 };
 
-/// In f before its call, where x1 has the frame's return address.
+/// In f before its call, where x1 holds the frame's return address.
 const CALLING: WalkStart = WalkStart {
     pc: 0x10020,
     ra: 0x10004,
     fp: STACK_END,
 };
 
-/// In f behind its call.
+/// In f after its call.
 const BEHIND: WalkStart = WalkStart {
     pc: 0x10024,
     ra: 0x10024,
@@ -168,7 +168,7 @@ const ROWS: [Row; 15] = [
     (FRAME, ASKING_F, Some(INSIDE), 0),
 ];
 
-/// How many starts the timer has behind its opening.
+/// Returns how many starts the timer has after its opening.
 fn starts(alloc: Global, row: &Row) -> Result<u64, NoMemory> {
     let (frame, procedure, start, _) = *row;
     let opens = timed(alloc, procedure)?;
@@ -181,7 +181,7 @@ fn starts(alloc: Global, row: &Row) -> Result<u64, NoMemory> {
     Ok(open_values(&mem, &opens, start, &vars).get(0))
 }
 
-/// The place of the first row whose timer has another number of starts.
+/// Returns the place of the first row whose timer has another number of starts.
 fn first_other(alloc: Global) -> Result<Option<usize>, NoMemory> {
     for (place, row) in ROWS.iter().enumerate() {
         if starts(alloc, row)? != row.3 {
@@ -196,7 +196,7 @@ fn opens_what_was_called(rt: HostRuntime) {
     compare(&rt, first_other(rt.alloc()), Ok(None));
 }
 
-/// A statement that acts where a counter is 1, or always.
+/// Returns a statement that acts where a counter is 1, or always.
 fn statement(alloc: Global, counter: Option<u32>, act: Act) -> Result<Stmt, NoMemory> {
     let mut conds = Vec::new(alloc);
     if let Some(counter) = counter {
@@ -212,7 +212,7 @@ fn statement(alloc: Global, counter: Option<u32>, act: Act) -> Result<Stmt, NoMe
     })
 }
 
-/// Where f is entered counter 4 goes up, and then counter 2 becomes 7 if counter 4 is 1.
+/// Returns statements by which, where f is entered, counter 4 goes up, and then counter 2 becomes 7 if counter 4 is 1.
 fn counted(alloc: Global) -> Result<Vec<Open>, NoMemory>
     ensures { IfOk result (λ opens. AllByRecursion IsSmall opens.items) }
 {
@@ -228,8 +228,8 @@ fn counted(alloc: Global) -> Result<Vec<Open>, NoMemory>
     Ok(opens)
 }
 
-/// The values of five counters behind their opening, the last of which is 0 initially and the others 3; and of one more, which
-/// there isn't.
+/// Returns the values of five counters after their opening, the last of which is 0 initially and the others 3; and of one more,
+/// which there isn't.
 fn five_counters(alloc: Global) -> Result<[u64; 6], NoMemory> {
     let mut vars = Vec::new(alloc);
     for initially in [3, 3, 3, 3, 0] {

@@ -1,3 +1,5 @@
+//! Words, and where they may stand.
+
 use crate::comparison::compare;
 use rv_word::{
     AtomicWidth, Instr, decode, encode, first_scratch, is_call, is_return, jump_target, names_x31,
@@ -40,7 +42,7 @@ fn atomic_accesses_are_told_apart(rt: HostRuntime) {
         rs1: 11,
         order: 0,
     };
-    // the last has a second register
+    // The last has a second register.
     let decoded = [decode(SC), decode(LR), decode(0x1015_a52f)];
     let is_decoded = matches!(
         decoded,

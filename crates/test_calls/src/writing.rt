@@ -11,7 +11,7 @@ use std::alloc::Global;
 /// `li a7, 93`, `li a0, 0` and `ecall`.
 const TEXT: &[u8] = b"\x93\x08\xd0\x05\x13\x05\0\0\x73\0\0\0";
 
-/// The file of an assembly text.
+/// Returns the file of an assembly text.
 #[tactic(auto, using(elf_write::proofs::Rooms::strings_room))]
 fn written(alloc: Global, text: &[u8]) -> Result<Vec<u8>, AsmError>
     requires { length text.now ≤ 1000 }
@@ -20,13 +20,13 @@ fn written(alloc: Global, text: &[u8]) -> Result<Vec<u8>, AsmError>
     Ok(write(alloc, &image)?)
 }
 
-/// Whether these bytes stand at a place of the file.
+/// Returns whether these bytes stand at a place of the file.
 fn has_at(file: &[u8], at: usize, bytes: &[u8]) -> bool {
     at <= file.len() && file[at..].starts_with(bytes)
 }
 
-/// The length of the file of three words, and whether it begins as it has to, and has the place of its section headers, the text, and
-/// zeros behind that.
+/// Returns the length of the file of three words, and whether it begins as it must, and has the place of its section headers, the
+/// text, and zeros after that.
 fn write_words(alloc: Global) -> Result<(usize, [bool; 4]), AsmError> {
     let file = written(alloc, b"li a7, 93\nli a0, 0\necall\n")?;
     let parts = [

@@ -1,4 +1,4 @@
-//! A session along the quanta of a log.
+//! Runs a session along the quanta of a log.
 
 ghost use Rattle.std.specs.Prelude.{◌≡◌, false};
 ghost use Rattle.std.specs.List.{AllByRecursion};
@@ -17,8 +17,8 @@ use report::report;
 use session::{Session, StartFault};
 use std::alloc::Global;
 
-/// A quantum that is told. Where it finds no memory it is asked for once more: nothing had changed. It answers whether what was
-/// taken, if anything was, is what was told.
+/// Lets a session take a quantum that is told. Where memory runs out it is asked for once more, since nothing had changed. Returns
+/// whether what was taken, if anything was, is what was told.
 fn take(session: &mut Session, told: &Quantum) -> Result<bool, NoMemory>
     requires going { session.old.closed ≡ false }
     requires quantum { IsQuantum session.old.inputs.settings.harts told.now }
@@ -35,7 +35,7 @@ fn take(session: &mut Session, told: &Quantum) -> Result<bool, NoMemory>
     })
 }
 
-/// Lets a session take the quanta. Those that no hart could take are left out. It answers whether each that was taken is the one that
+/// Lets a session take the quanta. Those that no hart could take are left out. Returns whether each that was taken is the one that
 /// was told.
 fn follow(session: &mut Session, quanta: &[Quantum]) -> Result<bool, NoMemory>
     requires going { session.old.closed ≡ false }
@@ -49,8 +49,8 @@ fn follow(session: &mut Session, quanta: &[Quantum]) -> Result<bool, NoMemory>
     Ok(same)
 }
 
-/// The text of the report of a session that takes the quanta and is closed: of an image, what was found of it, and settings. Where it
-/// takes another quantum than was told, the text is `other`.
+/// Returns the text of the report of a session that takes the quanta and is closed: of an image, what was found of it, and
+/// settings. Where it takes another quantum than was told, the text is `other`.
 fn report_of(
     alloc: Global,
     image: Image,
@@ -86,7 +86,7 @@ fn report_of(
     Ok(report(alloc, &parts, skipped)?)
 }
 
-/// The text of the report of the files `p` and `c` along quanta with these settings.
+/// Returns the text of the report of the files `p` and `c` along quanta with these settings.
 fn report_from(
     alloc: Global,
     files: &mut MemFiles,
@@ -101,7 +101,11 @@ fn report_from(
     report_of(alloc, inputs.image, found, settings, quanta, skipped)
 }
 
-/// The text of the report of the files `p` and `c` along the quanta of a log.
+/// Returns the text of the report of the files `p` and `c` along the quanta of a log.
+///
+/// # Errors
+///
+/// The refusal of the log, the program or the configuration; `Refusal::NoMemory` where memory runs out.
 pub fn report_along(alloc: Global, files: &mut MemFiles, log: &[u8]) -> Result<Vec<u8>, Refusal> {
     match read(alloc, log) {
         Ok((settings, quanta)) => report_from(alloc, files, settings, &quanta),

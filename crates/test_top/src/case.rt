@@ -1,3 +1,5 @@
+//! A case: files and sinks in memory, and what is done with them.
+
 use crate::along::report_along;
 use crate::given::Given;
 use crate::line::Call;
@@ -29,7 +31,7 @@ pub struct Case {
     report: Vec<u8>,
 }
 
-// By a call of its own: what drops it need not prove the drops of all its parts.
+// Its drop is a function of its own, so that callers need not prove the drops of all its parts.
 impl Drop for Case {
     fn drop(self) {
         let Case {
@@ -42,7 +44,7 @@ impl Drop for Case {
     }
 }
 
-/// The words of a line, between single spaces.
+/// Returns the words of a line, between single spaces.
 fn words(alloc: Global, line: Option<&str>) -> Result<Words, NoMemory> {
     let Some(line) = line else {
         return Ok(Words::NotText);
@@ -56,7 +58,7 @@ fn words(alloc: Global, line: Option<&str>) -> Result<Words, NoMemory> {
     Ok(Words::Read(words))
 }
 
-/// The texts of the log and the output, between which is a space.
+/// Returns the texts of the log and the output, between which is a space.
 fn texts(alloc: Global, line: &str) -> Result<Texts, NoMemory> {
     let (log, out) = line.split_once(' ').unwrap_or((line, ""));
     Ok(Texts {
@@ -66,7 +68,7 @@ fn texts(alloc: Global, line: &str) -> Result<Texts, NoMemory> {
 }
 
 impl Case {
-    /// No files, and sinks that take everything.
+    /// Makes a case with no files, and sinks that take everything.
     pub fn new(alloc: Global) -> Case {
         Case {
             files: Vec::new(alloc),
@@ -78,6 +80,10 @@ impl Case {
     }
 
     /// Takes up what a line says.
+    ///
+    /// # Errors
+    ///
+    /// `NoMemory` where memory runs out.
     pub fn take(&mut self, alloc: Global, word: &str, rest: &str) -> Result<(), NoMemory> {
         match word {
             "new" => *self = Case::new(alloc),
@@ -115,7 +121,7 @@ impl Case {
         }
     }
 
-    /// The files, as none has been read.
+    /// Returns the files, of which none has been read.
     fn files(&self, alloc: Global) -> Result<MemFiles, NoMemory> {
         let mut files = MemFiles::new(alloc);
         for given in &self.files {
@@ -124,12 +130,12 @@ impl Case {
         Ok(files)
     }
 
-    /// A sink of which these writings fail.
+    /// Returns a sink of which these writings fail.
     fn sink(&self, alloc: Global, fails: &[u64]) -> Result<MemSink, NoMemory> {
         MemSink::new(alloc, ROOM, self.piece, Vec::from_slice(alloc, fails)?)
     }
 
-    /// From now on the file of this name has these bytes.
+    /// Sets the bytes of the file of this name.
     fn keep_file(&mut self, alloc: Global, name: &str, bytes: &[u8]) -> Result<(), NoMemory> {
         Ok(self.files.push(Given::of(alloc, name, bytes)?)?)
     }
@@ -177,7 +183,7 @@ impl Case {
         served.print_log(rt, alloc)
     }
 
-    /// Serves the words behind a number, and prints how the program ends and what the output gained, at most so many bytes.
+    /// Serves the words after a number, and prints how the program ends and what the output gained, at most that many bytes.
     fn begin<R: Threads + Wait + Sync>(
         &self,
         rt: HostRuntime,
@@ -191,8 +197,8 @@ impl Case {
         println!(rt; "\n")
     }
 
-    /// Serves the words behind a name, and prints how the program ends and what the output gained. What the log gained is the file of
-    /// that name from then on.
+    /// Serves the words after a name, and prints how the program ends and what the output gained. What the log gained is the file
+    /// of that name from then on.
     fn keep<R: Threads + Wait + Sync>(
         &mut self,
         rt: HostRuntime,
@@ -207,7 +213,7 @@ impl Case {
         println!(rt; "")
     }
 
-    /// Serves the words behind a name at a gate where two workers meet, and prints how the program ends, and whether they met. What
+    /// Serves the words after a name at a gate where two workers meet, and prints how the program ends, and whether they met. What
     /// the log gained is the file of that name from then on.
     fn meet<R: Threads + Wait + Sync>(
         &mut self,

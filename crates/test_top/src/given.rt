@@ -1,3 +1,5 @@
+//! A file that a case gives.
+
 use hex::decode;
 use outside::MemFiles;
 use pn_types::NoMemory;
@@ -11,7 +13,7 @@ pub struct Given {
     fails: Vec<u64>,
 }
 
-/// The bytes of hexadecimal digits, or none where they aren't such.
+/// Returns the bytes of hexadecimal digits, or none where they are no such digits.
 fn digits(alloc: Global, text: &str) -> Vec<u8> {
     match decode(alloc, text.as_bytes()) {
         Ok(bytes) => bytes,
@@ -19,7 +21,7 @@ fn digits(alloc: Global, text: &str) -> Vec<u8> {
     }
 }
 
-/// A number and what stands behind it.
+/// Returns a number and what stands after it.
 fn numbered(rest: &str) -> (usize, &str) {
     match rest.split_once(' ') {
         Some((number, rest)) => (number.parse().unwrap_or(0), rest),
@@ -28,7 +30,11 @@ fn numbered(rest: &str) -> (usize, &str) {
 }
 
 impl Given {
-    /// A file of this name without bytes, or that it is absent.
+    /// Makes a file of this name without bytes, or one that is absent.
+    ///
+    /// # Errors
+    ///
+    /// `NoMemory` where memory runs out.
     pub fn new(alloc: Global, name: &str, is_there: bool) -> Result<Given, NoMemory> {
         Ok(Given {
             name: String::from_str(alloc, name)?,
@@ -41,7 +47,11 @@ impl Given {
         })
     }
 
-    /// A file of this name with these bytes.
+    /// Makes a file of this name with these bytes.
+    ///
+    /// # Errors
+    ///
+    /// `NoMemory` where memory runs out.
     pub fn of(alloc: Global, name: &str, bytes: &[u8]) -> Result<Given, NoMemory> {
         Ok(Given {
             name: String::from_str(alloc, name)?,
@@ -50,7 +60,11 @@ impl Given {
         })
     }
 
-    /// The same file after what a line says of it.
+    /// Changes the file as a line says.
+    ///
+    /// # Errors
+    ///
+    /// `NoMemory` where memory runs out.
     pub fn change(&mut self, alloc: Global, word: &str, rest: &str) -> Result<(), NoMemory> {
         let (number, behind) = numbered(rest);
         if word == "fail" {
@@ -84,7 +98,11 @@ impl Given {
         Ok(())
     }
 
-    /// Gives it to files in memory.
+    /// Adds it to files in memory.
+    ///
+    /// # Errors
+    ///
+    /// `NoMemory` where memory runs out.
     pub fn give(&self, alloc: Global, files: &mut MemFiles) -> Result<(), NoMemory> {
         let bytes = match &self.bytes {
             Some(bytes) => Some(Vec::from_slice(alloc, bytes)?),

@@ -1,7 +1,9 @@
+//! The lines of the table.
+
 /// What a line of the table says.
 #[derive(Clone, Copy, Drop)]
 pub enum Line<'a> {
-    /// What is given: a word and what stands behind it.
+    /// What is given: a word and what stands after it.
     Given(&'a str, &'a str),
     /// What is to be done, with the case as it is.
     Call(Call<'a>),
@@ -14,7 +16,7 @@ pub enum Line<'a> {
 pub enum Call<'a> {
     /// Words are served, or none where they aren't text.
     Serve(Option<&'a str>),
-    /// A number, and words that are served, of whose output only so many bytes are printed.
+    /// A number, and words that are served, of whose output only that many bytes are printed.
     Begin(&'a str),
     /// A name, and words that are served, whose log is the file of that name from then on.
     Keep(&'a str),

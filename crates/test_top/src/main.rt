@@ -3,16 +3,16 @@
 //!
 //! - `new`: no files, no words, sinks that take everything.
 //! - `file NAME`: a file without bytes so far. `absent NAME`: a name that can't be read.
-//! - `|TEXT`: TEXT and a line's end behind the last file's bytes. `hex DIGITS`: these bytes. `fill COUNT DIGITS`: so many times
-//!   these bytes. `cut COUNT`: only so many of the bytes stay. `byte PLACE DIGITS`: the bytes from that place on are these.
+//! - `|TEXT`: TEXT and a line's end after the last file's bytes. `hex DIGITS`: these bytes. `fill COUNT DIGITS`: COUNT times
+//!   these bytes. `cut COUNT`: only the first COUNT bytes stay. `byte PLACE DIGITS`: the bytes from that place on are these.
 //! - `fail NUMBER`: this reading of the last file fails, counted from 0.
-//! - `piece COUNT`: a writing takes at most so many bytes. `fail-out NUMBER`, `fail-log NUMBER`: this writing fails.
+//! - `piece COUNT`: a writing takes at most COUNT bytes. `fail-out NUMBER`, `fail-log NUMBER`: this writing fails.
 //! - `words WORDS`: the words, between single spaces, are served, and of the log that is left the first 64 bytes are printed. `not-text`:
 //!   words that aren't text are served.
-//! - `begin COUNT WORDS`: these words are served, and only so many bytes of what the output gained are printed.
+//! - `begin COUNT WORDS`: these words are served, and only COUNT bytes of what the output gained are printed.
 //! - `keep NAME WORDS`: these words are served, and the log that they leave isn't printed, but is the file NAME from then on.
 //! - `meet NAME WORDS`: the same, and two workers meet before the second quantum of each, or under `visi` the run before its second quantum
-//!   and a view behind its second sample; of what is left only the status is printed, and whether they met. `compare WORDS`: these words
+//!   and a view after its second sample; of what is left only the status is printed, and whether they met. `compare WORDS`: these words
 //!   are served, and it is printed whether the output gains the same as then.
 //! - `count WORDS`: these words are served by two workers, and it is printed whether each asked for a quantum as often as the log that is
 //!   left says, with the numbers from 0 on.

@@ -1,3 +1,5 @@
+//! A gate at which two workers meet.
+
 use outside::Gate;
 use std::sync::atomic::{AtomicBool, Ordering};
 use std::thread;
@@ -5,8 +7,8 @@ use std::thread;
 /// How often a worker looks whether the other has come.
 const POLLS: u32 = 10_000_000;
 
-/// A gate at which the workers 0 and 1 meet before their second quantum, or under `visi` the run before its second quantum and a view
-/// behind its second sample: each waits for the other, but no longer than it looks.
+/// A gate at which the workers 0 and 1 meet before their second quantum, or under `visi` the run before its second quantum and a
+/// view after its second sample: each waits for the other, but only for a bounded number of looks.
 #[derive(Drop)]
 pub struct Meeting {
     came: [AtomicBool; 2],
@@ -14,7 +16,7 @@ pub struct Meeting {
 }
 
 impl Meeting {
-    /// No worker has come yet.
+    /// Makes a gate to which no worker has come yet.
     pub fn new() -> Meeting {
         Meeting {
             came: [AtomicBool::new(false), AtomicBool::new(false)],
@@ -22,7 +24,7 @@ impl Meeting {
         }
     }
 
-    /// Both workers came, and neither gave up waiting.
+    /// Returns whether both workers came, and neither gave up waiting.
     pub fn met(&self) -> bool {
         let [first, second] = &self.came;
         first.load(Ordering::SeqCst)

@@ -1,3 +1,5 @@
+//! How served words ended, and what is printed of it.
+
 use hex::encode;
 use outside::{MemSink, StdSink, write_all};
 use std::alloc::Global;
@@ -14,7 +16,7 @@ pub struct Served {
     pub log: MemSink,
 }
 
-// By a call of its own: what drops it need not prove the drops of both sinks.
+// Its drop is a function of its own, so that callers need not prove the drops of both sinks.
 impl Drop for Served {
     fn drop(self) {
         let Served {
@@ -47,13 +49,13 @@ pub fn print_report(rt: HostRuntime, report: &[u8], run: &[u8], replay: &[u8]) -
     println!(rt; "")
 }
 
-/// Whether bytes are these.
+/// Says whether two slices have the same bytes.
 pub fn sameness(bytes: &[u8], others: &[u8]) -> &'static str {
     if bytes == others { "same" } else { "other" }
 }
 
 impl Served {
-    /// Prints how the program ended, and what the output gained, at most so many bytes.
+    /// Prints how the program ended, and what the output gained, at most `most` bytes.
     pub fn print_output(&self, rt: HostRuntime, most: usize) -> io::Result<()> {
         let exit = self.exit;
         let out = self.out.bytes();

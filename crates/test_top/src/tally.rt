@@ -1,3 +1,5 @@
+//! A gate that counts the passes of two workers.
+
 use outside::Gate;
 use pn_types::Quantum;
 use std::sync::atomic::{AtomicBool, AtomicU64, Ordering};
@@ -6,12 +8,12 @@ use std::sync::atomic::{AtomicBool, AtomicU64, Ordering};
 #[derive(Drop)]
 pub struct Tally {
     passes: [AtomicU64; 2],
-    // A worker passed with another number than that of its passes before, or it was none of the two.
+    // Whether a worker passed with another number than how often it had passed before, or was none of the two.
     wrong: AtomicBool,
 }
 
 impl Tally {
-    /// None has passed yet.
+    /// Makes a gate that no worker has passed yet.
     pub fn new() -> Tally {
         Tally {
             passes: [AtomicU64::new(0), AtomicU64::new(0)],
@@ -19,8 +21,8 @@ impl Tally {
         }
     }
 
-    /// Each worker passed with the numbers 0, 1, 2 and so on: once for each of its quanta, and once for each of its harts, which it
-    /// left then. The harts are dealt by their numbers.
+    /// Returns whether each worker passed with the numbers 0, 1, 2 and so on: once for each of its quanta, and once for each of its
+    /// harts, which it left then. The harts are dealt by their numbers.
     pub fn is_of(&self, quanta: &[Quantum], harts: u32) -> bool {
         let [first, second] = &self.passes;
         !self.wrong.load(Ordering::SeqCst)
@@ -29,7 +31,7 @@ impl Tally {
     }
 }
 
-/// How often a worker of two passes the gate.
+/// Returns how often a worker of two passes the gate.
 fn passes_of(worker: u32, quanta: &[Quantum], harts: u32) -> u64 {
     let taken = quanta
         .iter()

@@ -176,7 +176,7 @@ pub begun_time : (s : SessionData) → s ≡ begun s.inputs → (state_of s).kep
 unfolding work
 begun_time s e = ap (λ (x : SessionData). (state_of x).kept.time) e ∙ opened_early s.inputs
 
--- the gauge behind a step may follow the one before it
+-- the gauge after a step may follow the one before it
 pub reading_follows : (s t : State) (ended : Bool) → IsStep s t → MayFollow (reading_of s false) (reading_of t ended)
 reading_follows s t ended step = (refl, more, step.time)
   where

@@ -36,7 +36,7 @@ cells_same cell [] (y ∷ ys) e h c = absurd (omega arith)
 cells_same cell (x ∷ xs) [] e h c = absurd (omega arith)
 cells_same cell (x ∷ xs) (y ∷ ys) e h c = ((h 0 (omega arith) x).1 ∙ c.0, cells_same cell xs ys (omega arith) (λ i lt d. h (suc i) (omega arith) d) c.1)
 
--- so many lists, each of which is the same
+-- a number of lists, each of which is the same
 pub all_same : {X : Type 0} (xs : X) (lists : List X) → AllByRecursion (λ x. x ≡ xs) lists → lists ≡ replicate (length lists) xs
 all_same xs [] h = refl
 all_same xs (x ∷ lists) h = λ k. h.0 k ∷ all_same xs lists h.1 k

@@ -40,6 +40,6 @@ alls_of ds = map (λ (d : Desk). d.all) ds
 abbrev pub AreAlike : List Desk → Type 0
 AreAlike ds = AllByRecursion (λ (xs : List Latest). xs ≡ first_list ds) (alls_of ds)
 
--- each lane has room for so many more
+-- each lane has room for a number of more items
 abbrev pub HaveRoom : ℕ → List Desk → Type 0
 HaveRoom n ds = AllByRecursion (λ (d : Desk). n ≤ d.room) ds

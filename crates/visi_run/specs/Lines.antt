@@ -1,4 +1,5 @@
--- For proofs alone: the rule of a view's channel. What was sent is what was taken and then what the channel holds. One pass at most may send, and it has the list of what was sent. The same for what was taken.
+-- For proofs alone: the rule of a view's channel. What was sent is what was taken and then what the channel holds. One pass at most
+-- may send, and it has the list of what was sent. The same for what was taken.
 use Rattle.std.specs.Prelude.{◌≡◌, ℕ, Bool, true, List, [], ◌∷◌, ◌++◌}
 use mathlib.Core.Option.{some}
 use lib.ListN.{get_elem?}
@@ -16,7 +17,8 @@ has_taken v x = log v.sends v.takes v.sent (v.taken ++ x ∷ [])
 
 -- what the rule says of one pass
 abbrev pub Fits : ℕ → ℕ → List Latest → List Latest → ℕ → Log → Type 0
-Fits sender taker sent taken pass v = (v.sends ≡ true → (pass ≡ sender) × (v.sent ≡ sent)) × (v.takes ≡ true → (pass ≡ taker) × (v.taken ≡ taken))
+Fits sender taker sent taken pass v =
+    (v.sends ≡ true → (pass ≡ sender) × (v.sent ≡ sent)) × (v.takes ≡ true → (pass ≡ taker) × (v.taken ≡ taken))
 
 -- the rule: what the channel holds, and all passes
 abbrev pub Flows : List Latest → List Log → Type 0

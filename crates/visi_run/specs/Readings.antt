@@ -10,7 +10,7 @@ first_reading = record { published = 0; ticks = 0; ended = false }
 abbrev pub Before : Reading → Reading → Type 0
 Before x y = (x.published ≤ y.published) × (x.ticks ≤ y.ticks) × (x.ended ≡ true → y ≡ x)
 
--- of any two readings of the list, the later does not fall behind the earlier
+-- of any two readings of the list, neither number of the later is below that of the earlier
 abbrev pub Rises : List Reading → Type 0
 Rises [] = Unit {0}
 Rises (x ∷ xs) = AllByRecursion (Before x) xs × Rises xs

@@ -1,4 +1,5 @@
--- For proofs alone: the rule of the gauge's cell. What it holds is the last of the writer's list, and each reading of a reader's list stands in the writer's list.
+-- For proofs alone: the rule of the gauge's cell. What it holds is the last reading of the writer's list, and each reading of a
+-- reader's list stands in the writer's list.
 use Rattle.std.specs.Prelude.{◌≡◌, ℕ, Bool, true, false, List, [], ◌∷◌, ◌++◌}
 use Rattle.std.specs.List.{AllByRecursion}
 use mathlib.Core.Option.{some}
@@ -40,7 +41,7 @@ reading rs = sight false [] (rs ∷ [])
 abbrev pub writing : List Reading → Sight
 writing log = sight true log []
 
--- a pass of which the view went to another
+-- a pass whose view went to another
 abbrev pub spent : Sight
 spent = sight false [] []
 
@@ -50,7 +51,7 @@ together v w = sight v.sets v.wrote (v.lists ++ w.lists)
 abbrev pub has_set : Reading → Sight → Sight
 has_set y v = sight v.sets (v.wrote ++ y ∷ []) v.lists
 
--- the reading behind the first list
+-- the reading is put at the end of the first list
 abbrev pub longer_list : Reading → List (List Reading) → List (List Reading)
 longer_list y [] = []
 longer_list y (rs ∷ rss) = (rs ++ y ∷ []) ∷ rss

@@ -8,7 +8,7 @@ use Rattle.whole_run.specs.Seeded.{IsSeeded}
 use Rattle.visi_run.specs.Feed.{feed_of, last_reading, reading_of}
 use Rattle.visi_run.specs.declared.outlet.Outlet.{Outlet}
 
--- Time goes on. Where no samples were taken the feed stays; otherwise the latest stand behind it.
+-- Time goes on. Where no samples were taken the feed stays; otherwise the latest are appended to it.
 pub record IsStep (s t : State) : Type 0 where
   pub time : s.kept.time ≤ t.kept.time
   pub none : t.kept.samples ≡ s.kept.samples → t.feed ≡ s.feed
@@ -27,7 +27,8 @@ pub record IsBehind (o : Outlet) (s : State) : Type 0 where
   pub told : IsTold o before false
   pub step : IsStep before s
 
--- it went along the whole list of the seed and is closed; all its samples are published to the same views, and the gauge tells its end
+-- the session took the whole list of quanta of the seed and is closed; all its samples are published to the same views, and the
+-- gauge tells its end
 pub record HasRun (i : Inputs) (seed turns : ℕ) (old : Outlet) (s : SessionData) (o : Outlet) : Type 0 where
   pub inputs : s.inputs ≡ i
   pub closed : s.closed ≡ true

@@ -33,10 +33,10 @@ abbrev pub first_count : List (List Latest) → ℕ
 first_count [] = 0
 first_count (samples ∷ lists) = length samples
 
--- the numbers of the views and of the samples, which are as many for each
+-- the numbers of the views and of the samples, of which each view has as many
 abbrev pub views_line : List (List Latest) → List ℕ
 views_line lists = codes "views " ++ (decimal (length lists) ++ (codes " samples " ++ (decimal (first_count lists) ++ codes "\n")))
 
--- The whole text, behind the name of the format.
+-- The whole text, after the name of the format.
 abbrev pub visi_text : List ShownPart → List (List Latest) → List ℕ
 visi_text shown lists = codes "paradyn visi 1\n" ++ (views_line lists ++ view_texts shown 0 lists)

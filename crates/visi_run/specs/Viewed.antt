@@ -16,8 +16,8 @@ use Rattle.visi_run.specs.declared.run.ViewedCourse.{ViewedCourse}
 abbrev pub shown_of : Inputs → List Quantum → List ShownPart
 shown_of i quanta = (parts_of i (closed i (work i quanta))).shown
 
--- The text of the whole list of quanta in the order of a seed: each view was given its feed, and each sample of that has its line,
--- since the pair that it is of is shown.
+-- The text of the whole list of quanta in the order of a seed: each view was given the feed, and each sample of it has its line,
+-- since its pair is shown.
 pub record IsViewed (i : Inputs) (c : ViewedCourse) (bytes : List ℕ) : Type 0 where
   pub quanta : List Quantum
   pub seeded : IsSeeded i c.seed c.turns quanta

@@ -1,4 +1,4 @@
-// What a run shows its views.
+//! What a run shows its views.
 
 ghost use Rattle.std.specs.Prelude.{◌≡◌, length, IfOk};
 
@@ -15,16 +15,16 @@ pub struct Board {
     pub gauge: Gauge,
     // Those that wake the views.
     wakers: Vec<Unparker>,
-    // Whether the run has ended, whatever came of it.
+    // Whether the run has ended, successfully or not.
     over: AtomicBool,
 }
 
 impl Board {
-    /// That of a run with this gauge and so many views, and what each view sleeps by.
+    /// Makes the board of a run with this gauge and `views` views, and what each view sleeps by.
     ///
     /// # Errors
     ///
-    /// `NoMemory` where memory is wanting.
+    /// `NoMemory` where memory runs out.
     pub fn new(alloc: Global, gauge: Gauge, views: u32) -> Result<(Board, Vec<Parker>), NoMemory>
         ensures gauge { IfOk result (λ r. r.0.gauge ≡ gauge) }
         ensures count { IfOk result (λ r. length r.1.items ≡ views) }
@@ -51,13 +51,13 @@ impl Board {
         }
     }
 
-    /// Says that the run has ended, whatever came of it, and wakes all views.
+    /// Notes that the run has ended, successfully or not, and wakes all views.
     pub fn end(&self) {
         self.over.store(true, Ordering::SeqCst);
         self.wake();
     }
 
-    /// Whether the run has ended, whatever came of it.
+    /// Returns whether the run has ended, successfully or not.
     pub fn is_over(&self) -> bool {
         self.over.load(Ordering::SeqCst)
     }

@@ -17,7 +17,7 @@ pub struct Reading {
     pub published: u64,
     /// How far the clock is.
     pub ticks: u64,
-    /// The run has ended, and no other reading follows.
+    /// Whether the run has ended. Then no other reading follows.
     pub ended: bool,
 }
 
@@ -94,7 +94,7 @@ impl Model for GaugeReader {
 }
 
 impl Gauge {
-    /// Sets the reading. Neither number is below that of the last one, which has not ended.
+    /// Sets the reading. Neither of its numbers is below that of the last reading, after which the run had not ended.
     pub fn set<R: Wait>(&self, rt: &R, w: &mut GaugeWriter, r: Reading)
         requires cell { w.old.cell ≡ self.now.cell }
         requires follows { MayFollow (last_of w.old.list) r }
@@ -103,7 +103,7 @@ impl Gauge {
         self.cell.swap_as::<Sets, R>(rt, &mut w.pass, r);
     }
 
-    /// Reads it. Neither number is below that of what this reader read before.
+    /// Reads the gauge. Neither number is below that of what this reader read before.
     pub fn read<R: Wait>(&self, rt: &R, g: &mut GaugeReader) -> Reading
         requires { g.old.cell ≡ self.now.cell }
         ensures list { g.new ≡ record g.old { list = g.old.list ++ result ∷ [] } }
@@ -112,8 +112,8 @@ impl Gauge {
         self.cell.load_as::<Reads, R>(rt, &mut g.pass)
     }
 
-    /// Ends the gauge, with its writer and all its readers, and gives the last of the writer's list. What a reader has read stands in
-    /// that list, and no list goes back.
+    /// Ends the gauge, with its writer and all its readers, and returns the last reading of the writer's list. What a reader has
+    /// read stands in that list, and neither number falls in any list.
     pub fn close<R: Wait>(self, rt: &R, w: GaugeWriter, readers: Vec<GaugeReader>) -> Reading
         requires writer { w.cell ≡ self.cell }
         requires readers { (length readers.items ≡ self.readers) × AreOf self.cell readers.items }
@@ -128,7 +128,7 @@ impl Gauge {
     }
 }
 
-// Joins the readers' passes into the writer's.
+/// Joins the readers' passes into the writer's.
 fn take_in(cell: &Cell, mut writer: Pass, readers: Vec<GaugeReader>) -> Pass
     requires writer { (writer.table_id ≡ cell.now.table.shared.table_id) × (cell_view writer ≡ writing (cell_view writer).wrote) }
     requires readers { AreOf cell.now.table.shared.table_id readers.items }

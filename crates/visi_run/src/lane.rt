@@ -1,4 +1,5 @@
-// The publisher's end of one view.
+//! The publisher's end of one view.
+
 ghost use Rattle.std.specs.Prelude.{◌≡◌, ◌≤◌, ◌-◌, ◌++◌, true, length, IfOk, OnOk};
 ghost use Rattle.std.specs.VecDeque.{deque_len, deque_capacity};
 ghost use Rattle.crossbeam_channel.specs.Claims.{view, IsSeatAt};
@@ -29,13 +30,21 @@ impl Model for Lane {
 
     ghost Value = { Desk };
 
-    ghost view = { λ l. record { all = sent_by l.pass ++ l.waiting.items; line = sends_on l.sender; room = deque_capacity l.waiting - deque_len l.waiting } };
+    ghost view = { λ l. record {
+      all = sent_by l.pass ++ l.waiting.items;
+      line = sends_on l.sender;
+      room = deque_capacity l.waiting - deque_len l.waiting;
+    } };
 
     ghost invariant = { λ l. IsSender (sends_on l.sender) l.pass };
 }
 
 impl Lane {
-    /// Makes room for so many items.
+    /// Reserves memory for `count` more items.
+    ///
+    /// # Errors
+    ///
+    /// `NoMemory` where memory runs out.
     pub fn reserve(&mut self, count: usize) -> Result<(), NoMemory>
         ensures same { (self.new.all ≡ self.old.all) × (self.new.line ≡ self.old.line) }
         ensures room { OnOk result (count ≤ self.new.room) }
@@ -43,7 +52,7 @@ impl Lane {
         self.waiting.reserve(count)
     }
 
-    /// Lets the items wait, behind the others.
+    /// Appends the items to those that wait.
     pub fn push_all(&mut self, items: &[Latest])
         requires { length items.now ≤ self.old.room }
         ensures all { self.new.all ≡ self.old.all ++ items.now }
@@ -59,7 +68,11 @@ impl Lane {
         send_waiting(rt, &self.sender, &mut self.pass, &mut self.waiting);
     }
 
-    /// The whole list of the view, once it has ended.
+    /// Returns the whole list of the view, once it has ended.
+    ///
+    /// # Errors
+    ///
+    /// `NoMemory` where memory runs out.
     pub fn settle<R: Wait>(&mut self, rt: &R, watch: View) -> Result<Vec<Latest>, NoMemory>
         requires { watch.line ≡ self.old.line }
         ensures same { (self.new.all ≡ self.old.all) × (self.new.line ≡ self.old.line) }
@@ -86,7 +99,7 @@ fn push_waiting(waiting: &mut VecDeque<Latest>, items: &[Latest])
     }
 }
 
-// Moves waiting items into the channel.
+/// Moves waiting items into the channel.
 fn send_waiting<R: Wait>(
     rt: &R,
     sender: &Sender,
@@ -108,7 +121,7 @@ fn send_waiting<R: Wait>(
     }
 }
 
-// Receives all that the channel still holds.
+/// Receives all that the channel still holds.
 fn take_rest<R: Wait>(
     rt: &R,
     receiver: &Receiver,

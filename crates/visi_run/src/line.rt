@@ -1,10 +1,11 @@
-// The channel of one view, with its rule and the kinds of step.
+//! The channel of one view, with its rule and its kinds of step.
+
 use crossbeam_channel::protocol::{Join, Lesson, Outcome, Protocol, Split};
 use crossbeam_channel::{Pass, RuledReceiver, RuledSender};
 use session_spec::Latest;
 use std::collections::LinkedList;
 
-// Whether a pass may send and whether it may take, what it has sent and what it has taken. No value of it is made.
+/// What a pass knows: whether it may send, whether it may take, what it has sent and what it has taken. No value of it is made.
 pub struct Log {
     pub sends: bool,
     pub takes: bool,
@@ -12,6 +13,7 @@ pub struct Log {
     pub taken: LinkedList<Latest>,
 }
 
+/// The rule of the channel: what was sent is what was taken and then what the channel holds.
 pub struct InOrder;
 
 impl Protocol<Latest, Log> for InOrder {
@@ -23,7 +25,7 @@ impl Protocol<Latest, Log> for InOrder {
     ghost first = { log true true [] [] };
 }
 
-// The pass is cut into the sender's and the view's, and these are joined again.
+/// Splits the pass into the sender's and the view's, and joins these again.
 pub struct Roles;
 
 impl Split<Log> for Roles {
@@ -44,6 +46,7 @@ impl Join<Log> for Roles {
     ghost spent = { log false false [] [] };
 }
 
+/// The step of a send.
 pub struct Sends;
 
 impl Outcome<Latest, Log> for Sends {
@@ -57,6 +60,7 @@ impl Lesson<Latest, Log> for Sends {
     ghost fact = { λ v items. Unit {0} };
 }
 
+/// The step of a receive.
 pub struct Takes;
 
 impl Outcome<Latest, Log> for Takes {
@@ -70,7 +74,7 @@ impl Lesson<Latest, Log> for Takes {
     ghost fact = { λ v items. Unit {0} };
 }
 
-// A receive by a pass that may send too. It learns what the channel holds.
+/// The step of a receive by a pass that may also send, and so learns what the channel holds.
 pub struct TakesRest;
 
 impl Outcome<Latest, Log> for TakesRest {
@@ -86,8 +90,11 @@ impl Lesson<Latest, Log> for TakesRest {
     ghost fact = { λ v items. v.sent ≡ v.taken ++ items };
 }
 
+/// A sender of the channel.
 pub type Sender = RuledSender<Latest, Log, InOrder>;
 
+/// A receiver of the channel.
 pub type Receiver = RuledReceiver<Latest, Log, InOrder>;
 
+/// A pass of the channel.
 pub type LinePass = Pass<Latest, Log>;

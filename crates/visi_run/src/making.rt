@@ -10,11 +10,11 @@ use crate::sight::{Admits, Cell};
 use pn_types::NoMemory;
 use std::alloc::Global;
 
-/// A gauge with its writer and so many readers, from 1 to 8.
+/// Makes a gauge with its writer and `readers` readers, from 1 to 8.
 ///
 /// # Errors
 ///
-/// `NoMemory` where memory is wanting.
+/// `NoMemory` where memory runs out.
 pub fn gauge(
     alloc: Global,
     readers: u32,

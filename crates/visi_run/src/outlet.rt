@@ -1,4 +1,4 @@
-// Where a run is told of.
+//! What tells the views of a run.
 
 ghost use Rattle.std.specs.Prelude.{◌≡◌, [], ◌∷◌, false, OnOk};
 ghost use Rattle.session.specs.Sessions.{begun, state_of};
@@ -18,14 +18,14 @@ use std::sync::Wait;
 pub struct Outlet {
     pub publisher: Publisher,
     pub writer: GaugeWriter,
-    /// How many samples were published, as far as the count goes.
+    /// How many samples were published. The count stops at its greatest value.
     pub published: u64,
-    /// How many times the session had taken samples by then.
+    /// How many times the session had taken samples when it was last told of.
     pub samples: u64,
 }
 
 impl Outlet {
-    /// That of a session that just began.
+    /// Makes the outlet of a session that just began.
     pub fn new(publisher: Publisher, writer: GaugeWriter, session: &Session) -> Outlet
         requires begun { session.now ≡ begun session.now.inputs }
         requires none { publisher.items ≡ [] }
@@ -64,7 +64,7 @@ impl Outlet {
     ///
     /// # Errors
     ///
-    /// `NoMemory` where memory is wanting.
+    /// `NoMemory` where memory runs out.
     pub fn tell<R: Wait>(
         &mut self,
         rt: &R,

@@ -52,11 +52,11 @@ impl Model for View {
     ghost invariant = { λ v. IsTaker (receives_on v.receiver) v.taken.items v.pass };
 }
 
-/// A publisher and so many views, from 1 to 8, each with a channel that has room for so many items, from 1 to 1,024.
+/// Makes a publisher and `views` views, from 1 to 8, each with a channel that has room for `room` items, from 1 to 1,024.
 ///
 /// # Errors
 ///
-/// `NoMemory` where memory is wanting.
+/// `NoMemory` where memory runs out.
 pub fn streams(alloc: Global, views: u32, room: u32) -> Result<(Publisher, Vec<View>), NoMemory>
     requires views { (1 ≤ views) × (views ≤ 8) }
     requires room { (1 ≤ room) × (room ≤ 1024) }
@@ -93,7 +93,7 @@ fn open_all(
     Ok(())
 }
 
-// One channel.
+/// One channel.
 fn open(alloc: Global, room: u32) -> Result<(Lane, View), NoMemory>
     requires { 0 < room }
     ensures { IfOk result (λ r. (r.0.all ≡ []) × (r.1.taken ≡ []) × (r.1.line ≡ r.0.line)) }
@@ -121,7 +121,7 @@ impl Publisher {
     ///
     /// # Errors
     ///
-    /// `NoMemory` where memory is wanting. Then nothing has changed.
+    /// `NoMemory` where memory runs out. Then nothing has changed.
     pub fn publish(&mut self, items: &[Latest]) -> Result<(), NoMemory>
         ensures ok { OnOk result (self.new.items ≡ self.old.items ++ items.now) }
         ensures err { OnErr result (self.new.items ≡ self.old.items) }
@@ -141,11 +141,11 @@ impl Publisher {
 }
 
 impl View {
-    /// The next item, if one has come, which is appended to what the view took.
+    /// Takes the next item, if one has come, and appends it to what the view took.
     ///
     /// # Errors
     ///
-    /// `NoMemory` where memory is wanting. Then nothing has changed.
+    /// `NoMemory` where memory runs out. Then nothing has changed.
     pub fn take<R: Wait>(&mut self, rt: &R) -> Result<Option<Latest>, NoMemory>
         ensures some { IfOk result (λ o. IfSome o (λ x. self.new ≡ record self.old { taken = self.old.taken ++ x ∷ [] })) }
         ensures none { IfOk result (λ o. IfNone o (self.new ≡ self.old)) }
@@ -161,7 +161,7 @@ impl View {
         }
     }
 
-    /// What it took, in order.
+    /// Returns what the view took, in order.
     pub fn taken(&self) -> &[Latest]
         ensures { result.now ≡ self.now.taken }
     {
@@ -169,12 +169,12 @@ impl View {
     }
 }
 
-/// The whole list of each view, in the order of the views, all of which are the publisher's: what was published, each item once and
-/// in order.
+/// Returns the whole list of each view, in the order of the views, all of which are the publisher's: what was published, each item
+/// once and in order.
 ///
 /// # Errors
 ///
-/// `NoMemory` where memory is wanting.
+/// `NoMemory` where memory runs out.
 pub fn gather<R: Wait>(
     rt: &R,
     alloc: Global,

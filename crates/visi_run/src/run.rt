@@ -1,4 +1,4 @@
-//! A run that is viewed.
+//! Runs a session before views.
 
 ghost use Rattle.std.specs.Prelude.{◌≡◌, ◌≤◌, true, false, length, map, IfErr, IfOk, OnOk, None};
 ghost use Rattle.std.specs.List.{AllByRecursion};
@@ -30,7 +30,7 @@ use std::thread;
 use std::thread::Threads;
 use whole_run::Rounds;
 
-/// For how many items the channel of a view has room.
+/// The number of items for which the channel of a view has room.
 const ROOM: u32 = 64;
 
 /// In which order harts take quanta, and how many view the run.
@@ -44,11 +44,11 @@ pub struct ViewedCourse {
     pub views: u32,
 }
 
-/// Lets a session take the quanta that are left of the seed's, each behind the gate, and tells of each.
+/// Lets a session take the quanta of the seed that are left, passes the gate before each, and tells the views of each.
 ///
 /// # Errors
 ///
-/// `NoMemory` where memory is wanting.
+/// `NoMemory` where memory runs out.
 fn take_all<R: Wait, G: Gate>(
     rt: &R,
     board: &Board,
@@ -76,11 +76,11 @@ fn take_all<R: Wait, G: Gate>(
     unreachable!()
 }
 
-/// Runs a session to its end in rounds, and tells of each step.
+/// Runs a session to its end in rounds, and tells the views of each step.
 ///
 /// # Errors
 ///
-/// `NoMemory` where memory is wanting.
+/// `NoMemory` where memory runs out.
 fn run<R: Wait, G: Gate>(
     rt: &R,
     board: &Board,
@@ -100,7 +100,7 @@ fn run<R: Wait, G: Gate>(
     Ok((session, outlet))
 }
 
-/// What is left of a run before views.
+/// What remains of a run before views.
 #[derive(Drop)]
 struct Streamed {
     /// The session, which is closed.
@@ -115,7 +115,7 @@ struct Streamed {
 ///
 /// # Errors
 ///
-/// `NoMemory` where memory is wanting, also to one view alone.
+/// `NoMemory` where memory runs out, also for one view alone.
 fn stream<R: Threads + Wait + Sync, G: Gate + Sync>(
     rt: &R,
     alloc: Global,
@@ -132,7 +132,8 @@ fn stream<R: Threads + Wait + Sync, G: Gate + Sync>(
     ensures inputs { IfOk result (λ r. (r.session.inputs ≡ session.inputs) × (r.session.closed ≡ true)) }
     ensures seeded { IfOk result (λ r. IsSeeded session.inputs course.seed course.turns r.session.quanta) }
     ensures count { IfOk result (λ r. length r.lists.items ≡ course.views) }
-    ensures feed { IfOk result (λ r. AllByRecursion (λ xs. xs ≡ feed_of session.inputs r.session.quanta) (map (λ v. v.items) r.lists.items)) }
+    ensures feed { IfOk result
+        (λ r. AllByRecursion (λ xs. xs ≡ feed_of session.inputs r.session.quanta) (map (λ v. v.items) r.lists.items)) }
     ensures last { IfOk result (λ r. r.last ≡ last_reading session.inputs r.session.quanta) }
 {
     let (publisher, views) = streams(alloc, course.views, ROOM)?;
@@ -141,7 +142,7 @@ fn stream<R: Threads + Wait + Sync, G: Gate + Sync>(
     let seats = pair(alloc, views, readers, parkers)?;
     let rounds = Rounds::begin(alloc, &session, harts, course.seed, course.turns)?;
     let outlet = Outlet::new(publisher, writer, &session);
-    // The run is on this thread: where there is no other, the views follow it when it has ended.
+    // The run is on this thread: where no other can be made, the views follow when it has ended.
     let (seats, ran) = thread::join(
         rt,
         || -> Result<Vec<Seat>, NoMemory>
@@ -153,7 +154,7 @@ fn stream<R: Threads + Wait + Sync, G: Gate + Sync>(
             ensures { IfOk result (λ r. HasRun session.inputs rounds.seed rounds.turns outlet r.0 r.1) }
         {
             let ran = run(rt, &board, rounds, session, outlet, gate);
-            // Also where it failed, so that no view waits for ever.
+            // This is done even where the run failed, so that no view waits for ever.
             board.end();
             ran
         },
@@ -174,11 +175,11 @@ fn stream<R: Threads + Wait + Sync, G: Gate + Sync>(
     })
 }
 
-/// Runs a session that just began, and answers the text of what its views were given.
+/// Runs a session that just began, and returns the text of what its views were given.
 ///
 /// # Errors
 ///
-/// `NoMemory` where memory is wanting, also to one view alone.
+/// `NoMemory` where memory runs out, also for one view alone.
 fn view_on<R: Threads + Wait + Sync, G: Gate + Sync>(
     rt: &R,
     alloc: Global,
@@ -198,20 +199,21 @@ fn view_on<R: Threads + Wait + Sync, G: Gate + Sync>(
     streamed.session.laws();
     let parts = streamed.session.parts()?;
     if streamed.last.published != count_first(&streamed.lists) as u64 {
-        // The gauge counted what each view was given.
+        // The gauge has counted what each view was given.
         unreachable!();
     }
     visi_text(alloc, parts.shown.as_slice(), &streamed.lists)
 }
 
-/// Runs a program with its instruments, with quanta in the order of a seed as [`record_run`](whole_run::record_run) does, while view
-/// threads follow it, each of which is given all samples of what was wished. It answers the text of what each was given.
+/// Runs a program with its instruments, with quanta in the order of a seed as [`record_run`](whole_run::record_run) does, while
+/// view threads follow it, each of which is given all samples of what was wished. Returns the text of what each was given.
 ///
-/// The run passes the gate as worker 0 before its quantum number n, and view number v as worker v + 1 behind its item number n, both from 0.
+/// The run passes the gate as worker 0 before its quantum number n, and view number v as worker v + 1 after its item number n, both
+/// from 0.
 ///
 /// # Errors
 ///
-/// `NoMemory` where memory is wanting, also to one view alone; `BadPick` with the first wish at tick 0 that is refused, if one is.
+/// `NoMemory` where memory runs out, also for one view alone; `BadPick` with the first wish at tick 0 that is refused, if one is.
 pub fn view_run<R: Threads + Wait + Sync, G: Gate + Sync>(
     rt: &R,
     alloc: Global,

@@ -1,4 +1,4 @@
-// The seats of all views.
+//! The seats of all views.
 
 ghost use Rattle.std.specs.Prelude.{◌≡◌, Ok, length, map, IfOk};
 ghost use Rattle.atomic_table.specs.Seated.{TableId};
@@ -18,11 +18,11 @@ use std::sync::Wait;
 use std::thread;
 use std::thread::Threads;
 
-/// Each view follows the run in a thread, if there is one to be had.
+/// Lets each view follow the run, in a thread of its own where one can be made.
 ///
 /// # Errors
 ///
-/// `NoMemory` where memory is wanting, also to one view alone.
+/// `NoMemory` where memory runs out, also for one view alone.
 pub fn follow_all<R: Threads + Wait + Sync, G: Gate + Sync>(
     rt: &R,
     alloc: Global,
@@ -46,7 +46,7 @@ pub fn follow_all<R: Threads + Wait + Sync, G: Gate + Sync>(
     Ok(seats)
 }
 
-// All seats, if no view was without memory.
+/// Returns all seats, if no view ran out of memory.
 fn all_seats(alloc: Global, results: Vec<Result<Seat, NoMemory>>) -> Result<Vec<Seat>, NoMemory>
     ensures { IfOk result (λ seats. results.items ≡ map (λ seat. Ok seat) seats.items) }
 {
@@ -60,11 +60,11 @@ fn all_seats(alloc: Global, results: Vec<Result<Seat, NoMemory>>) -> Result<Vec<
     Ok(seats)
 }
 
-/// Each view gets a reader of the gauge, and what it sleeps by.
+/// Gives each view a reader of the gauge and what it sleeps by.
 ///
 /// # Errors
 ///
-/// `NoMemory` where memory is wanting.
+/// `NoMemory` where memory runs out.
 pub fn pair(
     alloc: Global,
     views: Vec<View>,
@@ -96,11 +96,11 @@ pub fn pair(
     Ok(seats)
 }
 
-/// The views and the readers of all seats.
+/// Takes seats apart into the views and the readers.
 ///
 /// # Errors
 ///
-/// `NoMemory` where memory is wanting.
+/// `NoMemory` where memory runs out.
 pub fn part(alloc: Global, seats: Vec<Seat>) -> Result<(Vec<View>, Vec<GaugeReader>), NoMemory>
     ensures lines { IfOk result (λ r. watch_lines r.0.items ≡ seat_lines seats.items) }
     ensures count { IfOk result (λ r. length r.1.items ≡ length seats.items) }

@@ -1,4 +1,5 @@
-// The rule of the gauge's cell, and the kinds of step.
+//! The rule of the gauge's cell, and its kinds of step.
+
 use crate::dial::Reading;
 use atomic_table::{Join, Split};
 use crossbeam_utils::atomic::seq_cell;
@@ -6,13 +7,15 @@ use crossbeam_utils::atomic::seq_cell::RuledSeqCell;
 use crossbeam_utils::rule::{Outcome, Protocol};
 use std::collections::LinkedList;
 
-// Whether the pass sets, what was set, and what the readers of this pass have read, a list for each. No value of it is made.
+/// What a pass knows: whether it sets, what was set, and what the readers of this pass have read, a list for each. No value of it is
+/// made.
 pub struct Sight {
     pub sets: bool,
     pub wrote: LinkedList<Reading>,
     pub lists: LinkedList<LinkedList<Reading>>,
 }
 
+/// The rule of the cell: it holds the last reading that was set, readings rise, and what was read was set.
 pub struct Rising;
 
 impl Protocol<Reading, Sight> for Rising {
@@ -23,7 +26,7 @@ impl Protocol<Reading, Sight> for Rising {
     ghost first = { opening_sight };
 }
 
-// Splits off a reader.
+/// Splits a reader off.
 pub struct Admits;
 
 impl Split<Sight> for Admits {
@@ -35,7 +38,7 @@ impl Split<Sight> for Admits {
     ghost right = { λ v. reading [] };
 }
 
-// The whole view goes to a new pass.
+/// Moves all that a pass knows to a new pass.
 pub struct Leaves;
 
 impl Split<Sight> for Leaves {
@@ -46,7 +49,7 @@ impl Split<Sight> for Leaves {
     ghost right = { λ v. v };
 }
 
-// The writer takes in a reader's lists.
+/// Lets the writer take in a reader's lists.
 pub struct Meets;
 
 impl Join<Sight> for Meets {
@@ -57,6 +60,7 @@ impl Join<Sight> for Meets {
     ghost spent = { spent };
 }
 
+/// The step by which the writer sets a reading.
 pub struct Sets;
 
 impl Outcome<Reading, Sight> for Sets {
@@ -66,6 +70,7 @@ impl Outcome<Reading, Sight> for Sets {
     ghost then = { λ v x y w. w ≡ has_set y v };
 }
 
+/// The step by which a reader reads.
 pub struct Reads;
 
 impl Outcome<Reading, Sight> for Reads {
@@ -77,6 +82,7 @@ impl Outcome<Reading, Sight> for Reads {
     ghost then = { λ v x y w. (w ≡ has_read y v) × AllByRecursion Rises w.lists };
 }
 
+/// The step at the end, by which all readings that were read become known.
 pub struct Closes;
 
 impl Outcome<Reading, Sight> for Closes {
@@ -85,6 +91,8 @@ impl Outcome<Reading, Sight> for Closes {
     ghost then = { λ v x y w. Settles v y };
 }
 
+/// The cell of the gauge.
 pub type Cell = RuledSeqCell<Reading, Sight, Rising, 3>;
 
+/// A pass of the cell.
 pub type Pass = seq_cell::Pass<Reading, Sight>;

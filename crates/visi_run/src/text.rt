@@ -1,4 +1,4 @@
-// The text of the samples that each view was given.
+//! The text of the samples that each view was given.
 
 ghost use Rattle.std.specs.Prelude.{◌≡◌, ◌++◌, flat_map, map, IfOk, OnOk};
 ghost use Rattle.report.specs.ShownTexts.{pair_text};
@@ -9,7 +9,7 @@ use report::ShownPart;
 use session_spec::Latest;
 use std::alloc::Global;
 
-// A metric's name, at a focus.
+/// Appends a metric's name and a focus.
 fn add_pair(out: &mut Vec<u8>, name: &Text, focus: &Text) -> Result<(), NoMemory>
     ensures { OnOk result (out.new.items ≡ out.old.items ++ pair_text name.now focus.now) }
 {
@@ -18,7 +18,7 @@ fn add_pair(out: &mut Vec<u8>, name: &Text, focus: &Text) -> Result<(), NoMemory
     out.extend_from_slice(focus.bytes())
 }
 
-// The line of a sample of what is shown.
+/// Appends the line of a sample of what is shown.
 fn add_sample_of(
     alloc: Global,
     out: &mut Vec<u8>,
@@ -36,7 +36,7 @@ fn add_sample_of(
     out.extend_from_slice(rest.as_bytes())
 }
 
-// The line of a sample.
+/// Appends the line of a sample.
 fn add_sample(
     alloc: Global,
     out: &mut Vec<u8>,
@@ -51,7 +51,7 @@ fn add_sample(
     }
 }
 
-// The lines of all samples of a view.
+/// Appends the lines of all samples of a view.
 fn add_samples(
     alloc: Global,
     out: &mut Vec<u8>,
@@ -66,7 +66,7 @@ fn add_samples(
     Ok(())
 }
 
-// A view's number and its samples.
+/// Appends a view's number and its samples.
 fn add_view(
     alloc: Global,
     out: &mut Vec<u8>,
@@ -81,7 +81,7 @@ fn add_view(
     add_samples(alloc, out, shown, samples)
 }
 
-// All views.
+/// Appends all views.
 fn add_views(
     alloc: Global,
     out: &mut Vec<u8>,
@@ -96,7 +96,7 @@ fn add_views(
     Ok(())
 }
 
-/// How many samples the first view was given.
+/// Returns how many samples the first view was given.
 pub fn count_first(lists: &[Vec<Latest>]) -> usize
     ensures { result ≡ first_count (map (λ v. v.items) lists.now) }
 {
@@ -106,7 +106,7 @@ pub fn count_first(lists: &[Vec<Latest>]) -> usize
     }
 }
 
-// The numbers of the views and of the samples.
+/// Appends the numbers of the views and of the samples.
 fn add_counts(alloc: Global, out: &mut Vec<u8>, lists: &[Vec<Latest>]) -> Result<(), NoMemory>
     ensures { OnOk result (out.new.items ≡ out.old.items ++ views_line (map (λ v. v.items) lists.now)) }
 {
@@ -116,11 +116,11 @@ fn add_counts(alloc: Global, out: &mut Vec<u8>, lists: &[Vec<Latest>]) -> Result
     out.extend_from_slice(line.as_bytes())
 }
 
-/// The text of what each view was given, where this is shown.
+/// Returns the text of what each view was given, where `shown` is shown.
 ///
 /// # Errors
 ///
-/// `NoMemory` where memory is wanting.
+/// `NoMemory` where memory runs out.
 pub fn visi_text(
     alloc: Global,
     shown: &[ShownPart],

@@ -1,4 +1,4 @@
-// One view's thread.
+//! One view's thread.
 
 ghost use Rattle.std.specs.Prelude.{◌≡◌, IfOk};
 ghost use Rattle.visi_run.specs.Watching.{IsSameSeat};
@@ -24,11 +24,12 @@ pub struct Seat {
     pub parker: Parker,
 }
 
-/// Takes items until the run has ended and none is left in the channel, and sleeps while there are none. It passes the gate behind each item.
+/// Takes items until the run has ended and the channel is empty, and sleeps while there are none. It passes the gate after each
+/// item.
 ///
 /// # Errors
 ///
-/// `NoMemory` where memory is wanting.
+/// `NoMemory` where memory runs out.
 pub fn follow<R: Wait, G: Gate>(
     rt: &R,
     board: &Board,
@@ -47,13 +48,13 @@ pub fn follow<R: Wait, G: Gate>(
             items = items.saturating_add(1);
             continue;
         }
-        // Nothing is offered behind the end: the view is given what still waits for it when all views have left.
+        // After the end nothing is moved into the channel: what still waits is given to the view when all views have left.
         if ended {
             break;
         }
         ended = board.gauge.read(rt, &mut seat.reader).ended || board.is_over();
         if !ended {
-            // The run wakes its views behind each step, also where that was between the take and here.
+            // The run wakes its views after each step. Where that was between the take and here, this returns at once.
             seat.parker.park(rt);
         }
     }

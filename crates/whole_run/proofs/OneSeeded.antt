@@ -13,7 +13,7 @@ use Rattle.session_spec.specs.States.{State}
 use Rattle.session_spec.specs.Work.{Halted, IsWhole, first_state, quantum_of, tend, work, work_from}
 use Rattle.whole_run.specs.Seeded.{AreInOrder, OneSeeded}
 
--- behind these quanta no hart can go on, or there are so many
+-- after these quanta no hart can go on, or there are at least `limit` of them
 abbrev Ends : Inputs → ℕ → State → List Quantum → Type 0
 Ends i limit s quanta = (h : ℕ) → h < i.settings.harts → (is_runnable (work_from i quanta s).kept.machine.core h ≡ false) ⊎ (limit ≤ length quanta)
 

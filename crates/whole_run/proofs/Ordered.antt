@@ -60,7 +60,7 @@ pub full : (i : Inputs) (quanta : List Quantum) (h : ℕ) → MAX_QUANTA ≤ len
 unfolding Halted
 full i quanta h l = inr l
 
--- ---- the same behind one quantum more
+-- ---- the same after one quantum more
 
 work_from_push : (i : Inputs) (quanta : List Quantum) (q : Quantum) (s : State) → work_from i (quanta ++ q ∷ []) s ≡ tend i q.hart q.turns (work_from i quanta s)
 work_from_push i [] q s = refl
@@ -116,7 +116,7 @@ ordered_push : (i : Inputs) (turns : ℕ) (order : Order) (s : State) (quanta : 
 ordered_push i turns order s [] q a p e = (p, e, tt)
 ordered_push i turns order s (x ∷ quanta) q a p e = (a.0, a.1, ordered_push i turns (order_after order x.hart) (tend i x.hart x.turns s) quanta q a.2 p e)
 
--- so many quanta were taken in order, and this order is next
+-- `count` quanta were taken in order, and this order is next
 pub record Running (i : Inputs) (seed turns count : ℕ) (quanta : List Quantum) (order : Order) : Type 0 where
   pub ordered : AreInOrder i turns (order_of_seed seed) (first_state i) quanta
   pub number : length quanta ≡ count
@@ -198,7 +198,7 @@ stand_last r s a m p = ends s.inputs r.seed r.turns (length s.quanta) s.quanta r
 pub never_none : (s : SessionData) (h : ℕ) (order : Order) → length s.quanta < MAX_QUANTA → picked order (may_go s.inputs s.quanta) s.inputs.settings.harts ≡ Some h → Halted s.inputs s.quanta h → ⊥
 never_none s h order few p halts = true≢false (sym (picked_may order (may_go s.inputs s.quanta) s.inputs.settings.harts h p).0 ∙ stuck s.inputs s.quanta h few halts)
 
--- and the rounds stand at the session behind it
+-- and the rounds stand at the session after it
 pub stand_next : (r : Rounds) (s new : SessionData) (order : Order) (ready : List ℕ) (h : ℕ) (answer : Option Quantum) → StandAt r s → length s.quanta < MAX_QUANTA → picked r.order (may_go s.inputs s.quanta) s.inputs.settings.harts ≡ Some h
     → new.closed ≡ false → new.inputs ≡ s.inputs → IfSome answer (λ q. new.quanta ≡ s.quanta ++ q ∷ []) → IfSome answer (λ q. q ≡ quantum_of s.inputs 0 h r.turns (state_of s).kept) → IfNone answer (Halted s.inputs s.quanta h)
     → order_after r.order h ≡ order → (length new.quanta < MAX_QUANTA → ready ≡ ready_of (may_go new.inputs new.quanta) r.harts)

@@ -30,7 +30,7 @@ module _ (i : Inputs) (seed turns : ℕ) (some : 1 ≤ turns) (most : turns ≤ 
   abbrev HasWhole : Type 0
   HasWhole = (whole : List Quantum) × IsSeeded i seed turns whole
 
-  -- there is a whole list that goes on where so many quanta can follow
+  -- there is a whole list that goes on where a number of quanta can follow
   abbrev GoesOn : ℕ → Type 0
   GoesOn left = (count : ℕ) (quanta : List Quantum) (order : Order) → count + left ≡ MAX_QUANTA → Running i seed turns count quanta order → AreAllowed i quanta → HasWhole
 

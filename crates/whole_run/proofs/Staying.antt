@@ -1,4 +1,4 @@
--- Behind a quantum at whose end no work was done the other harts can go on as before it.
+-- After a quantum at whose end no work was done the other harts can go on as before it.
 use Rattle.std.proofs.Common.{◌≡◌, ◌∙◌, ℕ, zero, suc, List, [], ◌∷◌, Option, Some, None, refl, ap, ap₂}
 use Rattle.std.specs.Prelude.{Bool, true, false, cond, slice_get}
 use Rattle.std.proofs.lemmas.Bool.{true≢false}

@@ -12,7 +12,7 @@ use Rattle.whole_run.specs.declared.recorded.Course.{Course}
 use Rattle.whole_run.specs.declared.recorded.Recorded.{Recorded}
 use Rattle.whole_run.specs.Seeded.{IsSeeded}
 
--- the report of a session behind these quanta and its end
+-- the report of a session after these quanta and its end
 abbrev pub report_of : Inputs → List Quantum → ℕ → List ℕ
 report_of i quanta skipped = report_text (parts_of i (closed i (work i quanta))) skipped
 

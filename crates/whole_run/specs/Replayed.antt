@@ -35,9 +35,10 @@ misfit_from i n s (q ∷ quanta) = elim (misfit_at i n s.kept q) [
   | None ↦ misfit_from i (n + 1) (tend i q.hart q.turns s) quanta
 ]
 
--- a hart could go on behind the quanta
+-- a hart could go on after the quanta
 abbrev pub goes_on : Inputs → List Quantum → Bool
-goes_on i quanta = nat_lt (length quanta) MAX_QUANTA && list_any (is_runnable (work i quanta).kept.machine.core) (range_with_len 0 i.settings.harts)
+goes_on i quanta =
+    nat_lt (length quanta) MAX_QUANTA && list_any (is_runnable (work i quanta).kept.machine.core) (range_with_len 0 i.settings.harts)
 
 -- Why the quanta are no whole run, if they aren't one: the first that isn't the run's, or that they end before the run does.
 unfoldable pub misfit_of : Inputs → List Quantum → Option Misfit
@@ -51,19 +52,19 @@ abbrev pub WholeFit : Type 0
 WholeFit = (i : Inputs) (quanta : List Quantum) → AllByRecursion (IsQuantum i.settings.harts) quanta → length quanta ≤ MAX_QUANTA →
     (misfit_of i quanta ≡ None → IsWhole i quanta) × (IsWhole i quanta → misfit_of i quanta ≡ None)
 
--- the number of the quantum is one of so many
+-- the number of the quantum is below a number
 abbrev pub IsWithin : ℕ → Misfit → Type 0
 IsWithin count (NotRunnable number hart) = number < count
 IsWithin count (OtherOwns number told owns) = number < count
 IsWithin count Unfinished = Unit {0}
 
--- they are none for this reason, where it isn't want of memory
+-- they are no whole run for this reason, if the reason isn't running out of memory
 abbrev pub IsMisfit : Inputs → List Quantum → ReplayFault → Type 0
 IsMisfit i quanta (fault.NotOpened NoMemory) = Unit {0}
 IsMisfit i quanta (fault.NotOpened (BadPick metric focus cause)) = ⊥
 IsMisfit i quanta (fault.Misfit misfit) = (misfit_of i quanta ≡ Some misfit) × IsWithin (length quanta) misfit
 
--- why there is no report, where it isn't for want of memory
+-- why there is no report, other than by running out of memory
 abbrev pub IsReplayFault : Inputs → List Quantum → ReplayFault → Type 0
 IsReplayFault i quanta (fault.NotOpened why) = IsStartFault i why
 IsReplayFault i quanta (fault.Misfit misfit) = (bad_pick i ≡ None) × (misfit_of i quanta ≡ Some misfit) × IsWithin (length quanta) misfit

@@ -10,13 +10,13 @@ use Rattle.session.specs.Sessions.{SessionData}
 use Rattle.whole_run.specs.Seeded.{AreInOrder}
 use Rattle.whole_run.specs.declared.order.Rounds.{Rounds}
 
--- the order behind these quanta
+-- the order after these quanta
 abbrev pub order_at : Order → List Quantum → Order
 order_at order [] = order
 order_at order (q ∷ quanta) = order_at (order_after order q.hart) quanta
 
--- The quanta of a session that isn't closed are in the seed's order, and the rounds have the order behind them and, while there may be
--- another quantum, the harts that can take it.
+-- The quanta of a session that isn't closed are in the seed's order, and the rounds have the order after them and, while there may
+-- be another quantum, the harts that can take it.
 pub record StandAt (r : Rounds) (s : SessionData) : Type 0 where
   pub going : s.closed ≡ false
   pub harts : r.harts ≡ s.inputs.settings.harts

@@ -1,4 +1,4 @@
--- The order in which harts take their quanta, where nothing but a seed tells it.
+-- The order in which harts take their quanta, where a seed alone decides it.
 use Rattle.std.specs.Prelude.{◌≡◌, ℕ, ◌≤◌, Some, List, [], ◌∷◌}
 use Rattle.pn_types.specs.declared.limits.TheConstants.{MAX_QUANTUM}
 use Rattle.turn_order.specs.declared.order.Order.{Order}
@@ -9,7 +9,7 @@ use Rattle.session_spec.specs.Inputs.{Inputs}
 use Rattle.session_spec.specs.States.{State}
 use Rattle.session_spec.specs.Work.{IsWhole, first_state, quantum_of, tend}
 
--- each is worker 0's, of so many turns, and of the hart that is next among those that are runnable when it comes
+-- each is worker 0's, of at most `turns` turns, and of the hart that is next among those that are runnable when it comes
 abbrev pub AreInOrder : Inputs → ℕ → Order → State → List Quantum → Type 0
 AreInOrder i turns order s [] = Unit {0}
 AreInOrder i turns order s (q ∷ quanta) =
@@ -23,7 +23,8 @@ pub record IsSeeded (i : Inputs) (seed turns : ℕ) (quanta : List Quantum) : Ty
 
 -- there is at most one
 abbrev pub OneSeeded : Type 0
-OneSeeded = (i : Inputs) (seed turns : ℕ) (quanta others : List Quantum) → IsSeeded i seed turns quanta → IsSeeded i seed turns others → quanta ≡ others
+OneSeeded = (i : Inputs) (seed turns : ℕ) (quanta others : List Quantum)
+    → IsSeeded i seed turns quanta → IsSeeded i seed turns others → quanta ≡ others
 
 -- there is one
 abbrev pub SomeSeeded : Type 0

@@ -1,12 +1,14 @@
+//! Why quanta that are told are no whole run, and why a replay has no report.
+
 use pn_types::NoMemory;
 use session::StartFault;
 
 /// Why quanta that are told are no whole run. Quanta are numbered from 0.
 #[derive(Clone, Copy, Debug, PartialEq, Eq, Drop)]
 pub enum Misfit {
-    /// At the quantum of this number this hart can't go on.
+    /// At the quantum of this number, this hart can't go on.
     NotRunnable(u64, u32),
-    /// The quantum of this number is told to have so many ticks, and has so many.
+    /// The quantum of this number is told to have the first number of ticks, and has the second.
     OtherOwns(u64, u32, u32),
     /// They end before the run does.
     Unfinished,
@@ -15,7 +17,7 @@ pub enum Misfit {
 /// Why a run along quanta that are told has no report.
 #[derive(Drop)]
 pub enum ReplayFault {
-    /// No session could be opened, or memory was wanting later.
+    /// No session could be opened, or memory ran out later.
     NotOpened(StartFault),
     /// The quanta are no whole run.
     Misfit(Misfit),

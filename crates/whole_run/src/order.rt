@@ -1,4 +1,4 @@
-//! Harts take quanta in the order of a seed.
+//! Lets harts take quanta in the order of a seed.
 
 ghost use Rattle.std.specs.Prelude.{◌≡◌, ◌<◌, ◌≤◌, ◌==◌, ◌||◌, ◌++◌, ◌∷◌, [], false, length, IfNone, IfOk, IfSome, OnOk};
 ghost use Rattle.machine.specs.Turns.{is_runnable};
@@ -13,16 +13,17 @@ use session::Session;
 use std::alloc::Global;
 use turn_order::{Order, Ready};
 
-/// The harts that can take a quantum, by number, where there are fewer quanta than there may be.
+/// Fills in the harts that can take a quantum, by number: none where there are as many quanta as there may be.
 ///
 /// # Errors
 ///
-/// `NoMemory` where memory is wanting.
+/// `NoMemory` where memory runs out.
 fn fill(session: &Session, harts: u32, ready: &mut Ready) -> Result<(), NoMemory>
     requires harts { harts ≡ session.now.inputs.settings.harts }
     requires few { harts ≤ MAX_HARTS }
     requires going { session.now.closed ≡ false }
-    ensures { length session.now.quanta < MAX_QUANTA → OnOk result (ready.new ≡ ready_of (is_runnable (work session.now.inputs session.now.quanta).kept.machine.core) harts) }
+    ensures { length session.now.quanta < MAX_QUANTA
+        → OnOk result (ready.new ≡ ready_of (is_runnable (work session.now.inputs session.now.quanta).kept.machine.core) harts) }
 {
     ready.clear();
     for number in 0..harts {
@@ -33,18 +34,20 @@ fn fill(session: &Session, harts: u32, ready: &mut Ready) -> Result<(), NoMemory
     Ok(())
 }
 
-/// The same behind a quantum of a hart, from the list before it: where no work was done, no other hart can have stopped.
+/// Does the same after a quantum of a hart, from the list before it: where no work was done, no other hart can have stopped.
 ///
 /// # Errors
 ///
-/// `NoMemory` where memory is wanting.
+/// `NoMemory` where memory runs out.
 fn refresh(session: &Session, harts: u32, hart: HartNo, ready: &mut Ready) -> Result<(), NoMemory>
     requires harts { harts ≡ session.now.inputs.settings.harts }
     requires few { harts ≤ MAX_HARTS }
     requires hart { hart < harts }
     requires going { session.now.closed ≡ false }
-    requires others { let kept = (work session.now.inputs session.now.quanta).kept in kept.worked ≡ false → ready.old ≡ ready_of (λ h. (h == hart) || is_runnable kept.machine.core h) harts }
-    ensures { length session.now.quanta < MAX_QUANTA → OnOk result (ready.new ≡ ready_of (is_runnable (work session.now.inputs session.now.quanta).kept.machine.core) harts) }
+    requires others { let kept = (work session.now.inputs session.now.quanta).kept in kept.worked ≡ false
+        → ready.old ≡ ready_of (λ h. (h == hart) || is_runnable kept.machine.core h) harts }
+    ensures { length session.now.quanta < MAX_QUANTA
+        → OnOk result (ready.new ≡ ready_of (is_runnable (work session.now.inputs session.now.quanta).kept.machine.core) harts) }
 {
     if session.worked() {
         return fill(session, harts, ready);
@@ -55,23 +58,23 @@ fn refresh(session: &Session, harts: u32, hart: HartNo, ready: &mut Ready) -> Re
     Ok(())
 }
 
-/// The harts of a session as they take quanta of at most so many turns, in the order of a seed.
+/// The harts of a session as they take quanta in the order of a seed, with a limit of the turns of each.
 #[derive(Drop)]
 pub struct Rounds {
     seed: u32,
     turns: u32,
     harts: u32,
     order: Order,
-    // Those that can take the next quantum.
+    // The harts that can take the next quantum.
     ready: Ready,
 }
 
 impl Rounds {
-    /// Those of a session that just began.
+    /// Makes the rounds of a session that just began.
     ///
     /// # Errors
     ///
-    /// `NoMemory` where memory is wanting.
+    /// `NoMemory` where memory runs out.
     pub fn begin(
         alloc: Global,
         session: &Session,
@@ -97,12 +100,12 @@ impl Rounds {
         })
     }
 
-    /// Lets the next hart take its quantum. It answers that, and none where none can follow: then the session's quanta are the whole
-    /// list of the seed.
+    /// Lets the next hart take its quantum. Returns it, or none where none can follow: then the session's quanta are the whole list
+    /// of the seed.
     ///
     /// # Errors
     ///
-    /// `NoMemory` where memory is wanting. Then no round may follow.
+    /// `NoMemory` where memory runs out. Then these rounds mustn't be used any more.
     pub fn next(&mut self, session: &mut Session) -> Result<Option<Quantum>, NoMemory>
         requires { StandAt self.old session.old }
         ensures at { OnOk result (StandAt self.new session.new) }
@@ -111,7 +114,8 @@ impl Rounds {
         ensures going { session.new.closed ≡ false }
         ensures taken { IfOk result (λ answer. IfSome answer (λ q. session.new.quanta ≡ session.old.quanta ++ q ∷ [])) }
         ensures none { IfOk result (λ answer. IfNone answer (session.new ≡ session.old)) }
-        ensures whole { IfOk result (λ answer. IfNone answer (IsSeeded session.new.inputs self.new.seed self.new.turns session.new.quanta)) }
+        ensures whole { IfOk result
+            (λ answer. IfNone answer (IsSeeded session.new.inputs self.new.seed self.new.turns session.new.quanta)) }
     {
         if session.quanta().len() >= MAX_QUANTA as usize {
             session.laws();
@@ -128,11 +132,11 @@ impl Rounds {
     }
 }
 
-/// Lets the harts of a session that just began take quanta of at most so many turns, in the order of a seed, until none can follow.
+/// Lets the harts of a session that just began take quanta of at most `turns` turns, in the order of a seed, until none can follow.
 ///
 /// # Errors
 ///
-/// `NoMemory` where memory is wanting.
+/// `NoMemory` where memory runs out.
 pub fn take_quanta(
     alloc: Global,
     session: &mut Session,

@@ -33,7 +33,7 @@ pub struct Course {
     pub skipped: u32,
 }
 
-/// The bytes of a session's log.
+/// Returns the bytes of a session's log.
 fn log_of(alloc: Global, settings: &Settings, session: &Session) -> Result<Vec<u8>, NoMemory>
     requires given { AreGiven session.now.inputs }
     requires settings { settings.now ≡ session.now.inputs.settings }
@@ -43,11 +43,11 @@ fn log_of(alloc: Global, settings: &Settings, session: &Session) -> Result<Vec<u
     write(alloc, settings, session.quanta())
 }
 
-/// Ends a session, and answers the report of its quanta, in which so many function symbols are no procedures, and its log.
+/// Ends a session, and returns the report of its quanta and its log. In the report `skipped` function symbols are no procedures.
 ///
 /// # Errors
 ///
-/// `NoMemory` where memory is wanting.
+/// `NoMemory` where memory runs out.
 pub fn record_end(
     alloc: Global,
     settings: &Settings,
@@ -83,12 +83,12 @@ fn run_on(
     record_end(alloc, settings, session, course.skipped)
 }
 
-/// Runs a program with its instruments: its harts take quanta in the order of a seed until none can follow. It answers the report
-/// and the log.
+/// Runs a program with its instruments: its harts take quanta in the order of a seed until none can follow. Returns the report and
+/// the log.
 ///
 /// # Errors
 ///
-/// `NoMemory` where memory is wanting; `BadPick` with the first wish at tick 0 that is refused, if one is.
+/// `NoMemory` where memory runs out; `BadPick` with the first wish at tick 0 that is refused, if one is.
 pub fn record_run(alloc: Global, inputs: Inputs, course: &Course) -> Result<Recorded, StartFault>
     requires given { AreGiven inputs }
     requires turns { (1 ≤ course.now.turns) × (course.now.turns ≤ MAX_QUANTUM) }

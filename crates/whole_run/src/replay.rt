@@ -1,4 +1,4 @@
-//! A run along quanta that are told.
+//! Runs along quanta that are told.
 
 ghost use Rattle.std.specs.Prelude.{◌≡◌, ◌≤◌, ◌<◌, false, IfErr, IfOk, None, Some, length};
 ghost use Rattle.std.specs.List.{AllByRecursion};
@@ -48,7 +48,7 @@ fn follow(session: &mut Session, quanta: &[Quantum]) -> Result<(), ReplayFault>
     Ok(())
 }
 
-/// Runs a session that just began along the quanta, to its end. It answers the text of its report.
+/// Runs a session that just began along the quanta, to its end. Returns the text of its report.
 fn run_along(
     alloc: Global,
     session: &mut Session,
@@ -69,12 +69,12 @@ fn run_along(
     Ok(report(alloc, &parts, skipped)?)
 }
 
-/// Runs a program with its instruments along quanta that are told, as those that were read from a log with these settings. It
-/// answers the text of the report, in which so many function symbols are no procedures.
+/// Runs a program with its instruments along quanta that are told, such as those that were read from a log with these settings.
+/// Returns the text of the report, in which `skipped` function symbols are no procedures.
 ///
 /// # Errors
 ///
-/// `NotOpened` with `NoMemory` where memory is wanting, and with `BadPick` and the first wish at tick 0 that is refused, if one is;
+/// `NotOpened` with `NoMemory` where memory runs out, and with `BadPick` and the first wish at tick 0 that is refused, if one is;
 /// `Misfit` with the first quantum that isn't the run's, or where the quanta end before the run does.
 pub fn replay_run(
     alloc: Global,

@@ -34,11 +34,11 @@ fn parts_on(
     session.parts()
 }
 
-/// Runs a program with its instruments, as [`record_run`](crate::record_run) does, and answers the parts of its report.
+/// Runs a program with its instruments, as [`record_run`](crate::record_run) does, and returns the parts of its report.
 ///
 /// # Errors
 ///
-/// `NoMemory` where memory is wanting; `BadPick` with the first wish at tick 0 that is refused, if one is.
+/// `NoMemory` where memory runs out; `BadPick` with the first wish at tick 0 that is refused, if one is.
 pub fn run_parts(
     alloc: Global,
     inputs: Inputs,

@@ -5,6 +5,6 @@ use Rattle.command_words.specs.Walks.{finished, walked, values_of}
 use Rattle.command_words.specs.Walked.{form_seen, walk_seen}
 use Rattle.command_words.proofs.walking.values_of.Given as goal
 
--- the words behind the place lead on from the walk
+-- the words after the place lead on from the walk
 abbrev pub invariant-loop-word : goal.invariant-loop-word
 invariant-loop-word l = option_and_then (finished (form_seen l.form)) (walked (form_seen l.form) (walk_seen l.walk) (map string_bytes (drop l.word-index l.words))) ≡ values_of (form_seen l.form) (map string_bytes l.words)

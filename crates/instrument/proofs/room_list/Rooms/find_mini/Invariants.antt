@@ -7,7 +7,7 @@ use Rattle.instrument.specs.Books.{is_mini_of}
 use Rattle.instrument.specs.RoomPlaces.{point_key}
 use Rattle.instrument.proofs.room_list.Rooms.find_mini.Given as goal
 
--- the room is at the next place or behind it, if it is there
+-- the room is at the next place or after it, if it is there
 abbrev pub invariant-loop-next : goal.invariant-loop-next
 invariant-loop-next l = Seeks point_key (bucket_of l.point) (find (is_mini_of l.point)) l.self-inside.places.items l.next (find (is_mini_of l.point) (left l.self-inside.places.items))
 

@@ -8,7 +8,7 @@ use Rattle.instrument.specs.Placements.{is_mini_room_of}
 use Rattle.instrument.specs.RoomPlaces.{owner_key}
 use Rattle.instrument.proofs.room_list.Rooms.has_mini_of.Given as goal
 
--- the room is at the next place or behind it, if it is there
+-- the room is at the next place or after it, if it is there
 abbrev pub invariant-loop-next : goal.invariant-loop-next
 invariant-loop-next l = Seeks owner_key (bucket_of l.owner) (list_any (is_mini_room_of l.owner)) l.self-inside.places.items l.next (list_any (is_mini_room_of l.owner) (left l.self-inside.places.items))
 

@@ -7,7 +7,7 @@ use Rattle.instrument.specs.RoomPlaces.{point_key}
 use Rattle.instrument.proofs.RoomSeeks.{goes}
 use Rattle.instrument.proofs.room_list.Rooms.unlinked_at.Given as goal
 
--- the room is at the next place or behind it, if it is there
+-- the room is at the next place or after it, if it is there
 abbrev pub invariant-loop-next : goal.invariant-loop-next
 invariant-loop-next l = Seeks point_key (bucket_of l.point) (filter (goes l.point)) l.self-inside.places.items l.next (filter (goes l.point) (left l.self-inside.places.items))
 

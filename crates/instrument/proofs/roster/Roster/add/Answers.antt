@@ -26,8 +26,8 @@ invariant_of-self c =
             let is = c.self.inside.instruments.items in
             subst (λ (xs : List Instrument). AreSlotsOf c.if-count-gt0.self-inside.slots xs) (sym (c.push_reserved.ensures.items ∙ ap (λ (r : Inside). r.instruments.items ++ c.args.instrument ∷ []) w.self-inside-is))
             (subst (λ (r : Inside). AreSlotsOf r.slots (is ++ c.args.instrument ∷ [])) (sym w.self-inside-is)
-            (slots_added c.self.inside.slots w.take-slot.new.self is c.args.instrument w.take-slot.result c.slot_count-count.result c.self.invariant.slots c.requires.row count w.if-count-gt0.true free
-            w.take-slot.ensures.no_room w.take-slot.ensures.lowest w.take-slot.ensures.inside w.take-slot.ensures.taken))
+            (slots_added c.self.inside.slots w.take.new.self is c.args.instrument w.take.result c.slot_count-count.result c.self.invariant.slots c.requires.row count w.if-count-gt0.true free
+            w.take.ensures.no_room w.take.ensures.lowest w.take.ensures.inside w.take.ensures.taken))
         | else-count-gt0 w ↦
             let none : slot_count c.args.instrument.placed.vars ≡ 0 = omega (arith, count, w.if-count-gt0.false) in
             subst (λ (xs : List Instrument). AreSlotsOf c.if-count-gt0.self-inside.slots xs) (sym (c.push_reserved.ensures.items ∙ ap (λ (r : Inside). r.instruments.items ++ c.args.instrument ∷ []) w.self-inside-is))

@@ -10,17 +10,17 @@ invariant_of-self-2 c =
     let s = c.self.inside in
     let quiet : IsQuiet (s.machine).core = subst (λ (d : InstrumentedData). IsQuiet d.state.core) (sym c.self.view_is) c.requires in
     let point = c.in-Some.point in
-    (swept_kept s.machine c.free-freed.new.self s.placer c.next_free.new.self c.freed.new.self point c.self.invariant quiet (sym c.in-Some.is ∙ c.next_free.ensures.point) c.next_free.ensures.placements c.next_free.ensures.ready c.freed.ensures.placements c.freed.ensures.ready
-    (freed_by s.machine c.free-freed.new.self point c.free-freed.result quiet c.free-freed.ensures.may c.free-freed.ensures.state)).sound
+    (swept_kept s.machine c.free.new.self s.placer c.next_free.new.self c.freed.new.self point c.self.invariant quiet (sym c.in-Some.is ∙ c.next_free.ensures.point) c.next_free.ensures.placements c.next_free.ensures.ready c.freed.ensures.placements c.freed.ensures.ready
+    (freed_by s.machine c.free.new.self point c.free.result quiet c.free.ensures.may c.free.ensures.state)).sound
 
 pub returns-clause-state : goal.returns-clause-state
 returns-clause-state c =
     let s = c.self.inside in
     let quiet : IsQuiet (s.machine).core = subst (λ (d : InstrumentedData). IsQuiet d.state.core) (sym c.self.view_is) c.requires in
     let point = c.in-Some.point in
-    let kept = swept_kept s.machine c.free-freed.new.self s.placer c.next_free.new.self c.freed.new.self point c.self.invariant quiet (sym c.in-Some.is ∙ c.next_free.ensures.point) c.next_free.ensures.placements c.next_free.ensures.ready c.freed.ensures.placements c.freed.ensures.ready
-    (freed_by s.machine c.free-freed.new.self point c.free-freed.result quiet c.free-freed.ensures.may c.free-freed.ensures.state) in
-    returned Sweeps s.machine c.free-freed.new.self s.placer c.freed.new.self c.args.self.now c.self.view_is kept (c.freed.ensures.ready ∙ c.next_free.ensures.ready)
+    let kept = swept_kept s.machine c.free.new.self s.placer c.next_free.new.self c.freed.new.self point c.self.invariant quiet (sym c.in-Some.is ∙ c.next_free.ensures.point) c.next_free.ensures.placements c.next_free.ensures.ready c.freed.ensures.placements c.freed.ensures.ready
+    (freed_by s.machine c.free.new.self point c.free.result quiet c.free.ensures.may c.free.ensures.state) in
+    returned Sweeps s.machine c.free.new.self s.placer c.freed.new.self c.args.self.now c.self.view_is kept (c.freed.ensures.ready ∙ c.next_free.ensures.ready)
 
 pub returns-in_default-clause-state : goal.returns-in_default-clause-state
 returns-in_default-clause-state c =

@@ -76,7 +76,7 @@ tend-owns-requires-clause-sampled c =
     can_sample_now s.inputs s.quanta.items s.closed (drop s.looked s.wishes.items) s.desk c.admit_from.new.desk c.in_ok-looked.looked c.self.invariant.0 few
     (subst (λ (l : List CheckedWish). IsAdmission s.inputs (drop s.looked l) s.desk c.admit_from.new.desk c.in_ok-looked.looked) c.deref.ensures.value c.in_ok-looked.ensures.ok) going
 
--- what is kept behind it
+-- what is kept after it
 kept_now : (c : goal.After-put_quantum) → IsKept c.self.inside.inputs (c.put_quantum.new.list.items) false (drop (c.self.inside.looked + c.in_ok-looked.looked) c.self.inside.wishes.items) c.tend-owns.new.self
 kept_now c =
     let s = c.self.inside in
